@@ -1,0 +1,8 @@
+-- The laws of the definitions that readers and writers cite.
+-- Tests, pieces of texts, numbers and their spelling
+pub mod Truth
+pub mod Pieces
+pub mod Numbers
+-- The tokens of constraints.json, and the table of kinds
+pub mod TokenLaws
+pub mod KindRule

@@ -1,0 +1,23 @@
+-- Display (document 01): the row at a refusal's file and place, as a part of whichever text holds it, without its LF.
+use Prim.Native.Nat.{ℕ, _-_}
+use mathlib.Core.Bool.{Bool, not, cond, _&&_}
+use mathlib.Core.List.{List, []}
+use lib.Dec.{ltb, eqb}
+use lib.ListN.{length, drop, getD}
+use Rattle.rules.specs.Lists.{lead}
+use Rattle.rules.specs.Answers.{timetableFile, solutionFile}
+use Rattle.rules.specs.Bytes.{lineFeed}
+
+-- a row below the header starts just after an LF that is not the text's last byte
+abbrev pub startsRow : List ℕ → ℕ → Bool
+startsRow s place = ltb 0 place && (ltb place (length s) && eqb (getD s (place - 1) 0) lineFeed)
+
+-- up to its LF, or to the text's end
+abbrev pub lineOf : List ℕ → List ℕ
+lineOf s = lead (λ b. not (eqb b lineFeed)) s
+
+unfoldable pub rowIn : List ℕ → (place : ℕ) → List ℕ
+rowIn s place = cond (startsRow s place) (lineOf (drop place s)) []
+
+unfoldable pub rowAt : (draft solution : List ℕ) → (file place : ℕ) → List ℕ
+rowAt draft solution file place = cond (eqb file timetableFile) (rowIn draft place) (cond (eqb file solutionFile) (rowIn solution place) [])

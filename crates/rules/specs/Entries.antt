@@ -1,0 +1,249 @@
+-- What each public entry answers, and what it leaves in every lent table and text: for every input, by these definitions.
+use Prim.Native.Nat.{ℕ, _*_}
+use mathlib.Core.Bool.{Bool, true, false, _&&_}
+use mathlib.Core.List.{List}
+use mathlib.Core.Option.{Option, none, some}
+use lib.Dec.{leb}
+use lib.ListN.{length, replicate}
+use lib.IntN.{ℤ, pos}
+use Rattle.rules.specs.Limits.{mostText, unsignedFill, signedFill, byteFill}
+use Rattle.rules.specs.Lists.{flat, over}
+use Rattle.rules.specs.Answers.{refusal, unequalTravel, noRoom, noFile, solutionFile, secondFile, Reading, refused, good, _>>=_}
+use Rattle.rules.specs.Rows.{placeOfRow}
+use Rattle.rules.specs.Timetable.{legsOf, configurationsOf, legNumbers, configurationNumbers}
+use Rattle.rules.specs.Profiles.{profilesFrom, sampleTable, profileNumbers}
+use Rattle.rules.specs.Constraints.{ordered, constraintNumbers, trackNumbers}
+use Rattle.rules.specs.Reading.{Rooms, Texts, Files, filesOf, choicesRead}
+use Rattle.rules.specs.Verdict.{offered, Verdict, accepted, violated, verdict, answerOf}
+use Rattle.rules.specs.Energy.{figuresOf, curvesOf, deskOf}
+use Rattle.rules.specs.Merge.{unequalFrom, chosen, textOf}
+use Rattle.rules.specs.declared.sizes.Configuration.{Configuration}
+use Rattle.rules.specs.declared.answers.Refusal.{Refusal}
+use Rattle.rules.specs.declared.answers.Answer.{Answer}
+use Rattle.rules.specs.declared.answers.Answer.the-variants.{Accepted, Refused}
+use Rattle.rules.specs.declared.figures.Figures.{Figures}
+use Rattle.rules.specs.declared.figures.Desk.{Desk}
+
+-- ---- the lent tables
+
+pub record Tables : Type 0 where
+  pub legs : List ℕ
+  pub configurations : List ℕ
+  pub profiles : List ℕ
+  pub samples : List ℤ
+  pub constraints : List ℕ
+  pub tracks : List ℕ
+
+abbrev pub roomsOf : Tables → Rooms
+roomsOf t =
+    record {
+      legs = length (t .legs);
+      configurations = length (t .configurations);
+      profiles = length (t .profiles);
+      samples = length (t .samples);
+      constraints = length (t .constraints);
+      tracks = length (t .tracks);
+    }
+
+-- after a refusal a table holds only a number that no field can have
+abbrev pub filled : {A : Type 0} → A → List A → List A
+filled fill t = replicate (length t) fill
+
+abbrev pub filledTables : Tables → Tables
+filledTables t =
+    record {
+      legs = filled unsignedFill (t .legs);
+      configurations = filled unsignedFill (t .configurations);
+      profiles = filled unsignedFill (t .profiles);
+      samples = filled signedFill (t .samples);
+      constraints = filled unsignedFill (t .constraints);
+      tracks = filled unsignedFill (t .tracks);
+    }
+
+-- what was read stands at the front of each table
+abbrev pub writtenTables : Files → Tables → Tables
+writtenTables f t =
+    record {
+      legs = over (flat legNumbers (legsOf (f .rows))) (t .legs);
+      configurations = over (flat configurationNumbers (configurationsOf (f .rows))) (t .configurations);
+      profiles = over (flat profileNumbers (profilesFrom 0 (f .curves))) (t .profiles);
+      samples = over (sampleTable (f .curves)) (t .samples);
+      constraints = over (flat constraintNumbers (ordered (f .document .constraints))) (t .constraints);
+      tracks = over (flat trackNumbers (f .document .tracks)) (t .tracks);
+    }
+
+abbrev pub writtenChoices : List Configuration → List ℕ → List ℕ
+writtenChoices cs t = over (flat configurationNumbers cs) t
+
+-- the verdict over the files
+abbrev pub verdictOf : Files → List Configuration → Verdict
+verdictOf f cs = verdict (offered (f .rows)) (ordered (f .document .constraints)) cs
+
+-- ---- check
+
+-- all four files, read whole
+pub record Whole : Type 0 where
+  pub files : Files
+  pub choices : List Configuration
+
+unfoldable pub allRead : (H : ℕ) → Texts → (solution : List ℕ) → Rooms → (choices : ℕ) → Reading Whole
+allRead H x solution room choices = do
+  files ← filesOf H x room
+  cs ← choicesRead H files solutionFile choices solution
+  good (record { files = files; choices = cs })
+
+pub record Checked : Type 0 where
+  pub answer : Answer
+  pub tables : Tables
+  pub choices : List ℕ
+
+abbrev pub checkedFrom : Reading Whole → Tables → List ℕ → Checked
+checkedFrom (refused r) t c = record { answer = Refused r; tables = filledTables t; choices = filled unsignedFill c }
+checkedFrom (good w) t c =
+    record {
+      answer = answerOf solutionFile (verdictOf (w .files) (w .choices));
+      tables = writtenTables (w .files) t;
+      choices = writtenChoices (w .choices) c;
+    }
+
+unfoldable pub checked : (H : ℕ) → Texts → (solution : List ℕ) → Tables → (choices : List ℕ) → Checked
+checked H x solution t c = checkedFrom (allRead H x solution (roomsOf t) (length c)) t c
+
+-- ---- energy: figures for accepted solutions only
+
+abbrev pub noFigures : Figures
+noFigures = record { before = 0; drawn = 0; lost = 0; fluctuation = pos 0; peaks = record { before = 0; drawn = 0 } }
+
+pub record Reported : Type 0 where
+  pub answer : Answer
+  pub figures : Figures
+  pub desk : Desk
+  pub tables : Tables
+  pub choices : List ℕ
+  pub curves : List ℤ
+
+abbrev pub reportRefused : Refusal → Tables → List ℕ → List ℤ → Reported
+reportRefused r t c p =
+    record {
+      answer = Refused r;
+      figures = noFigures;
+      desk = deskOf noFigures;
+      tables = filledTables t;
+      choices = filled unsignedFill c;
+      curves = filled signedFill p;
+    }
+
+-- the curves need a place for each second of each subnet; that is tested after acceptance
+abbrev pub reportAccepted : (fits : Bool) → (H : ℕ) → Whole → Tables → List ℕ → List ℤ → Reported
+reportAccepted false H w t c p = reportRefused (refusal noRoom noFile 0) t c p
+reportAccepted true H w t c p =
+    record {
+      answer = Accepted;
+      figures = figuresOf H (w .files) (w .choices);
+      desk = deskOf (figuresOf H (w .files) (w .choices));
+      tables = writtenTables (w .files) t;
+      choices = writtenChoices (w .choices) c;
+      curves = over (curvesOf H (w .files) (w .choices)) p;
+    }
+
+abbrev pub reportJudged : Verdict → (H : ℕ) → Whole → Tables → List ℕ → List ℤ → Reported
+reportJudged accepted H w t c p = reportAccepted (leb (w .files .document .opened * H) (length p)) H w t c p
+reportJudged (violated k n i m) H w t c p =
+    record {
+      answer = answerOf solutionFile (violated k n i m);
+      figures = noFigures;
+      desk = deskOf noFigures;
+      tables = writtenTables (w .files) t;
+      choices = writtenChoices (w .choices) c;
+      curves = filled signedFill p;
+    }
+
+abbrev pub reportFrom : Reading Whole → (H : ℕ) → Tables → List ℕ → List ℤ → Reported
+reportFrom (refused r) H t c p = reportRefused r t c p
+reportFrom (good w) H t c p = reportJudged (verdictOf (w .files) (w .choices)) H w t c p
+
+unfoldable pub reported : (H : ℕ) → Texts → (solution : List ℕ) → Tables → (choices : List ℕ) → (curves : List ℤ) → Reported
+reported H x solution t c p = reportFrom (allRead H x solution (roomsOf t) (length c)) H t c p
+
+-- ---- merges: merge is `earlier` or `later`
+
+pub record Both : Type 0 where
+  pub files : Files
+  pub first : List Configuration
+  pub second : List Configuration
+
+unfoldable pub bothRead : (H : ℕ) → Texts → (first second : List ℕ) → Rooms → (choices secondChoices : ℕ) → Reading Both
+bothRead H x first second room choices secondChoices = do
+  files ← filesOf H x room
+  a ← choicesRead H files solutionFile choices first
+  b ← choicesRead H files secondFile secondChoices second
+  good (record { files = files; first = a; second = b })
+
+pub record Merged : Type 0 where
+  pub answer : Answer
+  pub size : ℕ
+  pub tables : Tables
+  pub choices : List ℕ
+  pub second : List ℕ
+  pub text : List ℕ
+
+module _ (t : Tables) (c d text : List ℕ) where
+  abbrev pub mergeRefused : Refusal → Merged
+  mergeRefused r =
+      record {
+        answer = Refused r;
+        size = 0;
+        tables = filledTables t;
+        choices = filled unsignedFill c;
+        second = filled unsignedFill d;
+        text = filled byteFill text;
+      }
+
+  -- a violation leaves the tables as read, and zeroes the text
+  abbrev pub mergeViolated : Answer → Both → Merged
+  mergeViolated a b =
+      record {
+        answer = a;
+        size = 0;
+        tables = writtenTables (b .files) t;
+        choices = writtenChoices (b .first) c;
+        second = writtenChoices (b .second) d;
+        text = filled byteFill text;
+      }
+
+  abbrev pub mergeFitted : (fits : Bool) → (written : List ℕ) → Both → Merged
+  mergeFitted false written b = mergeRefused (refusal noRoom noFile 0)
+  mergeFitted true written b =
+      record {
+        answer = Accepted;
+        size = length written;
+        tables = writtenTables (b .files) t;
+        choices = writtenChoices (b .first) c;
+        second = writtenChoices (b .second) d;
+        text = over written text;
+      }
+
+  abbrev pub mergeWritten : (written : List ℕ) → Both → Merged
+  mergeWritten written b = mergeFitted (leb (length written) (length text) && leb (length written) mostText) written b
+
+  -- 17 lies in the second solution, at the row
+  abbrev pub mergeTravel : (secondText : List ℕ) → (merge : List Configuration → List Configuration → List Configuration) → Option ℕ → Both → Merged
+  mergeTravel secondText merge (some row) b = mergeRefused (refusal unequalTravel secondFile (placeOfRow secondText row))
+  mergeTravel secondText merge none b = mergeWritten (textOf (chosen (b .files .rows) (merge (b .first) (b .second)))) b
+
+  -- the verdict of the first, of the second, 17, 16
+  abbrev pub mergeSecond : (secondText : List ℕ) → (merge : List Configuration → List Configuration → List Configuration) → Verdict → Both → Merged
+  mergeSecond secondText merge accepted b = mergeTravel secondText merge (unequalFrom 0 (b .first) (b .second)) b
+  mergeSecond secondText merge (violated k n i m) b = mergeViolated (answerOf secondFile (violated k n i m)) b
+
+  abbrev pub mergeFirst : (secondText : List ℕ) → (merge : List Configuration → List Configuration → List Configuration) → Verdict → Both → Merged
+  mergeFirst secondText merge accepted b = mergeSecond secondText merge (verdictOf (b .files) (b .second)) b
+  mergeFirst secondText merge (violated k n i m) b = mergeViolated (answerOf solutionFile (violated k n i m)) b
+
+  abbrev pub mergeFrom : (secondText : List ℕ) → (merge : List Configuration → List Configuration → List Configuration) → Reading Both → Merged
+  mergeFrom secondText merge (refused r) = mergeRefused r
+  mergeFrom secondText merge (good b) = mergeFirst secondText merge (verdictOf (b .files) (b .first)) b
+
+unfoldable pub merged :
+    (merge : List Configuration → List Configuration → List Configuration) → (H : ℕ) → Texts → (first second : List ℕ) → Tables → (choices secondChoices text : List ℕ) → Merged
+merged merge H x first second t c d text = mergeFrom t c d text second merge (bothRead H x first second (roomsOf t) (length c) (length d))

@@ -1,0 +1,232 @@
+-- "Examples to hold the definitions to": the marked examples of document 01 as one table with one statement, from texts to answers,
+-- computed by the checker; then the unmarked ones, and one for each error that document 01 says tempts.
+use Prim.Native.Nat.{ℕ}
+use Prim.Native.String.{String}
+use mathlib.Core.Path.{_≡_, refl}
+use mathlib.Core.Bool.{Bool, true, false}
+use mathlib.Core.List.{List, [], _∷_, _++_}
+use lib.ListN.{replicate, length}
+use lib.IntN.{ℤ, pos}
+use Rattle.rules.specs.Answers.{refusal, violation, badHeader, outOfRange, unknownName, noSubnet, timetableFile, profilesFile, constraintsFile, solutionFile}
+use Rattle.rules.specs.Bytes.{bytes, joined, comma}
+use Rattle.rules.specs.Timetable.{timetableHeader, configuration, inRange}
+use Rattle.rules.specs.Profiles.{profilesHeader}
+use Rattle.rules.specs.Kinds.{notOffered, headway, dwell, connection}
+use Rattle.rules.specs.Reading.{Texts}
+use Rattle.rules.specs.Verdict.{All}
+use Rattle.rules.specs.Merge.{earlier, later}
+use Rattle.rules.specs.Entries.{Tables, checked, reported, merged}
+use Rattle.rules.specs.Computed.{computed}
+use Rattle.rules.specs.declared.sizes.Configuration.{Configuration}
+use Rattle.rules.specs.declared.figures.Figures.{Figures}
+use Rattle.rules.specs.declared.answers.Answer.{Answer}
+use Rattle.rules.specs.declared.answers.Answer.the-variants.{Accepted, Violated, Refused}
+
+-- ---- the texts of document 01's example
+
+abbrev pub H : ℕ
+H = 100
+
+abbrev pub rows : String → List ℕ
+rows s = timetableHeader ++ bytes s
+
+abbrev pub draft : List ℕ
+draft = rows "1,1,1,1,2,10_4_7,10_4_7 15_4_7\n2,1,2,2,3,40_3_8,40_3_8 45_3_8\n"
+
+abbrev pub curves : String → List ℕ
+curves s = profilesHeader ++ bytes s
+
+abbrev pub profiles : List ℕ
+profiles = curves "7,0.5 1.0 0.25 -0.4\n8,0.3 0.0 -0.2\n"
+
+-- a list by its name, and a document of lists
+abbrev pub list : (name records : String) → List ℕ
+list name records = bytes "\"" ++ bytes name ++ bytes "\": [" ++ bytes records ++ bytes "]"
+
+abbrev pub object : List (List ℕ) → List ℕ
+object lists = bytes "{" ++ joined comma lists ++ bytes "}\n"
+
+-- headways, dwells, connections and subnets are given; the other lists are empty
+abbrev pub listed : (headways dwells connections subnets : String) → List ℕ
+listed headways dwells connections subnets =
+    object
+    (list "headway_time_constraints" headways
+    ∷ list "single_track_headway_constraints" ""
+    ∷ list "dwell_time_constraints" dwells
+    ∷ list "terminal_turnaround_constraints" ""
+    ∷ list "connection_constraints" connections
+    ∷ list "recuperation_subnets" subnets
+    ∷ [])
+
+abbrev pub document : (dwells subnets : String) → List ℕ
+document dwells subnets = listed "" dwells "" subnets
+
+abbrev pub oneSubnet : String
+oneSubnet = "{\"subnet_id\": 1, \"track_ids\": [1, 2]}"
+
+abbrev pub twoSubnets : String
+twoSubnets = "{\"subnet_id\": 1, \"track_ids\": [1]}, {\"subnet_id\": 2, \"track_ids\": [2]}"
+
+abbrev pub dwell20 : List ℕ
+dwell20 = document "{\"first_leg_id\": 1, \"second_leg_id\": 2, \"min_dwell_time\": 20}" oneSubnet
+
+abbrev pub dwell21 : List ℕ
+dwell21 = document "{\"first_leg_id\": 1, \"second_leg_id\": 2, \"min_dwell_time\": 21}" oneSubnet
+
+abbrev pub dwell22 : List ℕ
+dwell22 = document "{\"first_leg_id\": 1, \"second_leg_id\": 2, \"min_dwell_time\": 22}" oneSubnet
+
+-- leg 2 offered at 13 too, and chosen there
+abbrev pub draft13 : List ℕ
+draft13 = rows "1,1,1,1,2,10_4_7,10_4_7 15_4_7\n2,1,2,2,3,13_3_8,40_3_8 13_3_8\n"
+
+abbrev pub solution15 : List ℕ
+solution15 = rows "1,1,1,1,2,15_4_7,10_4_7 15_4_7\n2,1,2,2,3,40_3_8,40_3_8 45_3_8\n"
+
+abbrev pub solution45 : List ℕ
+solution45 = rows "1,1,1,1,2,10_4_7,10_4_7 15_4_7\n2,1,2,2,3,45_3_8,40_3_8 45_3_8\n"
+
+abbrev pub bothLater : List ℕ
+bothLater = rows "1,1,1,1,2,15_4_7,10_4_7 15_4_7\n2,1,2,2,3,45_3_8,40_3_8 45_3_8\n"
+
+-- 12 for leg 2, listed in the solution alone
+abbrev pub solution12 : List ℕ
+solution12 = rows "1,1,1,1,2,10_4_7,10_4_7 15_4_7\n2,1,2,2,3,12_3_8,40_3_8 12_3_8\n"
+
+-- ---- lent tables, with room to spare, that hold nines
+
+abbrev pub lent : Tables
+lent =
+    record {
+      legs = replicate 24 9;
+      configurations = replicate 18 9;
+      profiles = replicate 9 9;
+      samples = replicate 9 (pos 9);
+      constraints = replicate 18 9;
+      tracks = replicate 6 9;
+    }
+
+abbrev pub lentChoices : List ℕ
+lentChoices = replicate 9 9
+
+abbrev pub texts : (timetable profiles constraints : List ℕ) → Texts
+texts t p c = record { timetable = t; profiles = p; constraints = c }
+
+abbrev pub answer : (timetable profiles constraints solution : List ℕ) → Answer
+answer t p c s = checked H (texts t p c) s lent lentChoices .answer
+
+abbrev pub figures : (timetable constraints solution : List ℕ) → Figures
+figures t c s = reported H (texts t profiles c) s lent lentChoices (replicate 200 (pos 9)) .figures
+
+-- a merged text in a buffer that is just as long
+abbrev pub mergedText : (merge : List Configuration → List Configuration → List Configuration) → List ℕ
+mergedText merge = merged merge H (texts draft profiles dwell20) solution15 solution45 lent lentChoices lentChoices (replicate (length draft) 0) .text
+
+-- ---- THE TABLE
+
+pub data Example : Type 0 where
+  answers : (timetable profiles constraints solution : List ℕ) → Answer → Example
+  draws : (timetable constraints solution : List ℕ) → (before drawn lost : ℕ) (fluctuation : ℤ) (peakBefore peakDrawn : ℕ) → Example
+  merges : (merge : List Configuration → List Configuration → List Configuration) → (departures : List Configuration) (text : List ℕ) → Example
+  ranges : Configuration → Bool → Example
+
+-- the choices of document 01's A and B
+abbrev pub A : List Configuration
+A = configuration 15 4 7 ∷ configuration 40 3 8 ∷ []
+
+abbrev pub B : List Configuration
+B = configuration 10 4 7 ∷ configuration 45 3 8 ∷ []
+
+abbrev pub Right : Example → Type 0
+Right (answers t p c s a) = answer t p c s ≡ a
+Right (draws t c s before drawn lost fluctuation peakBefore peakDrawn) =
+    figures t c s ≡ record { before = before; drawn = drawn; lost = lost; fluctuation = fluctuation; peaks = record { before = peakBefore; drawn = peakDrawn } }
+Right (merges merge departures text) = (merge A B ≡ departures) × (mergedText merge ≡ text)
+Right (ranges c b) = inRange 4_000 c ≡ b
+
+abbrev pub marked : List Example
+marked =
+    -- Nominal: accepted; before 2,050, drawn 2,050, lost 600, fluctuation 1,400, peaks 0
+    answers draft profiles dwell20 draft Accepted
+    ∷ draws draft dwell20 draft 2_050 2_050 600 (pos 1_400) 0 0
+    -- Departures 15, 40: accepted; the same with dwell 21; with dwell 22: kind 3, position 0, inequality 1, shortfall 1
+    ∷ answers draft profiles dwell20 solution15 Accepted
+    ∷ answers draft profiles dwell21 solution15 Accepted
+    ∷ answers draft profiles dwell22 solution15 (Violated (violation dwell 0 1 1 solutionFile))
+    -- 12 for leg 2, listed in the solution alone: kind 0, position 1
+    ∷ answers draft profiles dwell20 solution12 (Violated (violation notOffered 1 0 0 solutionFile))
+    -- A 15, 40 and B 10, 45: earlier 10, 40; later 15, 45. Earlier, whole: the header line and the two draft rows, each with LF
+    ∷ merges earlier (configuration 10 4 7 ∷ configuration 40 3 8 ∷ []) draft
+    ∷ merges later (configuration 15 4 7 ∷ configuration 45 3 8 ∷ []) bothLater
+    -- No dwell, leg 2 offered at 13: drawn 1,750, lost 300. Tracks in two subnets: 2,050 and 600
+    ∷ draws draft13 (document "" oneSubnet) draft13 2_050 1_750 300 (pos 1_200) 0 0
+    ∷ draws draft13 (document "" twoSubnets) draft13 2_050 2_050 600 (pos 1_200) 0 0
+    -- `20.000` read, `20.001` refused 5
+    ∷ answers draft (curves "7,0.5 1.0 0.25 20.000\n8,0.3 0.0 -0.2\n") dwell20 draft Accepted
+    ∷ answers draft (curves "7,0.5 1.0 0.25 20.001\n8,0.3 0.0 -0.2\n") dwell20 draft (Refused (refusal outOfRange profilesFile 30))
+    -- Travel 3,600 in range, 3,601 not
+    ∷ ranges (configuration 0 3_600 7) true
+    ∷ ranges (configuration 0 3_601 7) false
+    ∷ []
+
+-- THE STATEMENT: every marked example holds
+marked-hold : All Right marked
+unfolding computed
+marked-hold = (refl, (refl, (refl, (refl, (refl, (refl, ((refl, refl), ((refl, refl), (refl, (refl, (refl, (refl, (refl, (refl, tt))))))))))))))
+
+-- ---- the unmarked ones, and what tempts
+
+abbrev pub dwellTwice : String
+dwellTwice = "{\"first_leg_id\": 1, \"second_leg_id\": 2, \"min_dwell_time\": 20}, {\"second_leg_id\": 2, \"min_dwell_time\": 27, \"first_leg_id\": 1}"
+
+abbrev pub headway3 : String
+headway3 = "{\"first_leg_id\": 1, \"second_leg_id\": 2, \"min_headway_time\": 3}"
+
+abbrev pub headway31 : String
+headway31 = "{\"first_leg_id\": 1, \"second_leg_id\": 2, \"min_headway_time\": 31}"
+
+-- the dwells first in the file, then the headways, with the subnets between
+abbrev pub otherOrder : List ℕ
+otherOrder =
+    object
+    (list "dwell_time_constraints" dwellTwice
+    ∷ list "recuperation_subnets" oneSubnet
+    ∷ list "headway_time_constraints" headway31
+    ∷ list "connection_constraints" ""
+    ∷ list "terminal_turnaround_constraints" ""
+    ∷ list "single_track_headway_constraints" ""
+    ∷ [])
+
+-- 25 seconds after the arrival at 14, 29 after the departure at 10, and a type that nobody knows
+abbrev pub byArrivals : String
+byArrivals = "{\"first_leg_id\": 1, \"second_leg_id\": 2, \"min_connection_time\": 5, \"max_connection_time\": 25, \"connection_type\": \"arrival_to_departure\"}"
+
+abbrev pub byDepartures : String
+byDepartures = "{\"first_leg_id\": 1, \"second_leg_id\": 2, \"min_connection_time\": 5, \"max_connection_time\": 29, \"connection_type\": \"departure_to_departure\"}"
+
+abbrev pub unknownType : String
+unknownType = "{\"first_leg_id\": 1, \"second_leg_id\": 2, \"min_connection_time\": 5, \"max_connection_time\": 25, \"connection_type\": \"arrival_to_arrival\"}"
+
+abbrev pub unmarked : List Example
+unmarked =
+    -- Type `arrival_to_arrival`: 10
+    answers draft profiles (listed "" "" unknownType oneSubnet) draft (Refused (refusal unknownName constraintsFile 277))
+    -- Empty timetable: 3. Track 2 in no subnet: 15, file 1, place 145
+    ∷ answers [] profiles dwell20 draft (Refused (refusal badHeader timetableFile 0))
+    ∷ answers draft profiles (document "" "{\"subnet_id\": 1, \"track_ids\": [1]}") draft (Refused (refusal noSubnet timetableFile 145))
+    -- the first of two records holds, the second does not
+    ∷ answers draft profiles (document dwellTwice oneSubnet) draft (Violated (violation dwell 1 1 1 solutionFile))
+    -- the first list holds, a later one does not
+    ∷ answers draft profiles (listed headway3 dwellTwice "" oneSubnet) draft (Violated (violation dwell 1 1 1 solutionFile))
+    -- a headway that holds at the departures and fails at the arrivals
+    ∷ answers draft13 profiles (listed headway3 "" "" oneSubnet) draft13 (Violated (violation headway 0 2 1 solutionFile))
+    -- connections: the greatest seconds, from the arrival and from the departure
+    ∷ answers draft profiles (listed "" "" byArrivals oneSubnet) draft (Violated (violation connection 0 2 1 solutionFile))
+    ∷ answers draft profiles (listed "" "" byDepartures oneSubnet) draft (Violated (violation connection 0 2 1 solutionFile))
+    -- the table's order, not the file's
+    ∷ answers draft profiles otherOrder draft (Violated (violation headway 0 1 1 solutionFile))
+    ∷ []
+
+unmarked-hold : All Right unmarked
+unfolding computed
+unmarked-hold = (refl, (refl, (refl, (refl, (refl, (refl, (refl, (refl, (refl, tt)))))))))

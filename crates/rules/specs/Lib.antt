@@ -1,0 +1,23 @@
+-- The law book: document 01 as definitions, in the order in which a reader needs them.
+pub mod Limits
+pub mod Answers
+pub mod Lists
+pub mod Bytes
+pub mod Rows
+pub mod Timetable
+pub mod Profiles
+pub mod Kinds
+pub mod Tokens
+pub mod Constraints
+pub mod Reading
+pub mod Verdict
+pub mod Energy
+pub mod Merge
+pub mod Display
+pub mod Entries
+-- The worked examples, computed.
+pub mod Computed
+pub mod Examples
+-- What the code's constructors answer, and the numbers that its constants are.
+pub mod Made
+pub mod Ties

@@ -1,0 +1,100 @@
+// The three answers of document 01: accepted, the first violation, a numbered refusal.
+ghost use mathlib.Core.Path.{_≡_};
+ghost use Rattle.rules.specs.Answers.{refusal, violation};
+
+// The files, by document 01's numbers; 0 where a refusal lies in none.
+pub struct File {}
+
+impl File {
+    pub const NONE: u8 = 0;
+
+    pub const TIMETABLE: u8 = 1;
+
+    pub const PROFILES: u8 = 2;
+
+    pub const CONSTRAINTS: u8 = 3;
+
+    pub const SOLUTION: u8 = 4;
+
+    pub const SECOND_SOLUTION: u8 = 5;
+}
+
+pub struct Refusal {
+    pub number: u8,
+    pub file: u8,
+    pub place: u32,
+}
+
+impl Refusal {
+    pub const HORIZON: u8 = 1;
+
+    pub const TOO_LONG: u8 = 2;
+
+    pub const HEADER: u8 = 3;
+
+    pub const ROW_FORM: u8 = 4;
+
+    pub const RANGE: u8 = 5;
+
+    pub const COUNT: u8 = 6;
+
+    pub const SEEN: u8 = 7;
+
+    pub const NOMINAL: u8 = 8;
+
+    pub const JSON_FORM: u8 = 9;
+
+    pub const UNKNOWN: u8 = 10;
+
+    pub const REPEATED_OR_MISSING: u8 = 11;
+
+    pub const NOT_THERE: u8 = 12;
+
+    pub const SAMPLES: u8 = 13;
+
+    pub const DIFFERS: u8 = 14;
+
+    pub const NO_SUBNET: u8 = 15;
+
+    pub const ROOM: u8 = 16;
+
+    pub const TRAVEL: u8 = 17;
+
+    pub fn new(number: u8, file: u8, place: u32) -> Refusal
+        ensures { λ r. ⌜ r ≡ refusal number file place ⌝ }
+    {
+        Refusal {
+            number,
+            file,
+            place,
+        }
+    }
+}
+
+pub struct Violation {
+    pub kind: u8,
+    pub position: u32,
+    pub inequality: u8,
+    pub shortfall: u32,
+    pub file: u8,
+}
+
+impl Violation {
+    pub fn new(kind: u8, position: u32, inequality: u8, shortfall: u32, file: u8) -> Violation
+        ensures { λ r. ⌜ r ≡ violation kind position inequality shortfall file ⌝ }
+    {
+        Violation {
+            kind,
+            position,
+            inequality,
+            shortfall,
+            file,
+        }
+    }
+}
+
+pub enum Answer {
+    Accepted,
+    Violated(Violation),
+    Refused(Refusal),
+}

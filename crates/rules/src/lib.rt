@@ -1,0 +1,7 @@
+// The law book of Wagontulip: the types of document 01 with their limits. What they mean stands in ../specs.
+pub mod sizes; // the types with their limits, widths and constructors
+pub mod kinds; // the five kinds of constraint, in one table
+pub mod answers; // refusals, violations, the answer
+pub mod tokens; // the words of the automaton that reads constraints.json
+pub mod figures; // the energies and the record of four doubles
+pub mod limits; // the tie between the constants and the specs

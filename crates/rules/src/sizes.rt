@@ -1,0 +1,296 @@
+// Each limit and each width of document 01 ("Sizes", "The tables") stands here once, with the type it belongs to.
+ghost use mathlib.Core.Path.{_≡_};
+ghost use Rattle.rules.specs.Limits as law;
+ghost use Rattle.rules.specs.Made.{horizonMade, configurationMade, legMade, profileMade, sampleMade};
+
+// H, the seconds of the day that a timetable may fill.
+pub struct Horizon {
+    pub seconds: u32,
+}
+
+pub enum HorizonMade {
+    Within(Horizon),
+    OutOfRange,
+}
+
+impl Horizon {
+    pub const LEAST: u32 = 1;
+
+    pub const MOST: u32 = 176_400;
+
+    // The seconds of a quarter hour, and how many quarters the greatest horizon has.
+    pub const QUARTER: u32 = 900;
+
+    pub const QUARTERS: usize = 196;
+
+    pub fn new(seconds: u32) -> HorizonMade
+        ensures { λ r. ⌜ r ≡ horizonMade seconds ⌝ }
+    {
+        if seconds < Self::LEAST {
+            return HorizonMade::OutOfRange;
+        }
+        if Self::MOST < seconds {
+            return HorizonMade::OutOfRange;
+        }
+        HorizonMade::Within(Horizon { seconds })
+    }
+}
+
+// The ids of legs, trains, tracks, stations, profiles and subnets.
+pub struct Id {}
+
+impl Id {
+    pub const MOST: u32 = 999_999_999;
+}
+
+// A text of any of the files.
+pub struct Text {}
+
+impl Text {
+    pub const MOST: usize = 67_108_864;
+}
+
+// One way to run a leg: `d_t_p` in a text, three numbers in the table.
+pub struct Configuration {
+    pub departure: u32,
+    pub travel: u32,
+    pub profile: u32,
+}
+
+pub enum ConfigurationMade {
+    Within(Configuration),
+    OutOfRange,
+}
+
+impl Configuration {
+    pub const WIDTH: usize = 3;
+
+    pub const MOST: usize = 1_048_576;
+
+    pub const LEAST_TRAVEL: u32 = 1;
+
+    pub const MOST_TRAVEL: u32 = 3_600;
+
+    // Within a horizon of `h` seconds.
+    pub fn new(departure: u32, travel: u32, profile: u32, h: u32) -> ConfigurationMade
+        ensures { λ r. ⌜ r ≡ configurationMade departure travel profile h ⌝ }
+    {
+        if travel < Self::LEAST_TRAVEL {
+            return ConfigurationMade::OutOfRange;
+        }
+        if Self::MOST_TRAVEL < travel {
+            return ConfigurationMade::OutOfRange;
+        }
+        if h < travel {
+            return ConfigurationMade::OutOfRange;
+        }
+        if h - travel < departure {
+            return ConfigurationMade::OutOfRange;
+        }
+        if Id::MOST < profile {
+            return ConfigurationMade::OutOfRange;
+        }
+        ConfigurationMade::Within(Configuration {
+            departure,
+            travel,
+            profile,
+        })
+    }
+}
+
+// The configuration that a solution chose for a leg: the same three numbers, in a table of its own.
+pub struct Choice {}
+
+impl Choice {
+    pub const WIDTH: usize = Configuration::WIDTH;
+}
+
+// A row of the timetable: its five ids, where its configurations start, how many it has, and the nominal's place among them.
+pub struct Leg {
+    pub id: u32,
+    pub train: u32,
+    pub track: u32,
+    pub start: u32,
+    pub end: u32,
+    pub first: u32,
+    pub count: u32,
+    pub nominal: u32,
+}
+
+pub enum LegMade {
+    Within(Leg),
+    OutOfRange,
+}
+
+impl Leg {
+    pub const WIDTH: usize = 8;
+
+    pub const MOST: usize = 32_768;
+
+    pub const LEAST_CONFIGURATIONS: u32 = 1;
+
+    pub const MOST_CONFIGURATIONS: u32 = 64;
+
+    // The five ids are within theirs, the count is one that a row may have, and the nominal is one of the list.
+    pub fn new(ids: [u32; 5], first: u32, count: u32, nominal: u32) -> LegMade
+        ensures { λ r. ⌜ r ≡ legMade ids first count nominal ⌝ }
+    {
+        if Id::MOST < ids[0] {
+            return LegMade::OutOfRange;
+        }
+        if Id::MOST < ids[1] {
+            return LegMade::OutOfRange;
+        }
+        if Id::MOST < ids[2] {
+            return LegMade::OutOfRange;
+        }
+        if Id::MOST < ids[3] {
+            return LegMade::OutOfRange;
+        }
+        if Id::MOST < ids[4] {
+            return LegMade::OutOfRange;
+        }
+        if count < Self::LEAST_CONFIGURATIONS {
+            return LegMade::OutOfRange;
+        }
+        if Self::MOST_CONFIGURATIONS < count {
+            return LegMade::OutOfRange;
+        }
+        if count <= nominal {
+            return LegMade::OutOfRange;
+        }
+        LegMade::Within(Leg {
+            id: ids[0],
+            train: ids[1],
+            track: ids[2],
+            start: ids[3],
+            end: ids[4],
+            first,
+            count,
+            nominal,
+        })
+    }
+}
+
+// A row of the profiles: its id, where its samples start, and how many it has.
+pub struct Profile {
+    pub id: u32,
+    pub first: u32,
+    pub count: u32,
+}
+
+pub enum ProfileMade {
+    Within(Profile),
+    OutOfRange,
+}
+
+impl Profile {
+    pub const WIDTH: usize = 3;
+
+    pub const MOST: usize = 16_384;
+
+    pub const LEAST_SAMPLES: u32 = 1;
+
+    pub const MOST_SAMPLES: u32 = 3_600;
+
+    pub fn new(id: u32, first: u32, count: u32) -> ProfileMade
+        ensures { λ r. ⌜ r ≡ profileMade id first count ⌝ }
+    {
+        if Id::MOST < id {
+            return ProfileMade::OutOfRange;
+        }
+        if count < Self::LEAST_SAMPLES {
+            return ProfileMade::OutOfRange;
+        }
+        if Self::MOST_SAMPLES < count {
+            return ProfileMade::OutOfRange;
+        }
+        ProfileMade::Within(Profile { id, first, count })
+    }
+}
+
+// The average power of one second, in kilowatts.
+pub struct Sample {
+    pub kw: i32,
+}
+
+pub enum SampleMade {
+    Within(Sample),
+    OutOfRange,
+}
+
+impl Sample {
+    pub const MOST: usize = 1_048_576;
+
+    pub const MOST_KW: u32 = 20_000;
+
+    // A magnitude and a sign; -0 is 0.
+    pub fn new(minus: bool, kw: u32) -> SampleMade
+        ensures { λ r. ⌜ r ≡ sampleMade minus kw ⌝ }
+    {
+        if Self::MOST_KW < kw {
+            return SampleMade::OutOfRange;
+        }
+        let size = kw as i32;
+        if minus {
+            let below = 0 - size;
+            return SampleMade::Within(Sample { kw: below });
+        }
+        SampleMade::Within(Sample { kw: size })
+    }
+}
+
+// A record of one of the five lists: kind, the rows of its two legs, its least and greatest seconds, its connection type.
+pub struct Constraint {
+    pub kind: u32,
+    pub first: u32,
+    pub second: u32,
+    pub low: u32,
+    pub high: u32,
+    pub connection: u32,
+}
+
+impl Constraint {
+    pub const WIDTH: usize = 6;
+
+    pub const MOST: usize = 65_536;
+
+    pub const MOST_SECONDS: u32 = 86_400;
+
+    // Connection types: none, by the first leg's arrival, by its departure.
+    pub const NO_TYPE: u32 = 0;
+
+    pub const ARRIVAL: u32 = 1;
+
+    pub const DEPARTURE: u32 = 2;
+}
+
+// A subnet has no table: a track names it by its place among the subnets.
+pub struct Subnet {}
+
+impl Subnet {
+    pub const MOST: usize = 8;
+}
+
+// A track and the place of its subnet.
+pub struct Track {
+    pub id: u32,
+    pub subnet: u32,
+}
+
+impl Track {
+    pub const WIDTH: usize = 2;
+
+    pub const MOST: usize = 4_096;
+}
+
+// What a lent table holds after a refusal: a number that no field can have.
+pub struct Fill {}
+
+impl Fill {
+    pub const UNSIGNED: u32 = 4_294_967_295;
+
+    pub const SIGNED: i32 = -2_147_483_648;
+
+    pub const BYTE: u8 = 0;
+}

@@ -1,0 +1,62 @@
+-- 1 and 2, for any texts: H out of range, and a text that is too long to be written as an example. Assumes nothing.
+use Prim.Native.Nat.{ℕ, _≤_, _<_}
+use mathlib.Core.Path.{_≡_}
+use mathlib.Core.Bool.{and-false}
+use mathlib.Core.List.{List}
+use mathlib.Core.Logic.{_⊎_, inl, inr}
+use lib.ListN.{length, replicate, length-replicate}
+use borrow.Author.Tests.{le-leb, lt-leb}
+use Rattle.rules.specs.Limits.{leastHorizon, mostHorizon, mostText}
+use Rattle.rules.specs.Answers.{badHorizon, tooLong, noFile, timetableFile, profilesFile, constraintsFile, refusal, refused, Judged}
+use Rattle.rules.specs.Rows.{csvOf}
+use Rattle.rules.specs.Timetable.{rowOf, draftFits, solutionFits, timetableHeader, timetableOf, solutionOf}
+use Rattle.rules.specs.Profiles as Profiles
+use Rattle.rules.specs.Profiles.{profilesHeader, profilesOf}
+use Rattle.rules.specs.Constraints.{constraintsOf}
+use Rattle.rules.specs.Reading.{Rooms, Texts, filesOf}
+use Rattle.rules.specs.Entries.{Tables, roomsOf, allRead, checked}
+use Rattle.rules.specs.declared.tokens.Rules.{Rules}
+use Rattle.rules.specs.declared.answers.Answer.the-variants.{Refused}
+
+-- 1: H out of range, whatever the texts
+pub horizon-out : (H : ℕ) (x : Texts) (room : Rooms) → (H < leastHorizon) ⊎ (mostHorizon < H) → filesOf H x room ≡ refused (refusal badHorizon noFile 0)
+unfolding filesOf
+horizon-out H x room (inl h) = rw (lt-leb leastHorizon H h)
+horizon-out H x room (inr h) = rw (lt-leb H mostHorizon h, and-false)
+
+module _ (s : List ℕ) (long : mostText < length s) where
+  csv-too-long : {A : Type 0} (file : ℕ) (rowOf : List A → List ℕ → Judged A) (header : List ℕ) → csvOf file rowOf header s ≡ refused (refusal tooLong file 0)
+  unfolding csvOf
+  csv-too-long file rowOf header = rw (lt-leb (length s) mostText long)
+
+  -- 2: a text of more bytes than the limit, whatever it says
+  pub timetable-too-long : (H legs configurations : ℕ) → timetableOf H legs configurations s ≡ refused (refusal tooLong timetableFile 0)
+  unfolding timetableOf
+  timetable-too-long H legs configurations = csv-too-long timetableFile (rowOf H (draftFits legs configurations)) timetableHeader
+
+  pub profiles-too-long : (profiles samples : ℕ) → profilesOf profiles samples s ≡ refused (refusal tooLong profilesFile 0)
+  unfolding profilesOf
+  profiles-too-long profiles samples = csv-too-long profilesFile (Profiles.rowOf profiles samples) profilesHeader
+
+  pub solution-too-long : (H file choices : ℕ) → solutionOf H file choices s ≡ refused (refusal tooLong file 0)
+  unfolding solutionOf
+  solution-too-long H file choices = csv-too-long file (rowOf H (solutionFits choices)) timetableHeader
+
+  pub constraints-too-long : (legs : List ℕ) (constraints tracks : ℕ) (rules : Rules) → constraintsOf legs constraints tracks rules s ≡ refused (refusal tooLong constraintsFile 0)
+  unfolding constraintsOf
+  constraints-too-long legs constraints tracks rules = rw (lt-leb (length s) mostText long)
+
+-- such texts exist
+pub long-text : (n b : ℕ) → mostText < n → mostText < length (replicate n b)
+long-text n b h = rw (length-replicate n b) h
+
+-- ---- and so a check answers
+
+module _ (H : ℕ) (x : Texts) (s : List ℕ) (t : Tables) (c : List ℕ) where
+  pub check-horizon-out : (H < leastHorizon) ⊎ (mostHorizon < H) → checked H x s t c .answer ≡ Refused (refusal badHorizon noFile 0)
+  unfolding checked allRead
+  check-horizon-out h = rw (horizon-out H x (roomsOf t) h)
+
+  pub check-timetable-too-long : leastHorizon ≤ H → H ≤ mostHorizon → mostText < length (x .timetable) → checked H x s t c .answer ≡ Refused (refusal tooLong timetableFile 0)
+  unfolding checked allRead filesOf
+  check-timetable-too-long least most long = rw (le-leb leastHorizon H least, le-leb H mostHorizon most, timetable-too-long (x .timetable) long)

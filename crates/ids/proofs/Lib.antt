@@ -1,0 +1,6 @@
+pub mod Column
+pub mod Written
+pub mod Places
+pub mod Onward
+pub mod Halves
+pub mod Parts

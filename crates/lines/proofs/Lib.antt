@@ -1,0 +1,4 @@
+pub mod Fold
+pub mod Lines
+pub mod Number
+pub mod Machine

@@ -1,0 +1,81 @@
+-- Digits, and a run of them as the loop of `digits` goes over it. Assumes nothing.
+use Prim.Native.Nat.{ℕ, suc, _+_, _*_, _-_, _≤_, _<_, min}
+use mathlib.Core.Path.{_≡_, refl}
+use mathlib.Core.List.{List, [], _∷_}
+use mathlib.Core.Bool.{Bool, true, false, _&&_}
+use native.Mathlib.Omega.{arith}
+use native.Mathlib.Nat.{add-zero}
+use lib.Dec.{leb}
+use lib.ListN.{length, getD, drop}
+use borrow.Author.Tests.{le-leb, lt-leb, leb-true}
+use Rattle.rules.specs.Lists.{lead}
+use Rattle.rules.specs.Bytes.{digitZero, digitNine, isDigit, valueFrom}
+use Rattle.text.specs.declared.numbers.Ran.{Ran}
+use Rattle.text.specs.Held.{pastId, ranFrom}
+use Rattle.text.proofs.Runs.{lead-more, lead-stop, lead-end}
+
+-- ---- a digit is from 0 to 9
+
+digit-in : (b : ℕ) → digitZero ≤ b → b ≤ digitNine → isDigit b ≡ true
+digit-in b l h = rw (le-leb digitZero b l, le-leb b digitNine h)
+
+digit-below : (b : ℕ) → b < digitZero → isDigit b ≡ false
+digit-below b h = rw (lt-leb digitZero b h)
+
+digit-above : (b : ℕ) → digitZero ≤ b → digitNine < b → isDigit b ≡ false
+digit-above b l h = rw (le-leb digitZero b l, lt-leb b digitNine h)
+
+-- ---- both of two tests
+
+pub and-false : (t : Bool) → t && false ≡ false
+and-false true = refl
+and-false false = refl
+
+pub rest-true : (t u : Bool) → t && u ≡ true → u ≡ true
+rest-true true u e = e
+rest-true false u e = let z : _≡_ {A = ℕ} 0 1 = cc in absurd (omega arith)
+
+first-true : (t u : Bool) → t && u ≡ true → t ≡ true
+first-true true u e = refl
+first-true false u e = e
+
+pub digit-most : (b : ℕ) (u : Bool) → isDigit b && u ≡ true → b ≤ digitNine
+digit-most b u e = leb-true b digitNine (rest-true (leb digitZero b) _ (first-true (isDigit b) u e))
+
+pub digit-least : (b : ℕ) (u : Bool) → isDigit b && u ≡ true → digitZero ≤ b
+digit-least b u e = leb-true digitZero b (first-true _ (leb b digitNine) (first-true (isDigit b) u e))
+
+-- ---- the loop of `digits`: the invariant is `ranFrom value next (drop next s) ≡ r`
+
+-- what is capped before a digit need not be told apart after it
+pub value-capped : (ds : List ℕ) (m n : ℕ) → min m pastId ≡ min n pastId → min (valueFrom m ds) pastId ≡ min (valueFrom n ds) pastId
+value-capped [] m n e = e
+value-capped (b ∷ ds) m n e = value-capped ds (m * 10 + (b - digitZero)) (n * 10 + (b - digitZero)) (omega arith)
+
+pub run-starts : (s : List ℕ) (m n at : ℕ) → m ≡ min n pastId → ranFrom m at (drop at s) ≡ ranFrom n at (drop at s)
+run-starts s m n at e =
+    let ds : List ℕ = lead isDigit (drop at s) in
+    let k : min (valueFrom m ds) pastId ≡ min (valueFrom n ds) pastId = value-capped ds m n (omega arith) in
+    rw k
+
+-- no digit more: the run is what was read
+run-done : (n i : ℕ) (r : Ran) → n ≤ pastId → record { value = min n pastId; next = i + 0 } ≡ r → record { value = n; next = i } ≡ r
+run-done n i r h e = let k : min n pastId ≡ n = omega arith in rw (k, add-zero i) at e
+
+module _ (s : List ℕ) (n i : ℕ) (r : Ran) (e : ranFrom n i (drop i s) ≡ r) (k : n ≤ pastId) where
+  pub run-digit : (m : ℕ) → i < length s → digitZero ≤ getD s i 0 → getD s i 0 ≤ digitNine → m ≡ min (n * 10 + (getD s i 0 - digitZero)) pastId
+      → ranFrom m (i + 1) (drop (i + 1) s) ≡ r
+  run-digit m h low high q =
+      let ds : List ℕ = lead isDigit (drop (i + 1) s) in
+      let v : min (valueFrom m ds) pastId ≡ min (valueFrom (n * 10 + (getD s i 0 - digitZero)) ds) pastId = value-capped ds m _ (omega arith) in
+      let l : i + 1 + length ds ≡ i + suc (length ds) = omega arith in
+      rw (v, l) (rw (lead-more isDigit s i 0 h (digit-in _ low high)) at e)
+
+  pub run-below : i < length s → getD s i 0 < digitZero → record { value = n; next = i } ≡ r
+  run-below h low = run-done n i r k (rw (lead-stop isDigit s i 0 h (digit-below _ low)) at e)
+
+  pub run-above : i < length s → digitZero ≤ getD s i 0 → digitNine < getD s i 0 → record { value = n; next = i } ≡ r
+  run-above h low high = run-done n i r k (rw (lead-stop isDigit s i 0 h (digit-above _ low high)) at e)
+
+  pub run-ends : length s ≤ i → record { value = n; next = i } ≡ r
+  run-ends h = run-done n i r k (rw (lead-end isDigit s i h) at e)

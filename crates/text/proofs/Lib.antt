@@ -1,0 +1,6 @@
+pub mod Runs
+pub mod Laws
+pub mod Names
+pub mod Digits
+pub mod Values
+pub mod Decimals

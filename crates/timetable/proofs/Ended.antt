@@ -1,0 +1,189 @@
+-- A byte that the open number does not take: LF ends the row and has it judged, another byte closes the number or breaks the row's form. Assumes nothing.
+use Prim.Native.Nat.{ℕ, zero, suc, _+_, _≤_, _<_}
+use mathlib.Core.Path.{_≡_, refl, ap, sym, _∙_}
+use mathlib.Core.Bool.{Bool, true, false, not, cond, _&&_}
+use mathlib.Core.List.{List, [], _∷_, _++_, append-nil}
+use mathlib.Core.Option.{Option, none, some}
+use native.Mathlib.Omega.{arith}
+use lib.Dec.{leb, ltb, eqb}
+use lib.ListN.{length, getD, drop}
+use borrow.Author.Tests.{leb-true, ltb-true, eq-eqb, ne-eqb}
+use Rattle.rules.specs.Limits.{mostText, mostId, mostLegs, mostListed, mostConfigurations, legWidth}
+use Rattle.rules.specs.Lists.{_>>=_, every}
+use Rattle.rules.specs.Answers.{badRow, timetableFile, Judged, wrong, right}
+use Rattle.rules.specs.Bytes.{lineFeed, isDigit}
+use Rattle.rules.specs.Timetable.{Row, configuration, inRange, judgeForm, timetableHeader}
+use Rattle.rules.specs.declared.sizes.Configuration.{Configuration}
+use Rattle.lines.specs.Number as Row
+use Rattle.lines.specs.Machine.{onByte, onLine}
+use Rattle.timetable.specs.declared.line.Line.{Line}
+use Rattle.timetable.specs.declared.number.Number.{Number}
+use Rattle.timetable.specs.declared.number.Number.the-variants.{Empty}
+use Rattle.timetable.specs.Digits.{held, numberHeld, isEmpty, valueOf}
+use Rattle.timetable.specs.Open.{Open, partly, start, openStep, openEnd, reach}
+use Rattle.timetable.specs.Held.{lastSlot, entrySlot, Shaped, inHead, inFirst, inSecond, inThird, stoppedWith, Tables, tables, InLine, AfterByte, Entered, Closed, nominalOf, storedAt}
+use Rattle.timetable.specs.RowOver.{heldIds, rangeHolds, countsHold, isNew, roomHolds, lineTests, lowest, heldLeg, Bounded, nextLine, draftRoom, AfterLine, Ended}
+use Rattle.timetable.specs.Text.{Holds, Signed}
+use Rattle.timetable.proofs.Words.{and-left, and-right}
+use Rattle.timetable.proofs.Close.{entry-slot}
+use Rattle.timetable.proofs.Judge.{rowFrom, eight-make, outcome, judged, lowest-zero}
+use Rattle.timetable.proofs.Accept.{accepted}
+
+-- ---- the row that ends
+
+end-row : (closed : List ℕ) (list : List Configuration) (d t v : ℕ) (m : Row.Number) → length closed ≡ entrySlot → Row.numberEnd m ≡ some v
+    → openEnd (partly closed list (d ∷ t ∷ []) m) ≡ some (rowFrom closed (list ++ configuration d t v ∷ []))
+unfolding openEnd
+end-row closed list d t v m eight e = rw e (eight-make closed (list ++ configuration d t v ∷ []) eight)
+
+end-none : (closed : List ℕ) (list : List Configuration) (entry : List ℕ) (m : Row.Number) (v : ℕ) → Shaped closed list entry → (length (closed ++ entry) ≡ lastSlot → ⊥)
+    → Row.numberEnd m ≡ some v → openEnd (partly closed list entry m) ≡ none
+unfolding openEnd
+end-none closed list entry m v (inHead h) n e = rw e
+end-none closed list entry m v (inFirst k) n e = rw e
+end-none closed list (d ∷ []) m v (inSecond k) n e = rw e
+end-none closed list (d ∷ t ∷ []) m v (inThird k) n e = absurd (n (entry-slot closed (d ∷ t ∷ []) 2 k refl))
+
+-- ---- what the code knows of a row with no fault
+
+pub row-bounds : (H : ℕ) (line : Line) (legs : List ℕ) (room k at : ℕ) → k ≡ lowest (lineTests H line legs room) → k ≡ 0 → at < mostText
+    → Bounded line at
+row-bounds H line legs room k at e z a =
+    let holds = lowest-zero (rangeHolds H line) (countsHold line) (isNew (line .rows) (line .above) (getD (line .numbers) 0 0) legs) (ltb (line .nominal) (line .entries)) (roomHolds line (length legs) room) (sym e ∙ z) in
+    let counts = holds .1 in
+    let ids : every (λ id. leb id mostId) (heldIds (line .numbers)) ≡ true =
+    and-left (every (λ id. leb id mostId) (heldIds (line .numbers))) (inRange H (nominalOf (line .numbers)) && not (line .wide)) (holds .0) in
+    record {
+      at-low = a;
+      rows-low = ltb-true (line .rows) mostLegs (and-left (ltb (line .rows) mostLegs) _ counts);
+      configurations-low =
+          leb-true (line .configurations + line .entries) mostConfigurations (and-right (leb (line .entries) mostListed) _ (and-right (ltb (line .rows) mostLegs) _ counts));
+      id-low = leb-true (getD (line .numbers) 0 0) mostId (and-left (leb (getD (line .numbers) 0 0) mostId) (every (λ id. leb id mostId) (drop 1 (heldIds (line .numbers)))) ids);
+    }
+
+-- ---- the three ways of an LF
+
+pub ended-short : (H : ℕ) (line line′ : Line) (n at : ℕ) (now : Tables) → (line .slot ≡ lastSlot → ⊥) → line′ ≡ stoppedWith line badRow → Ended H line n at line′ now now
+ended-short H line line′ n at now s l =
+    record {
+      ends = λ lent place before o v g e nv.
+          rw (end-none (o .closed) (o .list) (o .entry) (o .number) v (g .opened .shaped) (λ k. s (g .opened .slot-is ∙ k)) e, l) (refl, g .placed, omega arith);
+    }
+
+-- the last entry is closed, and the row judged
+module _ (H : ℕ) (line whole line′ : Line) (n at k : ℕ) (legs legs′ table table′ : List ℕ) (last : line .slot ≡ lastSlot) (entered : Entered H line n whole table table′)
+    (lowest-is : k ≡ lowest (lineTests H whole legs (length table′))) where
+  -- what is to be shown of the row
+  abbrev Judges : Type 0
+  Judges =
+      (lent : Tables) (place : ℕ) (before : List Row) (closed : List ℕ) (list : List Configuration) → length closed ≡ entrySlot
+      → InLine H lent whole (tables legs table′) place before closed list []
+      → AfterLine H lent line′ (tables legs′ table′) place at before (outcome k (rowFrom closed list))
+
+  by-judging : Judges → Ended H line n at line′ (tables legs table) (tables legs′ table′)
+  by-judging judges =
+      record {
+        ends = λ lent place before o v g e nv. go lent place before (o .closed) (o .list) (o .entry) (o .number) v g e nv (g .opened .shaped);
+      }
+    where
+      go : (lent : Tables) (place : ℕ) (before : List Row) (closed : List ℕ) (list : List Configuration) (entry : List ℕ) (m : Row.Number) (v : ℕ)
+          → InLine H lent line (tables legs table) place before closed list entry → Row.numberEnd m ≡ some v → n ≡ held v → Shaped closed list entry
+          → AfterLine H lent line′ (tables legs′ table′) place at before (judgeForm H (draftRoom lent) before (openEnd (partly closed list entry m)))
+      go lent place before closed list entry m v g e nv (inHead h) = absurd (omega (arith, g .opened .slot-is, ap length (append-nil closed)))
+      go lent place before closed list entry m v g e nv (inFirst h) = absurd (omega (arith, g .opened .slot-is, entry-slot closed [] 0 h refl))
+      go lent place before closed list (d ∷ []) m v g e nv (inSecond h) = absurd (omega (arith, g .opened .slot-is, entry-slot closed (d ∷ []) 1 h refl))
+      go lent place before closed list (d ∷ t ∷ []) m v g e nv (inThird h) =
+          let all : List Configuration = list ++ configuration d t v ∷ [] in
+          let g′ : InLine H lent whole (tables legs table′) place before closed all [] = entered .entered lent legs place before closed list d t v g nv in
+          rw (end-row closed list d t v m h e, judged H lent whole (tables legs table′) place before closed all g′ h (length table′) (g′ .long), ← lowest-is)
+          (judges lent place before closed all h g′)
+
+  pub ended-fault : legs′ ≡ legs → (k ≡ 0 → ⊥) → line′ ≡ stoppedWith whole k → Ended H line n at line′ (tables legs table) (tables legs′ table′)
+  ended-fault s z l = by-judging (λ lent place before closed list h g. go k z l lent place before (rowFrom closed list) (g .placed))
+    where
+      go : (j : ℕ) → (j ≡ 0 → ⊥) → line′ ≡ stoppedWith whole j → (lent : Tables) (place : ℕ) (before : List Row) (r : Row) → whole .place ≡ place
+          → AfterLine H lent line′ (tables legs′ table′) place at before (outcome j r)
+      go zero z l lent place before r p = absurd (z refl)
+      go (suc j) z l lent place before r p = rw l (refl, p, omega arith)
+
+  pub ended-right : k ≡ 0 → legs′ ≡ storedAt legWidth (whole .rows) (heldLeg whole) legs → line′ ≡ nextLine whole at → Ended H line n at line′ (tables legs table) (tables legs′ table′)
+  ended-right z s l =
+      by-judging
+      (λ lent place before closed list h g.
+      rw (z, l) (accepted H lent whole (tables legs table′) place before closed list g h (length table′) (g .long) (sym lowest-is ∙ z) legs′ at s))
+
+-- ---- a byte that the open number does not take
+
+not-empty : (m : Row.Number) (x : Number) → x ≡ numberHeld m → isEmpty x ≡ false → (v : ℕ) × (Row.numberEnd m ≡ some v) × (valueOf x ≡ held v)
+not-empty Row.empty x e q = let z : true ≡ false = sym (ap isEmpty e) ∙ q in absurd (never z)
+  where
+    never : true ≡ false → ⊥
+    never z = let k : _≡_ {A = ℕ} 0 1 = cc in omega arith
+not-empty Row.zero x e q = (0, refl, ap valueOf e)
+not-empty (Row.digits n) x e q = (n, refl, ap valueOf e)
+
+is-empty : (m : Row.Number) (x : Number) → x ≡ numberHeld m → isEmpty x ≡ true → m ≡ Row.empty
+is-empty Row.empty x e q = refl
+is-empty Row.zero x e q = absurd (never (sym (ap isEmpty e) ∙ q))
+  where
+    never : false ≡ true → ⊥
+    never z = let k : _≡_ {A = ℕ} 0 1 = cc in omega arith
+is-empty (Row.digits n) x e q = absurd (never (sym (ap isEmpty e) ∙ q))
+  where
+    never : false ≡ true → ⊥
+    never z = let k : _≡_ {A = ℕ} 0 1 = cc in omega arith
+
+module _ (H : ℕ) (line line′ : Line) (number : Number) (b at : ℕ) where
+  -- no digit before it
+  pub sign-empty : (now : Tables) (r : Bool) → r ≡ isEmpty number → r ≡ true → line′ ≡ stoppedWith line badRow → Signed H line number b at line′ now now
+  unfolding reach openStep openEnd
+  sign-empty now r e t l =
+      record {
+        signs = λ lent place before o g x q past.
+            let none-there : o .number ≡ Row.empty = is-empty (o .number) number x (sym e ∙ t) in
+            go lent place before o g none-there (eqb b lineFeed) (isDigit b) q;
+      }
+    where
+      go : (lent : Tables) (place : ℕ) (before : List Row) (o : Open) → InLine H lent line now place before (o .closed) (o .list) (o .entry) → o .number ≡ Row.empty
+          → (f d : Bool) → Row.numberStep (o .number) b ≡ none
+          → Holds H lent (suc at) Empty line′ now
+          (cond f (onLine timetableFile timetableHeader (judgeForm H (draftRoom lent)) start openStep openEnd place at before (judgeForm H (draftRoom lent) before (openEnd o)))
+          (onByte timetableFile timetableHeader (judgeForm H (draftRoom lent)) start openStep openEnd place at before
+          (cond d (Row.numberStep (o .number) b >>= (λ m. some (partly (o .closed) (o .list) (o .entry) m))) (Row.numberEnd (o .number) >>= (λ n. Rattle.timetable.specs.Open.separate o b n)))))
+      go lent place before o g n true d q = rw (n, l) (refl, g .placed, omega arith)
+      go lent place before o g n false true q = rw (q, l) (refl, g .placed, omega arith)
+      go lent place before o g n false false q = rw (n, l) (refl, g .placed, omega arith)
+
+  -- LF
+  after-line : length timetableHeader ≤ at → (lent now : Tables) (place : ℕ) (before : List Row) (j : Judged Row) → AfterLine H lent line′ now place at before j
+      → Holds H lent (suc at) Empty line′ now (onLine timetableFile timetableHeader (judgeForm H (draftRoom lent)) start openStep openEnd place at before j)
+  after-line past lent now place before (wrong k) h = h
+  after-line past lent now place before (right r) h = (refl, refl, h, omega arith)
+
+  pub sign-line : (now now′ : Tables) (r : Bool) (n : ℕ) → r ≡ isEmpty number → r ≡ false → n ≡ valueOf number → b ≡ lineFeed → Ended H line n at line′ now now′
+      → Signed H line number b at line′ now now′
+  unfolding reach
+  sign-line now now′ r n e t nv f ended =
+      record {
+        signs = λ lent place before o g x q past.
+            let v = not-empty (o .number) number x (sym e ∙ t) in
+            rw (eq-eqb b lineFeed f)
+            (after-line past lent now′ place before (judgeForm H (draftRoom lent) before (openEnd o)) (ended .ends lent place before o (v .0) g (v .1) (nv ∙ v .2)));
+      }
+
+  -- another byte
+  after-byte : length timetableHeader ≤ at → (lent now : Tables) (place : ℕ) (before : List Row) (o : Option Open) → AfterByte H lent line′ now place before o
+      → Holds H lent (suc at) Empty line′ now (onByte timetableFile timetableHeader (judgeForm H (draftRoom lent)) start openStep openEnd place at before o)
+  after-byte past lent now place before none h = (h .0, h .1, omega arith)
+  after-byte past lent now place before (some o) h = (refl, sym (ap numberHeld (h .1)), h .0, omega arith)
+
+  pub sign-close : (legs table table′ : List ℕ) (r : Bool) (n : ℕ) → r ≡ isEmpty number → r ≡ false → n ≡ valueOf number → (b ≡ lineFeed → ⊥) → Closed H line n b line′ table table′
+      → Signed H line number b at line′ (tables legs table) (tables legs table′)
+  unfolding reach
+  sign-close legs table table′ r n e t nv f closed =
+      record {
+        signs = λ lent place before o g x q past.
+            let v = not-empty (o .number) number x (sym e ∙ t) in
+            rw (ne-eqb b lineFeed f)
+            (after-byte past lent (tables legs table′) place before (openStep o b) (closed .closes lent legs place before o (v .0) g (v .1) (nv ∙ v .2) q));
+      }

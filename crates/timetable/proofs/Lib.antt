@@ -1,0 +1,15 @@
+pub mod Form
+pub mod Digits
+pub mod Leaves
+pub mod Words
+pub mod Entry
+pub mod Close
+pub mod RowTests
+pub mod Judge
+pub mod Accept
+pub mod Ended
+pub mod Header
+pub mod Turn
+pub mod Run
+pub mod Feed
+pub mod Whole

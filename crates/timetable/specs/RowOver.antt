@@ -1,0 +1,104 @@
+-- A row that is over: its tests, as the reader makes them on what it holds, and what becomes of the row.
+use Prim.Native.Nat.{ℕ, zero, suc, _+_, _/_, _≤_, _<_}
+use mathlib.Core.Path.{_≡_}
+use mathlib.Core.Bool.{Bool, true, false, not, cond, _&&_}
+use mathlib.Core.List.{List, [], _∷_, _++_}
+use mathlib.Core.Option.{some}
+use lib.Dec.{leb, ltb, eqb}
+use lib.ListN.{length, getD, drop}
+use Rattle.rules.specs.Limits.{mostText, mostId, mostLegs, mostListed, mostConfigurations, legWidth, configurationWidth}
+use Rattle.rules.specs.Lists.{every, any, over}
+use Rattle.rules.specs.Answers.{outOfRange, tooMany, alreadySeen, nominalNotListed, noRoom, Test, _needs_, Judged, wrong, right}
+use Rattle.rules.specs.Timetable.{Row, inRange, listed, judgeForm, draftFits}
+use Rattle.lines.specs.Number.{numberEnd}
+use Rattle.timetable.specs.declared.line.Line.{Line}
+use Rattle.timetable.specs.Open.{Open, openEnd}
+use Rattle.timetable.specs.Digits.{held}
+use Rattle.timetable.specs.Held.{nominalOf, Tables, tables, InLine}
+
+-- the ids of the first n rows of the leg table
+abbrev pub idsIn : (n : ℕ) → List ℕ → List ℕ
+idsIn zero table = []
+idsIn (suc n) table = getD table 0 0 ∷ idsIn n (drop legWidth table)
+
+abbrev pub heldIds : List ℕ → List ℕ
+heldIds numbers = getD numbers 0 0 ∷ getD numbers 1 0 ∷ getD numbers 2 0 ∷ getD numbers 3 0 ∷ getD numbers 4 0 ∷ []
+
+-- range; counts; the id is new, which an id above all others is without a search; the nominal is listed; room
+abbrev pub rangeHolds : (H : ℕ) → Line → Bool
+rangeHolds H line = every (λ id. leb id mostId) (heldIds (line .numbers)) && (inRange H (nominalOf (line .numbers)) && not (line .wide))
+
+abbrev pub countsHold : Line → Bool
+countsHold line =
+    ltb (line .rows) mostLegs && (leb (line .entries) mostListed && leb (line .configurations + line .entries) mostConfigurations)
+
+abbrev pub isNew : (rows above id : ℕ) → List ℕ → Bool
+isNew rows above id legs =
+    cond (leb above id) true (cond (ltb (length legs / legWidth) rows) true (not (any (λ x. eqb x id) (idsIn rows legs))))
+
+abbrev pub roomHolds : Line → (legs configurations : ℕ) → Bool
+roomHolds line legs configurations = ltb (line .rows) (legs / legWidth) && leb (line .configurations + line .entries) (configurations / configurationWidth)
+
+abbrev pub lineTests : (H : ℕ) → Line → (legs : List ℕ) (room : ℕ) → List Test
+lineTests H line legs room =
+    outOfRange needs rangeHolds H line
+    ∷ tooMany needs countsHold line
+    ∷ alreadySeen needs isNew (line .rows) (line .above) (getD (line .numbers) 0 0) legs
+    ∷ nominalNotListed needs ltb (line .nominal) (line .entries)
+    ∷ noRoom needs roomHolds line (length legs) room
+    ∷ []
+
+-- the number of the first test that fails, or 0
+abbrev pub lowest : List Test → ℕ
+lowest [] = 0
+lowest (t ∷ ts) = cond (t .holds) (lowest ts) (t .number)
+
+-- the leg's numbers as the reader holds them
+abbrev pub heldLeg : Line → List ℕ
+heldLeg line =
+    getD (line .numbers) 0 0
+    ∷ getD (line .numbers) 1 0
+    ∷ getD (line .numbers) 2 0
+    ∷ getD (line .numbers) 3 0
+    ∷ getD (line .numbers) 4 0
+    ∷ line .configurations
+    ∷ line .entries
+    ∷ line .nominal
+    ∷ []
+
+-- what a row with no fault keeps
+pub record Bounded (line : Line) (at : ℕ) : Type 0 where
+  pub at-low : at < mostText
+  pub rows-low : line .rows < mostLegs
+  pub configurations-low : line .configurations + line .entries ≤ mostConfigurations
+  pub id-low : getD (line .numbers) 0 0 ≤ mostId
+
+-- the next row starts after the LF at a place
+abbrev pub nextLine : Line → (at : ℕ) → Line
+nextLine line at =
+    record {
+      fault = line .fault;
+      place = at + 1;
+      slot = 0;
+      numbers = line .numbers;
+      entries = 0;
+      nominal = 0;
+      wide = false;
+      rows = line .rows + 1;
+      configurations = line .configurations + line .entries;
+      above = cond (leb (line .above) (getD (line .numbers) 0 0)) (getD (line .numbers) 0 0 + 1) (line .above);
+    }
+
+-- the room that the lent tables have for a draft
+abbrev pub draftRoom : Tables → List Row → Row → Bool
+draftRoom lent = draftFits (length (lent .legs) / legWidth) (length (lent .configurations) / configurationWidth)
+
+-- what a row that is judged must give
+abbrev pub AfterLine : (H : ℕ) (lent : Tables) (line : Line) (now : Tables) (place at : ℕ) → List Row → Judged Row → Type 0
+AfterLine H lent line now place at before (wrong k) = (line .fault ≡ k) × (line .place ≡ place) × (0 < k)
+AfterLine H lent line now place at before (right row) = InLine H lent line now (suc at) (before ++ row ∷ []) [] [] []
+
+pub record Ended (H : ℕ) (line : Line) (n at : ℕ) (line′ : Line) (now now′ : Tables) : Type 0 where
+  pub ends : (lent : Tables) (place : ℕ) (before : List Row) (o : Open) (v : ℕ)
+      → InLine H lent line now place before (o .closed) (o .list) (o .entry) → numberEnd (o .number) ≡ some v → n ≡ held v
+      → AfterLine H lent line′ now′ place at before (judgeForm H (draftRoom lent) before (openEnd o))

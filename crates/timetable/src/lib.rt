@@ -1,0 +1,4 @@
+// timetable.csv and solutions, read byte by byte, whole or in parts.
+pub mod number; // the open number
+pub mod line; // the open row, and what a row must keep
+pub mod reader; // a text

@@ -1,0 +1,206 @@
+// A timetable's text, whole or in parts: a reader is started, fed and finished.
+ghost use mathlib.Core.Path.{_≡_};
+ghost use Prim.Native.Nat.{_+_, _≤_};
+ghost use lib.ListN.{length};
+ghost use Rattle.rules.specs.Limits.{mostText};
+ghost use Rattle.timetable.specs.declared.number.Number.the-variants.{Empty};
+ghost use Rattle.timetable.specs.Held.{tables};
+ghost use Rattle.timetable.specs.Promise.{ReadAs};
+ghost use Rattle.timetable.specs.Text.{firstLine, headedFrom, Placed, Ran, Fed, Finished};
+use crate::line;
+use crate::line::Line;
+use crate::number;
+use crate::number::Number;
+use rules::answers::Refusal;
+use rules::sizes::Text;
+
+const HEADER_LENGTH: usize = 114;
+
+const HEADER: [u8; HEADER_LENGTH] =
+    *b"leg_id,train_id,track_id,start_station_id,end_station_id,nominal_departure_configuration,departure_configurations\n";
+
+// After so many bytes: the open number, and the rest of the state.
+pub struct Reader {
+    pub read: usize,
+    pub number: Number,
+    pub line: Line,
+}
+
+// How far a part goes on with the header, and whether it is right so far.
+pub struct Headed {
+    pub next: usize,
+    pub right: bool,
+}
+
+// The rows and configurations of a text, or its first fault.
+pub enum Rows {
+    Fault(u8, u32),
+    Read(u32, u32),
+}
+
+fn first_line() -> Line
+    ensures { λ r. ⌜ r ≡ firstLine ⌝ }
+{
+    Line {
+        fault: 0,
+        place: 114,
+        slot: 0,
+        numbers: [0; 10],
+        entries: 0,
+        nominal: 0,
+        wide: false,
+        rows: 0,
+        configurations: 0,
+        above: 0,
+    }
+}
+
+pub fn start() -> Reader
+    ensures { λ r. ⌜ (r .read ≡ 0) × (r .number ≡ Empty) × (r .line ≡ firstLine) ⌝ }
+{
+    Reader {
+        read: 0,
+        number: Number::Empty,
+        line: first_line(),
+    }
+}
+
+fn header(part: &[u8], read: usize) -> Headed
+    requires { ⌜ read + length (now part) ≤ mostText ⌝ }
+    ensures { λ r. ⌜ r ≡ headedFrom read 0 (now (part .entry)) ⌝ }
+{
+    let mut i = 0;
+    while i < part.len() {
+        let k = read + i;
+        if HEADER_LENGTH <= k {
+            return Headed {
+                next: i,
+                right: true,
+            };
+        }
+        if part[i] != HEADER[k] {
+            return Headed {
+                next: i,
+                right: false,
+            };
+        }
+        i += 1;
+    }
+    Headed {
+        next: i,
+        right: true,
+    }
+}
+
+// The rows of a part from a place on: the digits of a number in one loop, and then the byte that closes it.
+fn run_rows(
+    before: Line,
+    unclosed: Number,
+    read: usize,
+    part: &[u8],
+    from: usize,
+    h: u32,
+    legs: &mut [u32],
+    configurations: &mut [u32],
+) -> Reader
+    requires { ⌜ Placed read (now part) from before ⌝ }
+    ensures { λ r. ⌜ Ran h before unclosed read (now (part .entry)) from r (tables (now (legs .entry)) (now (configurations .entry))) (tables (now (legs .exit)) (now (configurations .exit))) ⌝ }
+{
+    let mut line = before;
+    let mut number = unclosed;
+    let mut i = from;
+    while i < part.len() {
+        let taken = number::take(part, i, number);
+        let next = taken.next;
+        number = taken.number;
+        if part.len() <= next {
+            return Reader {
+                read: read + part.len(),
+                number,
+                line,
+            };
+        }
+        let at = (read + next) as u32;
+        line = line::sign(line, number, part[next], at, h, legs, configurations);
+        number = Number::Empty;
+        if line.fault != 0 {
+            return Reader {
+                read: read + part.len(),
+                number,
+                line,
+            };
+        }
+        i = next + 1;
+    }
+    Reader {
+        read: read + part.len(),
+        number,
+        line,
+    }
+}
+
+// A part of a text, however it is cut.
+pub fn feed(
+    reader: Reader,
+    part: &[u8],
+    h: u32,
+    legs: &mut [u32],
+    configurations: &mut [u32],
+) -> Reader
+    requires { ⌜ reader .read + length (now part) ≤ mostText ⌝ }
+    ensures { λ r. ⌜ Fed h reader (now (part .entry)) r (tables (now (legs .entry)) (now (configurations .entry))) (tables (now (legs .exit)) (now (configurations .exit))) ⌝ }
+{
+    let read = reader.read;
+    let number = reader.number;
+    let line = reader.line;
+    let all = read + part.len();
+    if line.fault != 0 {
+        return Reader {
+            read: all,
+            number,
+            line,
+        };
+    }
+    let head = header(part, read);
+    if head.right {
+        let next = head.next;
+        return run_rows(line, number, read, part, next, h, legs, configurations);
+    }
+    let mut wrong = line;
+    wrong.fault = Refusal::HEADER;
+    wrong.place = 0;
+    Reader {
+        read: all,
+        number,
+        line: wrong,
+    }
+}
+
+// The text is over.
+pub fn finish(reader: Reader) -> Rows
+    ensures { λ r. ⌜ Finished reader r ⌝ }
+{
+    let line = reader.line;
+    if line.fault != 0 {
+        return Rows::Fault(line.fault, line.place);
+    }
+    if reader.read < HEADER_LENGTH {
+        return Rows::Fault(Refusal::HEADER, 0);
+    }
+    if line.place as usize != reader.read {
+        return Rows::Fault(Refusal::ROW_FORM, line.place);
+    }
+    Rows::Read(line.rows, line.configurations)
+}
+
+// A whole text.
+pub fn read_timetable(text: &[u8], h: u32, legs: &mut [u32], configurations: &mut [u32]) -> Rows
+    ensures { λ r. ⌜ ReadAs h (now (text .entry)) (tables (now (legs .entry)) (now (configurations .entry))) r (tables (now (legs .exit)) (now (configurations .exit))) ⌝ }
+{
+    if Text::MOST < text.len() {
+        return Rows::Fault(Refusal::TOO_LONG, 0);
+    }
+    let begun = start();
+    let fed = feed(begun, text, h, legs, configurations);
+    finish(fed)
+}

@@ -1,0 +1,42 @@
+-- `profiles::reader::quicken` meets its contract: whole samples where a sample begins, and nothing elsewhere. Assumes nothing.
+use Rattle.profiles.proofs.Feed.{feeding}
+use borrow.Author.Needs.{needs}
+use Rattle.profiles.proofs.reader.quicken.Statement.{statement}
+use Rattle.profiles.proofs.reader.quicken.Tie as tie
+
+enum-known-state : tie.Need-enum-known-state
+enum-known-state c = search needs
+
+returns : tie.Need-returns
+returns c = search needs
+
+enum-told : tie.Need-enum-told
+enum-told c = search needs
+
+returns-2 : tie.Need-returns-2
+returns-2 c = search (feeding, needs)
+
+returns-3 : tie.Need-returns-3
+returns-3 c = search (feeding, needs)
+
+samples-run-requires : tie.Need-samples-run-requires
+samples-run-requires c κs = search (feeding, needs)
+
+same-length : tie.Need-same-length
+same-length c = search needs
+
+returns-4 : tie.Need-returns-4
+returns-4 c = search (feeding, needs)
+
+pub quicken-spec : {M : Type 1} → statement M
+quicken-spec =
+    tie.close
+    (tie.spec
+    enum-known-state
+    returns
+    enum-told
+    returns-2
+    returns-3
+    samples-run-requires
+    same-length
+    returns-4)

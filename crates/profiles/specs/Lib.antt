@@ -1,0 +1,6 @@
+pub mod Open
+pub mod Near
+pub mod Holds
+pub mod Reads
+pub mod Counts
+pub mod Quick

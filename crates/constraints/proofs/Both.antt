@@ -1,0 +1,171 @@
+-- The two walks together: the answer of the whole reading, and both tables. Assumes nothing.
+use Prim.Native.Nat.{ℕ, zero, suc, _+_, _*_, _/_, _≤_, _<_}
+use mathlib.Core.Path.{_≡_, refl, ap, sym, subst, _∙_}
+use mathlib.Core.Bool.{Bool, true, false}
+use mathlib.Core.List.{List, [], _∷_, _++_}
+use native.Mathlib.Omega.{arith}
+use native.Mathlib.Nat.{div-mul-le-self}
+use lib.ListN.{length, getD, drop}
+use lib.Seq.{drop-append-seam}
+use borrow.Author.Tests.{le-leb, lt-leb}
+use Rattle.rules.specs.Limits.{mostText, mostLegs, mostConstraints, legWidth, constraintWidth, trackWidth}
+use Rattle.rules.specs.Lists.{flat, over}
+use Rattle.rules.specs.Tokens.{tokensOf}
+use Rattle.rules.specs.Answers.{refusal, tooLong, constraintsFile, Reading, refused, good}
+use Rattle.rules.specs.Constraints.{Document, empty, start, plainRules, run, constraintsOf, constraintNumbers, trackNumbers}
+use Rattle.rules.specs.declared.sizes.Constraint.{Constraint}
+use Rattle.rules.specs.Verdict.{All}
+use Rattle.laws.specs.LawfulDocument.{LawfulConstraint, LawfulDocument}
+use Rattle.laws.proofs.Ordered.{OfKind}
+use Rattle.laws.proofs.Documents.{good-is-lawful}
+use Rattle.ids.specs.Column.{Records, column}
+use Rattle.constraints.specs.declared.steps.Counts.{Counts}
+use Rattle.constraints.specs.declared.walks.Walked.{Walked}
+use Rattle.constraints.specs.declared.walks.Walked.the-variants.{Good, Refused}
+use Rattle.constraints.specs.declared.Read.{Read}
+use Rattle.constraints.specs.declared.Read.the-variants.{Whole, Refused as NotRead}
+use Rattle.constraints.specs.Steps.{countsOf}
+use Rattle.constraints.specs.Tables.{nexts, startsOf, outcome, Filled, Walks, Able, reading, readOf, Tables, Reads}
+use Rattle.constraints.proofs.ByKind.{none, counted, all-counted, by-kind}
+
+kinds-known : (legs : List ℕ) (cs : List Constraint) → All (LawfulConstraint legs) cs → All OfKind cs
+kinds-known legs [] h = tt
+kinds-known legs (c ∷ cs) h =
+    (record { from-first-kind = h .0 .from-first-kind; to-last-kind = h .0 .to-last-kind }, kinds-known legs cs (h .1))
+
+over-twice : (w t : List ℕ) → over w (over w t) ≡ over w t
+unfolding over
+over-twice w t = rw (drop-append-seam w (drop (length w) t))
+
+never : {A : Type 0} (r : Walked) (number place : ℕ) (seen : Counts) → r ≡ Refused number place → r ≡ Good seen → A
+never r number place seen p q = let z : _≡_ {A = ℕ} 0 1 = cc in absurd (omega arith)
+
+read-one : {x y : Document} → good x ≡ good y → x ≡ y
+read-one q = cc
+
+module _ (text legs : List ℕ) (n : ℕ) (c t : List ℕ) where
+  -- ---- a text that is too long
+
+  pub reads-long : mostText < length text → Reads (reading text legs n c t) c t (NotRead tooLong 0) c t
+  unfolding constraintsOf
+  reads-long h =
+      let whole : reading text legs n c t ≡ refused (refusal tooLong constraintsFile 0) = rw (lt-leb (length text) mostText h) in
+      record { answer = sym (ap readOf whole); tables = λ d e. impossible (sym whole ∙ e) }
+    where
+      impossible : {A : Type 0} {d : Document} → refused (refusal tooLong constraintsFile 0) ≡ good d → A
+      impossible q = let z : _≡_ {A = ℕ} 0 1 = cc in absurd (omega arith)
+
+  module _ (short : length text ≤ mostText) where
+    same : reading text legs n c t ≡ outcome text legs n c t
+    unfolding constraintsOf
+    same = rw (le-leb (length text) mostText short)
+
+    -- ---- a document that was read
+
+    module _ (d : Document) (whole : outcome text legs n c t ≡ good d) where
+      lawful : LawfulDocument (column legWidth n legs) (length c / constraintWidth) (length t / trackWidth) d
+      lawful = good-is-lawful (column legWidth n legs) (length c / constraintWidth) (length t / trackWidth) plainRules text d (same ∙ whole)
+
+      known : All OfKind (d .constraints)
+      known = kinds-known (column legWidth n legs) (d .constraints) (lawful .tables .constraints-lawful .each)
+
+      room : length (d .constraints) * constraintWidth ≤ length c
+      room = omega (arith, lawful .tables .constraints-lawful .in-room, div-mul-le-self (length c) constraintWidth)
+
+      -- no more of four kinds than there may be in all
+      few : (counts : List ℕ) → counts ≡ nexts none (d .constraints)
+          → getD counts 1 0 + (getD counts 2 0 + (getD counts 3 0 + getD counts 4 0)) ≤ mostConstraints
+      few counts e =
+          rw e
+          (omega (
+            arith,
+            counted none (d .constraints) 1 (omega arith),
+            counted none (d .constraints) 2 (omega arith),
+            counted none (d .constraints) 3 (omega arith),
+            counted none (d .constraints) 4 (omega arith),
+            all-counted (d .constraints) known,
+            lawful .tables .constraints-lawful .in-limit,
+          ))
+
+      both : (r r₂ : Walked) (counts c₁ t₁ next c₂ t₂ : List ℕ) → Filled none false d c t r counts c₁ t₁
+          → Filled (startsOf counts) true d c₁ t₁ r₂ next c₂ t₂ → Tables d c t c₂ t₂
+      both r r₂ counts c₁ t₁ next c₂ t₂ f g =
+          record {
+            by-kind = g .table ∙ rw (f .table, f .places) (by-kind (d .constraints) known c room);
+            by-file = g .tracks ∙ rw (f .tracks) (over-twice (flat trackNumbers (d .tracks)) t);
+          }
+
+    -- ---- the first walk
+
+    module _ (r : Walked) (counts c₁ t₁ : List ℕ) (w : Walks none false (outcome text legs n c t) c t r counts c₁ t₁) where
+      pub reads-refused : (number place : ℕ) → r ≡ Refused number place → Reads (reading text legs n c t) c t (NotRead number place) c₁ t₁
+      unfolding Walks
+      reads-refused number place is = rw same (go (outcome text legs n c t) w)
+        where
+          go : (o : Reading Document) → Walks none false o c t r counts c₁ t₁ → Reads o c t (NotRead number place) c₁ t₁
+          go (refused x) q =
+              record { answer = cc (q, is); tables = λ d e. let z : _≡_ {A = ℕ} 0 1 = cc in absurd (omega arith) }
+          go (good d) q = never r number place (countsOf d) is (q .answer)
+
+      module _ (seen : Counts) (is : r ≡ Good seen) where
+        pub few-counted : getD counts 1 0 + (getD counts 2 0 + (getD counts 3 0 + getD counts 4 0)) ≤ mostConstraints
+        unfolding Walks
+        few-counted = go (outcome text legs n c t) refl w
+          where
+            go : (o : Reading Document) → outcome text legs n c t ≡ o → Walks none false o c t r counts c₁ t₁
+                → getD counts 1 0 + (getD counts 2 0 + (getD counts 3 0 + getD counts 4 0)) ≤ mostConstraints
+            go (refused x) e q = never r (x .number) (x .place) seen q is
+            go (good d) e q = few d e counts (q .places)
+
+        -- ---- and the second
+
+        pub reads-whole : (starts : List ℕ) (r₂ : Walked) (next c₂ t₂ : List ℕ) → starts ≡ startsOf counts → length c₁ ≡ length c → length t₁ ≡ length t
+            → Walks starts true (outcome text legs n c₁ t₁) c₁ t₁ r₂ next c₂ t₂
+            → Reads (reading text legs n c t) c t (Whole (seen .constraints) (seen .tracks) (seen .subnets)) c₂ t₂
+        unfolding Walks
+        reads-whole starts r₂ next c₂ t₂ at long-c long-t second = rw same (go (outcome text legs n c t) refl w again)
+          where
+            again : Walks (startsOf counts) true (outcome text legs n c t) c₁ t₁ r₂ next c₂ t₂
+            again =
+                subst (λ (k : ℕ). Walks (startsOf counts) true (run (column legWidth n legs) (length c / constraintWidth) (k / trackWidth) (start plainRules) empty (tokensOf text)) c₁ t₁ r₂ next c₂ t₂) long-t
+                (subst (λ (k : ℕ). Walks (startsOf counts) true (run (column legWidth n legs) (k / constraintWidth) (length t₁ / trackWidth) (start plainRules) empty (tokensOf text)) c₁ t₁ r₂ next c₂ t₂) long-c
+                (subst (λ (l : List ℕ). Walks l true (outcome text legs n c₁ t₁) c₁ t₁ r₂ next c₂ t₂) at second))
+
+            go : (o : Reading Document) → outcome text legs n c t ≡ o → Walks none false o c t r counts c₁ t₁
+                → Walks (startsOf counts) true o c₁ t₁ r₂ next c₂ t₂ → Reads o c t (Whole (seen .constraints) (seen .tracks) (seen .subnets)) c₂ t₂
+            go (refused x) e p q = never r (x .number) (x .place) seen p is
+            go (good d) e p q =
+                let seen-is : seen ≡ countsOf d = cc (p .answer, is) in
+                record {
+                  answer = ap (λ (x : Counts). Whole (x .constraints) (x .tracks) (x .subnets)) seen-is;
+                  tables = λ d′ g. subst (λ (x : Document). Tables x c t c₂ t₂) (read-one g) (both d e r r₂ counts c₁ t₁ next c₂ t₂ p q);
+                }
+
+-- ---- what the walks need
+
+pub able-first : (text legs : List ℕ) (n : ℕ) → length text ≤ mostText → Records legWidth n legs → n ≤ mostLegs → Able text legs n none
+able-first text legs n short there few =
+    record { short = short; legs-there = there; few-legs = few; low = λ k. low k }
+  where
+    low : (k : ℕ) → getD none k 0 ≤ mostConstraints
+    low zero = omega arith
+    low (suc zero) = omega arith
+    low (suc (suc zero)) = omega arith
+    low (suc (suc (suc zero))) = omega arith
+    low (suc (suc (suc (suc zero)))) = omega arith
+    low (suc (suc (suc (suc (suc zero))))) = omega arith
+    low (suc (suc (suc (suc (suc (suc k)))))) = omega arith
+
+pub able-second : (text legs : List ℕ) (n : ℕ) (counts starts : List ℕ) → length text ≤ mostText → Records legWidth n legs → n ≤ mostLegs
+    → getD counts 1 0 + (getD counts 2 0 + (getD counts 3 0 + getD counts 4 0)) ≤ mostConstraints → starts ≡ startsOf counts → Able text legs n starts
+able-second text legs n counts starts short there few h e =
+    record { short = short; legs-there = there; few-legs = few; low = λ k. rw e (low k) }
+  where
+    low : (k : ℕ) → getD (startsOf counts) k 0 ≤ mostConstraints
+    low zero = omega arith
+    low (suc zero) = omega arith
+    low (suc (suc zero)) = omega arith
+    low (suc (suc (suc zero))) = omega arith
+    low (suc (suc (suc (suc zero)))) = omega arith
+    low (suc (suc (suc (suc (suc zero))))) = omega arith
+    low (suc (suc (suc (suc (suc (suc k)))))) = omega arith

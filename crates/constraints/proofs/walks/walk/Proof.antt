@@ -1,0 +1,196 @@
+-- `constraints::walks::walk` meets its contract: between two tokens what is left of the run gives the whole run's outcome. Assumes nothing.
+use Prim.Native.Nat.{_-_}
+use Rattle.constraints.proofs.Going.{Going, able-at, ends-good, ends-refused, few, going-emit, going-listed, going-named, going-on, going-opened, going-start, id-room, nearer, next-long, next-low, ready, stepGoes, table-long, track-open, tracks-long}
+use borrow.Author.Needs.{needs}
+use lib.ListN.{length}
+use mathlib.Core.Path.{ap, refl}
+use native.Mathlib.Omega.{arith}
+use Rattle.constraints.proofs.walks.walk.Statement.{statement}
+use Rattle.constraints.proofs.walks.walk.Tie as tie
+
+abbrev Inv-loop : tie.InvT-loop
+Inv-loop text legs n constraints₀ tracks₀ next₀ write room seen₀ ids₀ st₀ at₀ constraints tracks next seen ids st at =
+    Going text legs n constraints₀ tracks₀ next₀ write at st seen ids next constraints tracks
+
+abbrev μ-loop : tie.MeasureT-loop
+μ-loop text legs n constraints₀ tracks₀ next₀ write room seen₀ ids₀ st₀ at₀ constraints tracks next seen ids st at =
+    length text - at
+
+of-requires : tie.Need-of-requires Inv-loop μ-loop
+of-requires c κs = search needs
+
+none-requires : tie.Need-none-requires Inv-loop μ-loop
+none-requires c κs = search needs
+
+starting-requires : tie.Need-starting-requires Inv-loop μ-loop
+starting-requires c κs = search needs
+
+loop-holds : tie.Need-loop-holds Inv-loop μ-loop
+loop-holds c = going-start _ _ _ _ _ _ _ _ _ (c .starting .ensures) (c .before .none .ensures)
+
+token-at-requires : tie.Need-token-at-requires Inv-loop μ-loop
+token-at-requires c κs = able-at _ _ _ _ _ _ _ (c .loop .inv) ((c .before .before .before .before .before .before .before .before .before) .pre)
+
+slice-aggregate-turn : tie.Need-slice-aggregate-turn Inv-loop μ-loop
+slice-aggregate-turn c = search needs
+
+turn-requires : tie.Need-turn-requires Inv-loop μ-loop
+turn-requires c κs = ready _ _ _ _ _ _ _ (c .before .before .before .loop .inv) _ ((c .before .before .before .before .before .before .before .before .before .before .before .before) .pre) (c .before .before .token-at .ensures)
+
+cast-at : tie.Need-cast-at Inv-loop μ-loop
+cast-at c = search needs
+
+enum-known-step : tie.Need-enum-known-step Inv-loop μ-loop
+enum-known-step c = search needs
+
+loop-less : tie.Need-loop-less Inv-loop μ-loop
+loop-less c = nearer _ _ _ _ _ _ _ (c .before .before .before .before .before .before .before .before .loop .inv) _ (c .before .before .before .before .before .before .before .token-at .ensures) (c .before .before .before .before .turn .result) _ _ (c .before .before .before .before .before .before .before .before .before .before .before .of .ensures .0) (c .before .before .before .before .before .before .before .before .before .before .before .of .ensures .1) (c .before .before .before .before .turn .ensures) (ap stepGoes (c .before .step .given .1))
+
+loop-again : tie.Need-loop-again Inv-loop μ-loop
+loop-again c = going-on _ _ _ _ _ _ _ (c .before .before .before .before .before .before .before .before .loop .inv) _ (c .before .before .before .before .before .before .before .token-at .ensures) _ _ _ (c .before .before .before .before .before .before .before .before .before .before .before .of .ensures .0) (c .before .before .before .before .before .before .before .before .before .before .before .of .ensures .1) (c .before .before .before .before .turn .ensures) _ (c .before .step .given .1)
+
+enum-known-step-2 : tie.Need-enum-known-step-2 Inv-loop μ-loop
+enum-known-step-2 c = search needs
+
+emit-requires : tie.Need-emit-requires Inv-loop μ-loop
+emit-requires c κs = next-low _ _ _ _ _ _ _ (c .before .before .before .before .before .before .before .before .before .before .loop .inv) ((c .before .before .before .before .before .before .before .before .before .before .before .before .before .before .before .before .before .before .before) .pre) _
+
+add-seen : tie.Need-add-seen Inv-loop μ-loop
+add-seen c = omega (arith, few _ _ _ _ _ _ _ (c .before .before .before .before .before .before .before .before .before .before .before .before .before .before .before .before .loop .inv) .constraints)
+
+loop-less-2 : tie.Need-loop-less-2 Inv-loop μ-loop
+loop-less-2 c = nearer _ _ _ _ _ _ _ (c .before .before .before .before .before .before .before .before .before .before .before .before .before .before .before .before .loop .inv) _ (c .before .before .before .before .before .before .before .before .before .before .before .before .before .before .before .token-at .ensures) (c .before .before .before .before .before .before .before .before .before .before .before .before .turn .result) _ _ (c .before .before .before .before .before .before .before .before .before .before .before .before .before .before .before .before .before .before .before .of .ensures .0) (c .before .before .before .before .before .before .before .before .before .before .before .before .before .before .before .before .before .before .before .of .ensures .1) (c .before .before .before .before .before .before .before .before .before .before .before .before .turn .ensures) (ap stepGoes (c .before .before .before .before .before .before .before .before .before .step2 .given .1))
+
+loop-again-2 : tie.Need-loop-again-2 Inv-loop μ-loop
+loop-again-2 c = going-emit _ _ _ _ _ _ _ (c .before .before .before .before .before .before .before .before .before .before .before .before .before .before .before .before .loop .inv) _ (c .before .before .before .before .before .before .before .before .before .before .before .before .before .before .before .token-at .ensures) _ _ _ (c .before .before .before .before .before .before .before .before .before .before .before .before .before .before .before .before .before .before .before .of .ensures .0) (c .before .before .before .before .before .before .before .before .before .before .before .before .before .before .before .before .before .before .before .of .ensures .1) (c .before .before .before .before .before .before .before .before .before .before .before .before .turn .ensures) _ _ _ (c .before .before .before .before .before .before .before .before .before .step2 .given .1) (c .before .before .before .before .before .emit .ensures .0) (c .before .before .before .before .before .emit .ensures .1)
+
+enum-known-step-3 : tie.Need-enum-known-step-3 Inv-loop μ-loop
+enum-known-step-3 c = search needs
+
+add-seen-2 : tie.Need-add-seen-2 Inv-loop μ-loop
+add-seen-2 c = omega (arith, few _ _ _ _ _ _ _ (c .before .before .before .before .before .before .before .before .before .loop .inv) .subnets)
+
+loop-less-3 : tie.Need-loop-less-3 Inv-loop μ-loop
+loop-less-3 c = nearer _ _ _ _ _ _ _ (c .before .before .before .before .before .before .before .before .before .loop .inv) _ (c .before .before .before .before .before .before .before .before .token-at .ensures) (c .before .before .before .before .before .turn .result) _ _ (c .before .before .before .before .before .before .before .before .before .before .before .before .of .ensures .0) (c .before .before .before .before .before .before .before .before .before .before .before .before .of .ensures .1) (c .before .before .before .before .before .turn .ensures) (ap stepGoes (c .before .before .step3 .given .1))
+
+loop-again-3 : tie.Need-loop-again-3 Inv-loop μ-loop
+loop-again-3 c = going-opened _ _ _ _ _ _ _ (c .before .before .before .before .before .before .before .before .before .loop .inv) _ (c .before .before .before .before .before .before .before .before .token-at .ensures) _ _ _ (c .before .before .before .before .before .before .before .before .before .before .before .before .of .ensures .0) (c .before .before .before .before .before .before .before .before .before .before .before .before .of .ensures .1) (c .before .before .before .before .before .turn .ensures) _ (c .before .before .step3 .given .1)
+
+enum-known-step-4 : tie.Need-enum-known-step-4 Inv-loop μ-loop
+enum-known-step-4 c = search needs
+
+mul-ids : tie.Need-mul-ids Inv-loop μ-loop
+mul-ids c = omega (arith, id-room _ _ _ _ _ _ _ (c .before .before .before .before .before .before .before .before .loop .inv) _ (c .before .before .before .before .before .before .before .token-at .ensures) _ _ _ (c .before .before .before .before .before .before .before .before .before .before .before .of .ensures .0) (c .before .before .before .before .before .before .before .before .before .before .before .of .ensures .1) (c .before .before .before .before .turn .ensures) _ _ (c .before .step4 .given .1))
+
+array-write-ids : tie.Need-array-write-ids Inv-loop μ-loop
+array-write-ids c = omega (arith, id-room _ _ _ _ _ _ _ (c .before .before .before .before .before .before .before .before .loop .inv) _ (c .before .before .before .before .before .before .before .token-at .ensures) _ _ _ (c .before .before .before .before .before .before .before .before .before .before .before .of .ensures .0) (c .before .before .before .before .before .before .before .before .before .before .before .of .ensures .1) (c .before .before .before .before .turn .ensures) _ _ (c .before .step4 .given .1), c .before .before .before .before .before .before .before .before .loop .inv .ids-long)
+
+add-seen-3 : tie.Need-add-seen-3 Inv-loop μ-loop
+add-seen-3 c = omega (arith, few _ _ _ _ _ _ _ (c .before .before .before .before .before .before .before .before .loop .inv) .ids)
+
+loop-less-4 : tie.Need-loop-less-4 Inv-loop μ-loop
+loop-less-4 c = nearer _ _ _ _ _ _ _ (c .before .before .before .before .before .before .before .before .loop .inv) _ (c .before .before .before .before .before .before .before .token-at .ensures) (c .before .before .before .before .turn .result) _ _ (c .before .before .before .before .before .before .before .before .before .before .before .of .ensures .0) (c .before .before .before .before .before .before .before .before .before .before .before .of .ensures .1) (c .before .before .before .before .turn .ensures) (ap stepGoes (c .before .step4 .given .1))
+
+loop-again-4 : tie.Need-loop-again-4 Inv-loop μ-loop
+loop-again-4 c = going-named _ _ _ _ _ _ _ (c .before .before .before .before .before .before .before .before .loop .inv) _ (c .before .before .before .before .before .before .before .token-at .ensures) _ _ _ (c .before .before .before .before .before .before .before .before .before .before .before .of .ensures .0) (c .before .before .before .before .before .before .before .before .before .before .before .of .ensures .1) (c .before .before .before .before .turn .ensures) _ _ _ (c .before .step4 .given .1) refl
+
+enum-known-step-5 : tie.Need-enum-known-step-5 Inv-loop μ-loop
+enum-known-step-5 c = search needs
+
+sub-put-track : tie.Need-sub-put-track Inv-loop μ-loop
+sub-put-track c = omega (arith, track-open _ _ _ _ _ _ _ (c .before .before .before .before .before .before .before .before .before .before .loop .inv) _ (c .before .before .before .before .before .before .before .before .before .token-at .ensures) _ _ _ (c .before .before .before .before .before .before .before .before .before .before .before .before .before .of .ensures .0) (c .before .before .before .before .before .before .before .before .before .before .before .before .before .of .ensures .1) (c .before .before .before .before .before .before .turn .ensures) _ _ (c .before .before .before .step5 .given .1))
+
+cast-put-track : tie.Need-cast-put-track Inv-loop μ-loop
+cast-put-track c = omega (arith, few _ _ _ _ _ _ _ (c .before .before .before .before .before .before .before .before .before .before .loop .inv) .subnets)
+
+put-track-requires : tie.Need-put-track-requires Inv-loop μ-loop
+put-track-requires c κs = few _ _ _ _ _ _ _ (c .before .before .before .before .before .before .before .before .before .before .loop .inv) .tracks
+
+add-seen-4 : tie.Need-add-seen-4 Inv-loop μ-loop
+add-seen-4 c = omega (arith, few _ _ _ _ _ _ _ (c .before .before .before .before .before .before .before .before .before .before .before .before .before .before .loop .inv) .tracks)
+
+loop-less-5 : tie.Need-loop-less-5 Inv-loop μ-loop
+loop-less-5 c = nearer _ _ _ _ _ _ _ (c .before .before .before .before .before .before .before .before .before .before .before .before .before .before .loop .inv) _ (c .before .before .before .before .before .before .before .before .before .before .before .before .before .token-at .ensures) (c .before .before .before .before .before .before .before .before .before .before .turn .result) _ _ (c .before .before .before .before .before .before .before .before .before .before .before .before .before .before .before .before .before .of .ensures .0) (c .before .before .before .before .before .before .before .before .before .before .before .before .before .before .before .before .before .of .ensures .1) (c .before .before .before .before .before .before .before .before .before .before .turn .ensures) (ap stepGoes (c .before .before .before .before .before .before .before .step5 .given .1))
+
+loop-again-5 : tie.Need-loop-again-5 Inv-loop μ-loop
+loop-again-5 c = going-listed _ _ _ _ _ _ _ (c .before .before .before .before .before .before .before .before .before .before .before .before .before .before .loop .inv) _ (c .before .before .before .before .before .before .before .before .before .before .before .before .before .token-at .ensures) _ _ _ (c .before .before .before .before .before .before .before .before .before .before .before .before .before .before .before .before .before .of .ensures .0) (c .before .before .before .before .before .before .before .before .before .before .before .before .before .before .before .before .before .of .ensures .1) (c .before .before .before .before .before .before .before .before .before .before .turn .ensures) _ _ _ (c .before .before .before .before .before .before .before .step5 .given .1) (c .before .before .before .put-track .ensures)
+
+enum-told : tie.Need-enum-told Inv-loop μ-loop
+enum-told c = search needs
+
+same-length : tie.Need-same-length Inv-loop μ-loop
+same-length c = table-long _ _ _ _ _ _ _ (c .before .before .before .before .before .before .before .loop .inv)
+
+same-length-2 : tie.Need-same-length-2 Inv-loop μ-loop
+same-length-2 c = tracks-long _ _ _ _ _ _ _ (c .before .before .before .before .before .before .before .loop .inv)
+
+same-length-3 : tie.Need-same-length-3 Inv-loop μ-loop
+same-length-3 c = next-long _ _ _ _ _ _ _ (c .before .before .before .before .before .before .before .loop .inv)
+
+returns : tie.Need-returns Inv-loop μ-loop
+returns c = ends-good _ _ _ _ _ _ _ (c .before .before .before .before .before .before .before .loop .inv) _ (c .before .before .before .before .before .before .token-at .ensures) _ _ _ (c .before .before .before .before .before .before .before .before .before .before .of .ensures .0) (c .before .before .before .before .before .before .before .before .before .before .of .ensures .1) (c .before .before .before .turn .ensures) _ (c .enum-told .given .1)
+
+enum-known-step-6 : tie.Need-enum-known-step-6 Inv-loop μ-loop
+enum-known-step-6 c = search needs
+
+same-length-4 : tie.Need-same-length-4 Inv-loop μ-loop
+same-length-4 c = table-long _ _ _ _ _ _ _ (c .before .before .before .before .before .before .before .before .loop .inv)
+
+same-length-5 : tie.Need-same-length-5 Inv-loop μ-loop
+same-length-5 c = tracks-long _ _ _ _ _ _ _ (c .before .before .before .before .before .before .before .before .loop .inv)
+
+same-length-6 : tie.Need-same-length-6 Inv-loop μ-loop
+same-length-6 c = next-long _ _ _ _ _ _ _ (c .before .before .before .before .before .before .before .before .loop .inv)
+
+returns-2 : tie.Need-returns-2 Inv-loop μ-loop
+returns-2 c = ends-refused _ _ _ _ _ _ _ (c .before .before .before .before .before .before .before .before .loop .inv) _ (c .before .before .before .before .before .before .before .token-at .ensures) _ _ _ (c .before .before .before .before .before .before .before .before .before .before .before .of .ensures .0) (c .before .before .before .before .before .before .before .before .before .before .before .of .ensures .1) (c .before .before .before .before .turn .ensures) _ _ (c .before .step6 .given .1)
+
+pub walk-spec : {M : Type 1} → statement M
+walk-spec =
+    tie.close
+    (tie.spec
+    Inv-loop
+    μ-loop
+    of-requires
+    none-requires
+    starting-requires
+    loop-holds
+    token-at-requires
+    slice-aggregate-turn
+    turn-requires
+    cast-at
+    enum-known-step
+    loop-less
+    loop-again
+    enum-known-step-2
+    emit-requires
+    add-seen
+    loop-less-2
+    loop-again-2
+    enum-known-step-3
+    add-seen-2
+    loop-less-3
+    loop-again-3
+    enum-known-step-4
+    mul-ids
+    array-write-ids
+    add-seen-3
+    loop-less-4
+    loop-again-4
+    enum-known-step-5
+    sub-put-track
+    cast-put-track
+    put-track-requires
+    add-seen-4
+    loop-less-5
+    loop-again-5
+    enum-told
+    same-length
+    same-length-2
+    same-length-3
+    returns
+    enum-known-step-6
+    same-length-4
+    same-length-5
+    same-length-6
+    returns-2)

@@ -1,0 +1,90 @@
+-- What a walk over the text leaves in the tables, and what a reading of constraints.json answers.
+use Prim.Native.Nat.{ℕ, _+_, _*_, _/_, _≤_, _<_}
+use mathlib.Core.Path.{_≡_}
+use mathlib.Core.Bool.{Bool, cond}
+use mathlib.Core.List.{List, [], _∷_}
+use lib.ListN.{length, getD, set}
+use lib.Seq.{sets}
+use Rattle.rules.specs.Limits.{mostText, mostLegs, mostConstraints, legWidth, constraintWidth, trackWidth}
+use Rattle.rules.specs.Lists.{flat, over}
+use Rattle.rules.specs.Answers.{Reading, refused, good}
+use Rattle.rules.specs.Tokens.{tokensOf}
+use Rattle.rules.specs.Constraints.{Document, empty, start, plainRules, run, constraintsOf, ordered, constraintNumbers, trackNumbers}
+use Rattle.rules.specs.declared.sizes.Constraint.{Constraint}
+use Rattle.ids.specs.Column.{Records, column}
+use Rattle.constraints.specs.Steps.{countsOf}
+use Rattle.constraints.specs.declared.walks.Walked.{Walked}
+use Rattle.constraints.specs.declared.walks.Walked.the-variants.{Good, Refused}
+use Rattle.constraints.specs.declared.Read.{Read}
+use Rattle.constraints.specs.declared.Read.the-variants.{Whole, Refused as NotRead}
+
+-- ---- the constraint table, entry by entry: each kind has its next place
+
+abbrev pub bumped : (next : List ℕ) → (kind : ℕ) → List ℕ
+bumped next kind = set next kind (getD next kind 0 + 1)
+
+abbrev pub nexts : (next : List ℕ) → List Constraint → List ℕ
+nexts next [] = next
+nexts next (c ∷ cs) = nexts (bumped next (c .kind)) cs
+
+-- an entry goes to the next place of its kind
+abbrev pub placed : (next : List ℕ) → Constraint → (table : List ℕ) → List ℕ
+placed next c table = sets table (getD next (c .kind) 0 * constraintWidth) (constraintNumbers c)
+
+abbrev pub writes : (next table : List ℕ) → List Constraint → List ℕ
+writes next table [] = table
+writes next table (c ∷ cs) = writes (bumped next (c .kind)) (placed next c table) cs
+
+abbrev pub written : (write : Bool) → (next table : List ℕ) → List Constraint → List ℕ
+written write next table cs = cond write (writes next table cs) table
+
+-- kinds 1 to 5 by how many each has: where each starts
+abbrev pub startsOf : List ℕ → List ℕ
+startsOf counts =
+    let n : ℕ → ℕ = λ k. getD counts k 0 in
+    0 ∷ 0 ∷ n 1 ∷ (n 1 + n 2) ∷ (n 1 + n 2 + n 3) ∷ (n 1 + n 2 + n 3 + n 4) ∷ []
+
+-- ---- a walk
+
+-- what a text of at most the greatest length says, with these legs and this room
+abbrev pub outcome : (text legs : List ℕ) (n : ℕ) (constraints tracks : List ℕ) → Reading Document
+outcome text legs n constraints tracks =
+    run (column legWidth n legs) (length constraints / constraintWidth) (length tracks / trackWidth) (start plainRules) empty (tokensOf text)
+
+-- the next places and the tables c and t before, those and c′ and t′ after
+pub record Filled (starts : List ℕ) (write : Bool) (d : Document) (c t : List ℕ) (r : Walked) (next c′ t′ : List ℕ) : Type 0 where
+  pub answer : r ≡ Good (countsOf d)
+  pub places : next ≡ nexts starts (d .constraints)
+  pub table : c′ ≡ written write starts c (d .constraints)
+  pub tracks : t′ ≡ over (flat trackNumbers (d .tracks)) t
+
+unfoldable pub Walks : (starts : List ℕ) (write : Bool) → Reading Document → (c t : List ℕ) → Walked → (next c′ t′ : List ℕ) → Type 0
+Walks starts write (refused x) c t r next c′ t′ = r ≡ Refused (x .number) (x .place)
+Walks starts write (good d) c t r next c′ t′ = Filled starts write d c t r next c′ t′
+
+-- what a walk needs: a text that is not too long, the legs that are said to be there, places that are not past all limits
+pub record Able (text legs : List ℕ) (n : ℕ) (starts : List ℕ) : Type 0 where
+  pub short : length text ≤ mostText
+  pub legs-there : Records legWidth n legs
+  pub few-legs : n ≤ mostLegs
+  pub low : (k : ℕ) → getD starts k 0 ≤ mostConstraints
+
+-- ---- the whole reading
+
+abbrev pub readOf : Reading Document → Read
+readOf (refused x) = NotRead (x .number) (x .place)
+readOf (good d) = Whole (length (d .constraints)) (length (d .tracks)) (d .opened)
+
+abbrev pub reading : (text legs : List ℕ) (n : ℕ) (constraints tracks : List ℕ) → Reading Document
+reading text legs n constraints tracks =
+    constraintsOf (column legWidth n legs) (length constraints / constraintWidth) (length tracks / trackWidth) plainRules text
+
+-- by kind and then by file; tracks in file order; what lies past them keeps its contents
+pub record Tables (d : Document) (c t c′ t′ : List ℕ) : Type 0 where
+  pub by-kind : c′ ≡ over (flat constraintNumbers (ordered (d .constraints))) c
+  pub by-file : t′ ≡ over (flat trackNumbers (d .tracks)) t
+
+-- the answer always, the tables where the text was read
+pub record Reads (o : Reading Document) (c t : List ℕ) (r : Read) (c′ t′ : List ℕ) : Type 0 where
+  pub answer : r ≡ readOf o
+  pub tables : (d : Document) → o ≡ good d → Tables d c t c′ t′

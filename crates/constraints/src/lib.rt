@@ -1,0 +1,50 @@
+// constraints.json read into its two tables, and 15 over the timetable's rows.
+ghost use Prim.Native.Nat.{_≤_};
+ghost use Rattle.rules.specs.Limits.{legWidth, mostLegs};
+ghost use Rattle.ids.specs.Column.{Records};
+ghost use Rattle.constraints.specs.Tables.{reading, Reads};
+use rules::answers::Refusal;
+use rules::sizes::Text;
+use tables::starts_of;
+use walks::Walked;
+use walks::walk;
+
+pub mod actions; // what a token does in a phase
+pub mod steps; // each action
+pub mod turns; // one token
+pub mod tables; // entries into the lent tables
+pub mod walks; // the whole text
+pub mod subnets; // 15
+
+// What a reading comes to.
+pub enum Read {
+    // How many constraints, tracks and subnets.
+    Whole(usize, usize, usize),
+    // A number and a place.
+    Refused(u8, u32),
+}
+
+// The first walk judges the text, writes the tracks and counts the constraints of each kind; the second writes the constraints.
+pub fn read_constraints(
+    text: &[u8],
+    legs: &[u32],
+    n: usize,
+    constraints: &mut [u32],
+    tracks: &mut [u32],
+) -> Read
+    requires { ⌜ Records legWidth n (now legs) × (n ≤ mostLegs) ⌝ }
+    ensures { λ r. ⌜ Reads (reading (now (text .entry)) (now (legs .entry)) n (now (constraints .entry)) (now (tracks .entry))) (now (constraints .entry)) (now (tracks .entry)) r (now (constraints .exit)) (now (tracks .exit)) ⌝ }
+{
+    if Text::MOST < text.len() {
+        return Read::Refused(Refusal::TOO_LONG, 0);
+    }
+    let mut counts = [0usize; 6];
+    match walk(text, legs, n, constraints, tracks, &mut counts, false) {
+        Walked::Refused(number, place) => Read::Refused(number, place),
+        Walked::Good(seen) => {
+            let mut next = starts_of(counts);
+            walk(text, legs, n, constraints, tracks, &mut next, true);
+            Read::Whole(seen.constraints, seen.tracks, seen.subnets)
+        }
+    }
+}

@@ -1,0 +1,96 @@
+// Entries written into the lent tables. What has no room there is not written.
+ghost use mathlib.Core.Path.{_≡_};
+ghost use mathlib.Core.Bool.{cond};
+ghost use mathlib.Core.List.{[], _∷_};
+ghost use Prim.Native.Nat.{_+_, _*_, _≤_};
+ghost use lib.ListN.{getD, set};
+ghost use lib.Seq.{sets};
+ghost use Rattle.rules.specs.Limits.{constraintWidth, trackWidth, mostConstraints, mostTracks};
+ghost use Rattle.rules.specs.Constraints.{constraintNumbers};
+ghost use Rattle.constraints.specs.Tables.{bumped, placed, startsOf};
+use rules::sizes::Constraint;
+use rules::sizes::Track;
+
+fn put_number(table: &mut [u32], i: usize, n: u32)
+    ensures { λ r. ⌜ now (table .exit) ≡ set (now (table .entry)) i n ⌝ }
+{
+    if i < table.len() {
+        table[i] = n;
+    }
+}
+
+fn put_constraint(table: &mut [u32], place: usize, c: Constraint)
+    requires { ⌜ place ≤ mostConstraints + mostConstraints ⌝ }
+    ensures { λ r. ⌜ now (table .exit) ≡ sets (now (table .entry)) (place * constraintWidth) (constraintNumbers c) ⌝ }
+{
+    let i = place * Constraint::WIDTH;
+    put_number(table, i, c.kind);
+    put_number(table, i + 1, c.first);
+    put_number(table, i + 2, c.second);
+    put_number(table, i + 3, c.low);
+    put_number(table, i + 4, c.high);
+    put_number(table, i + 5, c.connection);
+}
+
+// The first walk writes no constraints.
+fn put_if(write: bool, table: &mut [u32], place: usize, c: Constraint)
+    requires { ⌜ place ≤ mostConstraints + mostConstraints ⌝ }
+    ensures { λ r. ⌜ now (table .exit) ≡ cond write (sets (now (table .entry)) (place * constraintWidth) (constraintNumbers c)) (now (table .entry)) ⌝ }
+{
+    if write {
+        put_constraint(table, place, c);
+    }
+}
+
+pub fn put_track(table: &mut [u32], place: usize, id: u32, subnet: u32)
+    requires { ⌜ place ≤ mostTracks ⌝ }
+    ensures { λ r. ⌜ now (table .exit) ≡ sets (now (table .entry)) (place * trackWidth) (id ∷ subnet ∷ []) ⌝ }
+{
+    let i = place * Track::WIDTH;
+    put_number(table, i, id);
+    put_number(table, i + 1, subnet);
+}
+
+// The next place of a kind.
+fn next_of(next: &[usize], kind: u32) -> usize
+    ensures { λ r. ⌜ r ≡ getD (now (next .entry)) kind 0 ⌝ }
+{
+    let k = kind as usize;
+    if k < next.len() {
+        return next[k];
+    }
+    0
+}
+
+// That place is taken.
+fn bump(next: &mut [usize], kind: u32)
+    requires { ⌜ getD (now next) kind 0 ≤ mostConstraints + mostConstraints ⌝ }
+    ensures { λ r. ⌜ now (next .exit) ≡ bumped (now (next .entry)) kind ⌝ }
+{
+    let k = kind as usize;
+    if k < next.len() {
+        next[k] = next[k] + 1;
+    }
+}
+
+// A constraint goes to the next place of its kind.
+pub fn emit(write: bool, table: &mut [u32], next: &mut [usize], c: Constraint)
+    requires { ⌜ getD (now next) (c .kind) 0 ≤ mostConstraints + mostConstraints ⌝ }
+    ensures { λ r. ⌜ (now (table .exit) ≡ cond write (placed (now (next .entry)) c (now (table .entry))) (now (table .entry))) × (now (next .exit) ≡ bumped (now (next .entry)) (c .kind)) ⌝ }
+{
+    let place = next_of(&next[..], c.kind);
+    put_if(write, table, place, c);
+    bump(next, c.kind);
+}
+
+// Kinds 1 to 5 by how many each has: where each starts.
+pub fn starts_of(counts: [usize; 6]) -> [usize; 6]
+    requires { ⌜ getD counts 1 0 + (getD counts 2 0 + (getD counts 3 0 + getD counts 4 0)) ≤ mostConstraints ⌝ }
+    ensures { λ r. ⌜ r ≡ startsOf counts ⌝ }
+{
+    let second = counts[1];
+    let third = second + counts[2];
+    let fourth = third + counts[3];
+    let fifth = fourth + counts[4];
+    [0, 0, second, third, fourth, fifth]
+}

@@ -1,0 +1,3 @@
+pub mod Scan
+pub mod Here
+pub mod Chosen

@@ -1,0 +1,4 @@
+pub mod Quotient
+pub mod Tabulated
+pub mod Views
+pub mod Offers

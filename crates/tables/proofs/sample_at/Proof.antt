@@ -1,0 +1,22 @@
+-- `tables::sample_at` meets its contract: what lies past the end reads as 0. Assumes nothing.
+use lib.IntN.{pos}
+use mathlib.Core.Path.{sym}
+use lib.ListN.{List·getD-eq-default}
+use borrow.Author.Needs.{needs}
+use Rattle.tables.proofs.sample_at.Statement.{statement}
+use Rattle.tables.proofs.sample_at.Tie as tie
+
+mul-result : tie.Need-mul-result
+mul-result c = search needs
+
+shared-slice-copy-out-result : tie.Need-shared-slice-copy-out-result
+shared-slice-copy-out-result c = search needs
+
+returns : tie.Need-returns
+returns c = search needs
+
+returns-2 : tie.Need-returns-2
+returns-2 c = sym (List·getD-eq-default (c .before .args .t .now) (pos 0) (c .if1 .left))
+
+pub sample-at-spec : {M : Type 1} → statement M
+sample-at-spec = tie.close (tie.spec mul-result shared-slice-copy-out-result returns returns-2)

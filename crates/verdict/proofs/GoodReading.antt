@@ -1,0 +1,100 @@
+-- What is read without refusal keeps the limits that the walk asks for, and has a choice for each row. Assumes nothing.
+use Prim.Native.Nat.{ℕ, suc, _/_, _≤_}
+use native.Mathlib.Omega.{arith}
+use mathlib.Core.Path.{_≡_, refl, sym, ap, _∙_, subst}
+use mathlib.Core.Bool.{Bool, true, false, cond}
+use mathlib.Core.List.{List, [], _∷_}
+use mathlib.Core.Option.{none, some}
+use lib.ListN.{length, length-map}
+use Rattle.rules.specs.Limits.{mostLegs, constraintWidth, trackWidth}
+use Rattle.rules.specs.Answers.{good}
+use Rattle.rules.specs.Rows.{placeOfRow}
+use Rattle.rules.specs.Timetable.{Row, choicesOf}
+use Rattle.rules.specs.Constraints.{plainRules, ordered}
+use Rattle.rules.specs.Reading.{Rooms, Texts, Files, legIds, filesOf, sameLeg, differsFrom, choicesRead}
+use Rattle.rules.specs.Verdict.{All, verdict, answerOf}
+use Rattle.rules.specs.Entries.{Tables, writtenTables, writtenChoices, verdictOf}
+use Rattle.rules.specs.declared.sizes.Configuration.{Configuration}
+use Rattle.rules.proofs.Truth.{all-map}
+use Rattle.laws.specs.LawfulDocument.{LawfulConstraint, LawfulDocument}
+use Rattle.laws.specs.WellFormed.{KeptRow}
+use Rattle.laws.proofs.All.{all-mapped}
+use Rattle.laws.proofs.Documents.{good-is-lawful}
+use Rattle.laws.proofs.GoodFiles.{files-good, GoodChoices, choices-good}
+use Rattle.laws.proofs.LawfulRows.{rows-kept, legs-most}
+use Rattle.laws.proofs.Ordered.{ordered-keeps, table-length}
+use Rattle.tables.specs.View.{offersIn, constraintsIn, configurationsIn}
+use Rattle.verdict.specs.Within.{Timely, Brief, Within}
+use Rattle.verdict.proofs.Written.{verdict-written, within-written}
+
+-- rows that do not differ are as many
+same-many : (n : ℕ) (text : List ℕ) (draft solution : List Row) → differsFrom n text draft solution ≡ none → length solution ≡ length draft
+same-many n text [] [] e = refl
+same-many n text [] (b ∷ bs) e = let z : _≡_ {A = ℕ} 0 1 = cc in absurd (omega arith)
+same-many n text (a ∷ r) [] e = let z : _≡_ {A = ℕ} 0 1 = cc in absurd (omega arith)
+same-many n text (a ∷ r) (b ∷ bs) e = go (sameLeg a b) e (same-many (suc n) text r bs)
+  where
+    go : (t : Bool) → cond t (differsFrom (suc n) text r bs) (some (placeOfRow text n)) ≡ none
+        → (differsFrom (suc n) text r bs ≡ none → length bs ≡ length r) → suc (length bs) ≡ suc (length r)
+    go true e more = ap suc (more e)
+    go false e more = let z : _≡_ {A = ℕ} 0 1 = cc in absurd (omega arith)
+
+module _ (H : ℕ) (x : Texts) (room : Rooms) (files : Files) (read : filesOf H x room ≡ good files) where
+  abbrev constraintRoom : ℕ
+  constraintRoom = room .constraints / constraintWidth
+
+  abbrev trackRoom : ℕ
+  trackRoom = room .tracks / trackWidth
+
+  document-lawful : LawfulDocument (legIds (files .rows)) constraintRoom trackRoom (files .document)
+  document-lawful =
+      good-is-lawful (legIds (files .rows)) constraintRoom trackRoom plainRules (x .constraints) (files .document)
+      (files-good H x room files read .constraints)
+
+  module _ (file choiceRoom : ℕ) (text : List ℕ) (s : List Configuration) (chosen : choicesRead H files file choiceRoom text ≡ good s) where
+    solution : GoodChoices H files choiceRoom text s
+    solution = choices-good H files file choiceRoom text s chosen
+
+    many : length s ≡ length (solution .rows)
+    many = ap length (sym (solution .choices)) ∙ length-map (solution .rows) (λ r. r .nominal)
+
+    -- a choice for each row of the draft
+    pub choices-many : length s ≡ length (files .rows)
+    choices-many = many ∙ same-many 0 text (files .rows) (solution .rows) (solution .matches)
+
+    timely : All Timely (choicesOf (solution .rows))
+    timely =
+        all-mapped Timely (λ (r : Row). r .nominal) (solution .rows)
+        (all-map (KeptRow H) (λ (r : Row). Timely (r .nominal)) (λ r k. omega (arith, k .nominalIn .ends, files-good H x room files read .horizon .1))
+        (solution .rows) (rows-kept H (solution .rows) (solution .solution .lawful)))
+
+    -- the limits of document 01
+    pub choices-within : Within (ordered (files .document .constraints)) s
+    choices-within =
+        let cs = files .document .constraints in
+        let lawful = document-lawful .tables .constraints-lawful in
+        record {
+          rows = subst (λ n. n ≤ mostLegs) (sym many) (legs-most H (solution .rows) (solution .solution .lawful));
+          records =
+              omega (arith, lawful .in-limit, table-length (legIds (files .rows)) constraintRoom trackRoom (files .document) document-lawful);
+          timely = subst (All Timely) (solution .choices) timely;
+          brief =
+              ordered-keeps Brief cs
+              (all-map (LawfulConstraint (legIds (files .rows))) Brief (λ c k. (k .low-in-range, k .high-in-range)) cs (lawful .each));
+        }
+
+    -- ---- the tables that the readers leave: n rows and m records were counted
+
+    module _ (t : Tables) (c : List ℕ) (n m : ℕ) (rows : length (files .rows) ≡ n) (records : length (files .document .constraints) ≡ m) where
+      records-many : length (ordered (files .document .constraints)) ≡ m
+      records-many = table-length (legIds (files .rows)) constraintRoom trackRoom (files .document) document-lawful ∙ records
+
+      -- what `judge` asks for
+      pub tables-within : Within (constraintsIn m (writtenTables files t .constraints)) (configurationsIn n (writtenChoices s c))
+      tables-within = within-written files s t c n m rows (choices-many ∙ rows) records-many choices-within
+
+      -- what it answers is the answer of the entries' definition
+      pub tables-judged : (named : ℕ)
+          → answerOf named (verdict (offersIn n (writtenTables files t .legs) (writtenTables files t .configurations)) (constraintsIn m (writtenTables files t .constraints)) (configurationsIn n (writtenChoices s c)))
+          ≡ answerOf named (verdictOf files s)
+      tables-judged = verdict-written files s t c n m rows (choices-many ∙ rows) records-many

@@ -1,0 +1,124 @@
+-- One inequality by its anchors, and the inequalities of a row of the table of kinds up to the first that fails. Assumes nothing.
+use Prim.Native.Nat.{ℕ, zero, suc, _+_, _-_, _≤_, _<_}
+use native.Mathlib.Omega.{arith}
+use mathlib.Core.Path.{_≡_, refl, sym, ap, ap₂, _∙_}
+use mathlib.Core.Bool.{Bool, true, false, cond}
+use mathlib.Core.List.{[], _∷_}
+use lib.Dec.{leb, eqb}
+use lib.ListN.{take, getD}
+use lib.Seq.{take-nil}
+use borrow.Author.Tests.{le-leb, lt-leb, eq-eqb, ne-eqb}
+use Rattle.rules.specs.Kinds.{Inequality, _≤?_, noAnchor, latest, firstLeg, secondLeg, measured, byAnchor, byAnchors}
+use Rattle.rules.specs.declared.kinds.Kind.{Kind}
+use Rattle.rules.specs.declared.sizes.Configuration.{Configuration}
+use Rattle.rules.specs.declared.sizes.Constraint.{Constraint}
+use Rattle.verdict.specs.Found.{shortfallOf, findingFrom, findingOf}
+use Rattle.verdict.specs.declared.records.Finding.{Finding}
+use Rattle.verdict.specs.declared.records.Finding.the-variants.{Kept, Fails}
+
+-- ---- one inequality: a and b are the times of its two legs, s the shortfall that was made of them
+
+module _ (keys first second low high type : ℕ) (one two : Configuration) (a b s : ℕ)
+    (ea : a ≡ measured first type one) (eb : b ≡ measured second type two) where
+  abbrev by : Bool → Bool → ℕ
+  by upper alone =
+      let x : ℕ = measured first type one in
+      let y : ℕ = measured second type two in
+      shortfallOf (cond upper (y ≤? x + high) (cond alone x (x + low) ≤? y))
+
+  -- what bounds the second leg from above
+  pub by-latest : first ≡ latest → s ≡ b - (a + high) → s ≡ shortfallOf (byAnchor keys first second low high type one two)
+  by-latest e es =
+      es ∙ ap₂ (λ x y. y - (x + high)) ea eb ∙ sym (ap (λ p. by p (eqb keys (firstLeg + secondLeg))) (eq-eqb first latest e))
+
+  -- the kind has no further keys
+  pub by-legs : (first ≡ latest → ⊥) → keys ≡ firstLeg + secondLeg → s ≡ a - b
+      → s ≡ shortfallOf (byAnchor keys first second low high type one two)
+  by-legs n e es = es ∙ ap₂ (λ x y. x - y) ea eb ∙ sym (ap₂ by (ne-eqb first latest n) (eq-eqb keys (firstLeg + secondLeg) e))
+
+  -- with its least seconds
+  pub by-least : (first ≡ latest → ⊥) → (keys ≡ firstLeg + secondLeg → ⊥) → s ≡ a + low - b
+      → s ≡ shortfallOf (byAnchor keys first second low high type one two)
+  by-least n e es = es ∙ ap₂ (λ x y. x + low - y) ea eb ∙ sym (ap₂ by (ne-eqb first latest n) (ne-eqb keys (firstLeg + secondLeg) e))
+
+-- ---- the first inequality of a row that fails: s and r are the shortfalls of its two
+
+holds : (q : Inequality) (s : ℕ) → s ≡ shortfallOf q → s ≤ 0 → leb (q .left) (q .right) ≡ true
+holds q s e h = le-leb (q .left) (q .right) (omega arith)
+
+fails : (q : Inequality) (s : ℕ) → s ≡ shortfallOf q → 0 < s → leb (q .left) (q .right) ≡ false
+fails q s e h = lt-leb (q .left) (q .right) (omega arith)
+
+-- the inequality by the anchors from place i on
+abbrev byPlace : Kind → Constraint → Configuration → Configuration → ℕ → Inequality
+byPlace row c one two i =
+    byAnchor (row .keys) (getD (row .anchors) i noAnchor) (getD (row .anchors) (i + 1) noAnchor) (c .low) (c .high) (c .connection) one two
+
+module _ (row : Kind) (c : Constraint) (one two : Configuration) where
+  abbrev found : Finding
+  found = findingOf (byAnchors row (c .low) (c .high) (c .connection) one two)
+
+  abbrev p : Inequality
+  p = byPlace row c one two 0
+
+  abbrev q : Inequality
+  q = byPlace row c one two 2
+
+  -- of n inequalities
+  abbrev of : ℕ → Finding
+  of n = findingOf (take n (p ∷ q ∷ []))
+
+  pub found-none : row .inequalities < 1 → Kept ≡ found
+  unfolding byAnchors
+  found-none = go (row .inequalities)
+    where
+      go : (n : ℕ) → n < 1 → Kept ≡ of n
+      go zero h = refl
+      go (suc n) h = absurd (omega arith)
+
+  module _ (s : ℕ) (es : s ≡ shortfallOf p) where
+    pub found-first : 1 ≤ row .inequalities → 0 < s → Fails 1 s ≡ found
+    unfolding byAnchors
+    found-first l h = go (row .inequalities) l
+      where
+        go : (n : ℕ) → 1 ≤ n → Fails 1 s ≡ of n
+        go zero l = absurd (omega arith)
+        go (suc n) l =
+            ap (Fails 1) es ∙ sym (ap (λ b. cond b (findingFrom 2 (take n (q ∷ []))) (Fails 1 (shortfallOf p))) (fails p s es h))
+
+    passed : (n : ℕ) → s ≤ 0 → findingFrom 2 (take n (q ∷ [])) ≡ of (suc n)
+    passed n h = sym (ap (λ b. cond b (findingFrom 2 (take n (q ∷ []))) (Fails 1 (shortfallOf p))) (holds p s es h))
+
+    pub found-one : 1 ≤ row .inequalities → row .inequalities < 2 → s ≤ 0 → Kept ≡ found
+    unfolding byAnchors
+    found-one l m h = go (row .inequalities) l m
+      where
+        go : (n : ℕ) → 1 ≤ n → n < 2 → Kept ≡ of n
+        go zero l m = absurd (omega arith)
+        go (suc zero) l m = passed 0 h
+        go (suc (suc n)) l m = absurd (omega arith)
+
+    module _ (r : ℕ) (er : r ≡ shortfallOf q) where
+      pub found-second : 2 ≤ row .inequalities → s ≤ 0 → 0 < r → Fails 2 r ≡ found
+      unfolding byAnchors
+      found-second l h k = go (row .inequalities) l
+        where
+          go : (n : ℕ) → 2 ≤ n → Fails 2 r ≡ of n
+          go zero l = absurd (omega arith)
+          go (suc zero) l = absurd (omega arith)
+          go (suc (suc n)) l =
+              ap (Fails 2) er
+              ∙ sym (ap (λ b. cond b (findingFrom 3 (take n [])) (Fails 2 (shortfallOf q))) (fails q r er k))
+              ∙ passed (suc n) h
+
+      pub found-both : 2 ≤ row .inequalities → s ≤ 0 → r ≤ 0 → Kept ≡ found
+      unfolding byAnchors
+      found-both l h k = go (row .inequalities) l
+        where
+          go : (n : ℕ) → 2 ≤ n → Kept ≡ of n
+          go zero l = absurd (omega arith)
+          go (suc zero) l = absurd (omega arith)
+          go (suc (suc n)) l =
+              sym (ap (findingFrom 3) (take-nil n))
+              ∙ sym (ap (λ b. cond b (findingFrom 3 (take n [])) (Fails 2 (shortfallOf q))) (holds q r er k))
+              ∙ passed (suc n) h

@@ -1,0 +1,29 @@
+// The verdict over the tables: first each row in order, then the constraint table in order, up to the first inequality that fails.
+ghost use mathlib.Core.Path.{_≡_};
+ghost use Rattle.rules.specs.Verdict.{verdict, answerOf};
+ghost use Rattle.tables.specs.View.{offersIn, constraintsIn, configurationsIn};
+ghost use Rattle.verdict.specs.Within.{Within};
+use rules::answers::Answer;
+
+pub mod offers; // each row's choice against the draft's list
+pub mod records; // each record's inequalities
+
+// Of `n` rows and `m` records; the answer names the solution's file.
+pub fn judge(
+    legs: &[u32],
+    n: usize,
+    configurations: &[u32],
+    constraints: &[u32],
+    m: usize,
+    choices: &[u32],
+    file: u8,
+) -> Answer
+    requires { ⌜ Within (constraintsIn m (now constraints)) (configurationsIn n (now choices)) ⌝ }
+    ensures { λ r. ⌜ r ≡ answerOf file (verdict (offersIn n (now (legs .entry)) (now (configurations .entry))) (constraintsIn m (now (constraints .entry))) (configurationsIn n (now (choices .entry)))) ⌝ }
+{
+    match offers::judge_rows(legs, n, configurations, choices, file) {
+        Answer::Accepted => records::judge_records(constraints, m, choices, n, file),
+        Answer::Violated(v) => Answer::Violated(v),
+        Answer::Refused(r) => Answer::Refused(r),
+    }
+}

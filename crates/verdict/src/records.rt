@@ -1,0 +1,169 @@
+// Then the constraint table in order: the check stops at the first inequality that fails.
+ghost use mathlib.Core.Path.{_≡_};
+ghost use Prim.Native.Nat.{_-_, _≤_};
+ghost use Rattle.rules.specs.Kinds.{arrival, measured, byAnchor, byAnchors, notOffered};
+ghost use Rattle.rules.specs.Verdict.{choiceAt, inequalities, positionAfter, recordsFrom, answerOf};
+ghost use Rattle.rules.specs.Verdict.{violated as found};
+ghost use Rattle.tables.specs.View.{constraintsIn, configurationsIn};
+ghost use Rattle.verdict.specs.Found.{shortfallOf, findingOf};
+ghost use Rattle.verdict.specs.Within.{Within, Failed};
+use rules::answers::Answer;
+use rules::answers::Violation;
+use rules::kinds::Anchor;
+use rules::kinds::Key;
+use rules::kinds::Kind;
+use rules::sizes::Configuration;
+use rules::sizes::Constraint;
+
+// The first inequality of a record that fails, with its shortfall.
+pub enum Finding {
+    Kept,
+    Fails(u8, u64),
+}
+
+// A leg by an anchor: d, d + t, or x of kind 5 by the record's type.
+pub fn time_of(anchor: u8, connection: u32, c: Configuration) -> u64
+    ensures { λ r. ⌜ (r ≡ measured anchor connection c) × (r ≤ arrival c) ⌝ }
+{
+    let departure = c.departure as u64;
+    let arrival = departure + c.travel as u64;
+    if anchor == Anchor::DEPARTURE {
+        return departure;
+    }
+    if anchor == Anchor::ARRIVAL {
+        return arrival;
+    }
+    if connection == Constraint::ARRIVAL {
+        return arrival;
+    }
+    departure
+}
+
+// By how much the left side passes the right.
+pub fn beyond(left: u64, right: u64) -> u64
+    ensures { λ r. ⌜ r ≡ left - right ⌝ }
+{
+    if right < left { left - right } else { 0 }
+}
+
+// The shortfall of one inequality, by the anchors of the first leg and of the second; 0 where it holds.
+pub fn shortfall(
+    keys: u16,
+    first: u8,
+    second: u8,
+    c: Constraint,
+    one: Configuration,
+    two: Configuration,
+) -> u64
+    ensures { λ r. ⌜ r ≡ shortfallOf (byAnchor keys first second (c .low) (c .high) (c .connection) one two) ⌝ }
+{
+    let connection = c.connection;
+    let a = time_of(first, connection, one);
+    let b = time_of(second, connection, two);
+    if first == Anchor::LATEST {
+        return beyond(b, a + c.high as u64);
+    }
+    if keys == Key::FIRST_LEG + Key::SECOND_LEG {
+        return beyond(a, b);
+    }
+    beyond(a + c.low as u64, b)
+}
+
+// The inequalities of a row of the table of kinds, in order.
+pub fn first_failing(row: Kind, c: Constraint, one: Configuration, two: Configuration) -> Finding
+    ensures { λ r. ⌜ r ≡ findingOf (byAnchors row (c .low) (c .high) (c .connection) one two) ⌝ }
+{
+    let keys = row.keys;
+    let count = row.inequalities;
+    let anchors = row.anchors;
+    if count < 1 {
+        return Finding::Kept;
+    }
+    let short = shortfall(keys, anchors[0], anchors[1], c, one, two);
+    if 0 < short {
+        return Finding::Fails(1, short);
+    }
+    if count < 2 {
+        return Finding::Kept;
+    }
+    let second = shortfall(keys, anchors[2], anchors[3], c, one, two);
+    if 0 < second {
+        return Finding::Fails(2, second);
+    }
+    Finding::Kept
+}
+
+// The choice of a row; 0 everywhere where there is no such row.
+pub fn choice_of(choices: &[u32], n: usize, row: usize) -> Configuration
+    ensures { λ r. ⌜ r ≡ choiceAt (configurationsIn n (now (choices .entry))) row ⌝ }
+{
+    if row < n {
+        tables::configuration_at(choices, row)
+    } else {
+        Configuration {
+            departure: 0,
+            travel: 0,
+            profile: 0,
+        }
+    }
+}
+
+// A record by its kind's row of the table. Another number than a kind's has no inequalities.
+pub fn judge_record(c: Constraint, choices: &[u32], n: usize) -> Finding
+    ensures { λ r. ⌜ r ≡ findingOf (inequalities (configurationsIn n (now (choices .entry))) c) ⌝ }
+{
+    let kind = c.kind as usize;
+    let first = c.first as usize;
+    let second = c.second as usize;
+    if kind < 1 {
+        return Finding::Kept;
+    }
+    if Kind::COUNT < kind {
+        return Finding::Kept;
+    }
+    let row = rules::kinds::kind_at(kind - 1);
+    let one = choice_of(choices, n, first);
+    let two = choice_of(choices, n, second);
+    first_failing(row, c, one, two)
+}
+
+// The position within its list of a record that follows `n` records of a kind.
+pub fn position_after(before: u32, n: u32, kind: u32) -> u32
+    ensures { λ r. ⌜ r ≡ positionAfter before n kind ⌝ }
+{
+    if before == kind { n } else { 0 }
+}
+
+// The answer that names a failing inequality.
+pub fn violated(kind: u32, position: u32, inequality: u8, short: u64, file: u8) -> Answer
+    requires { ⌜ Failed kind short ⌝ }
+    ensures { λ r. ⌜ r ≡ answerOf file (found kind position inequality short) ⌝ }
+{
+    Answer::Violated(Violation::new(kind as u8, position, inequality, short as u32, file))
+}
+
+// All records in order.
+pub fn judge_records(constraints: &[u32], m: usize, choices: &[u32], n: usize, file: u8) -> Answer
+    requires { ⌜ Within (constraintsIn m (now constraints)) (configurationsIn n (now choices)) ⌝ }
+    ensures { λ r. ⌜ r ≡ answerOf file (recordsFrom notOffered 0 (configurationsIn n (now (choices .entry))) (constraintsIn m (now (constraints .entry)))) ⌝ }
+{
+    let mut before: u32 = Kind::NOT_OFFERED as u32;
+    let mut next: u32 = 0;
+    let mut i: usize = 0;
+    let answer = loop {
+        if m <= i {
+            break Answer::Accepted;
+        }
+        let c = tables::constraint_at(constraints, i);
+        let kind = c.kind;
+        let position = position_after(before, next, kind);
+        let finding = judge_record(c, choices, n);
+        if let Finding::Fails(inequality, short) = finding {
+            break violated(kind, position, inequality, short, file);
+        }
+        before = kind;
+        next = position + 1;
+        i += 1;
+    };
+    answer
+}

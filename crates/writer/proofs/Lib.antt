@@ -1,0 +1,9 @@
+pub mod Stores
+pub mod Writing
+pub mod Growing
+pub mod Spelling
+pub mod RowTexts
+pub mod Choosing
+pub mod Merging
+pub mod Travels
+pub mod Filled

@@ -1,0 +1,39 @@
+-- A merge over the tables: its choices, its rows, and whether the travel times are equal.
+use Prim.Native.Nat.{ℕ}
+use mathlib.Core.List.{List}
+use mathlib.Core.Option.{Option, none, some}
+use Rattle.rules.specs.Lists.{flat}
+use Rattle.rules.specs.Timetable.{Row}
+use Rattle.rules.specs.Merge.{sooner, tardier, zipped, spelledRow}
+use Rattle.rules.specs.declared.sizes.Configuration.{Configuration}
+use Rattle.tables.specs.View.{legsIn, configurationsIn}
+use Rattle.writer.specs.Rows.{rowOf}
+use Rattle.writer.specs.declared.merge.Direction.{Direction}
+use Rattle.writer.specs.declared.merge.Direction.the-variants.{Earlier, Later}
+use Rattle.writer.specs.declared.merge.Travels.{Travels}
+use Rattle.writer.specs.declared.merge.Travels.the-variants.{Equal, UnequalAt}
+
+abbrev pub chooser : Direction → Configuration → Configuration → Configuration
+chooser Earlier = sooner
+chooser Later = tardier
+
+-- `earlier` or `later`
+abbrev pub mergeOf : Direction → List Configuration → List Configuration → List Configuration
+mergeOf d = zipped (chooser d)
+
+-- the rows of n legs, with these choices as their nominals
+abbrev pub chosenIn : (n : ℕ) → (legs configurations : List ℕ) → List Configuration → List Row
+chosenIn n legs configurations cs = zipped (rowOf configurations) (legsIn n legs) cs
+
+-- the rows of a merge of two tables of choices
+abbrev pub mergedIn : Direction → (n : ℕ) → (legs configurations first second : List ℕ) → List Row
+mergedIn d n legs configurations first second =
+    chosenIn n legs configurations (mergeOf d (configurationsIn n first) (configurationsIn n second))
+
+-- a timetable without its header
+abbrev pub rowsText : List Row → List ℕ
+rowsText = flat spelledRow
+
+abbrev pub travelsOf : Option ℕ → Travels
+travelsOf none = Equal
+travelsOf (some row) = UnequalAt row

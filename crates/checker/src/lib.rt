@@ -1,0 +1,2 @@
+// The public entries of Wagontulip, and nothing else. Each has no `requires`, and its promise determines its answer for every input.
+pub mod display; // the row at a refusal's file and place

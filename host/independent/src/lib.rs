@@ -1,0 +1,27 @@
+//! An independent program for document 01: it reads the four texts of a metro timetable and
+//! answers accepted, the first violation, or a numbered refusal.
+//!
+//! It is written from document 01's sentences in their order, and shares no code and no table
+//! with the proved checker it is compared with. Comments quote the sentence they follow.
+
+pub mod answers;
+pub mod cases;
+pub mod constraints;
+pub mod display;
+pub mod energy;
+pub mod files;
+pub mod merge;
+pub mod numbers;
+pub mod profiles;
+pub mod rows;
+pub mod tables;
+pub mod timetable;
+pub mod tokens;
+pub mod verdict;
+
+pub use answers::{Answer, Checked, Refusal, Rooms};
+pub use display::row_at;
+pub use energy::{energy, Desk, Figures, Report};
+pub use merge::{merge, Direction, Merged};
+pub use tables::Tables;
+pub use verdict::check;

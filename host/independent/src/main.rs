@@ -1,0 +1,104 @@
+//! The command: runs the library on files, or prints seeded cases for comparison.
+
+use independent::{cases, check, energy, merge, Answer, Direction, Rooms};
+use std::io::Write;
+use std::process::ExitCode;
+
+const USAGE: &str = "independent check H T P C S
+independent energy H T P C S
+independent merge earlier|later H T P C A B
+independent cases SEED COUNT";
+
+fn main() -> ExitCode {
+    let arguments: Vec<String> = std::env::args().skip(1).collect();
+    let words: Vec<&str> = arguments.iter().map(String::as_str).collect();
+    match run(&words) {
+        Ok(output) => {
+            let written = std::io::stdout().write_all(&output);
+            if written.is_ok() {
+                ExitCode::SUCCESS
+            } else {
+                ExitCode::FAILURE
+            }
+        }
+        Err(message) => {
+            eprintln!("{message}");
+            ExitCode::FAILURE
+        }
+    }
+}
+
+/// What the command prints.
+fn run(words: &[&str]) -> Result<Vec<u8>, String> {
+    match words {
+        ["check", h, files @ ..] if files.len() == 4 => {
+            let h = number(h)?;
+            let texts = texts(files)?;
+            let checked = check(h, &texts[0], &texts[1], &texts[2], &texts[3], &ample_rooms());
+            Ok(line(&checked.answer))
+        }
+        ["energy", h, files @ ..] if files.len() == 4 => {
+            let h = number(h)?;
+            let texts = texts(files)?;
+            let report = energy(h, &texts[0], &texts[1], &texts[2], &texts[3], &ample_rooms());
+            let figures = report.figures;
+            let mut output = line(&report.answer);
+            output.extend(
+                format!(
+                    "before {} drawn {} lost {} fluctuation {} peak_before {} peak_drawn {}\n",
+                    figures.before,
+                    figures.drawn,
+                    figures.lost,
+                    figures.fluctuation,
+                    figures.peak_before,
+                    figures.peak_drawn
+                )
+                .into_bytes(),
+            );
+            Ok(output)
+        }
+        ["merge", direction, h, files @ ..] if files.len() == 5 => {
+            let direction = match *direction {
+                "earlier" => Direction::Earlier,
+                "later" => Direction::Later,
+                _ => return Err(String::from(USAGE)),
+            };
+            let h = number(h)?;
+            let t = texts(files)?;
+            let merged =
+                merge(direction, h, &t[0], &t[1], &t[2], &t[3], &t[4], &ample_rooms());
+            let mut output = line(&merged.answer);
+            output.extend(merged.text.unwrap_or_default());
+            Ok(output)
+        }
+        ["cases", seed, count] => {
+            let seed = seed.parse::<u64>().map_err(|_| String::from(USAGE))?;
+            let count = count.parse::<usize>().map_err(|_| String::from(USAGE))?;
+            let mut output = Vec::new();
+            let tally = cases::print(seed, count, &mut output).map_err(|e| e.to_string())?;
+            eprint!("{tally}");
+            Ok(output)
+        }
+        _ => Err(String::from(USAGE)),
+    }
+}
+
+/// Room for everything that document 01's sizes allow.
+fn ample_rooms() -> Rooms {
+    Rooms::all(67_108_864)
+}
+
+/// The answer as a line.
+fn line(answer: &Answer) -> Vec<u8> {
+    format!("{}\n", answer.line()).into_bytes()
+}
+
+/// H from the command's words.
+fn number(word: &str) -> Result<u32, String> {
+    word.parse().map_err(|_| format!("H is no number of 32 bits: {word}"))
+}
+
+/// The contents of the files.
+fn texts(files: &[&str]) -> Result<Vec<Vec<u8>>, String> {
+    files.iter().map(|file| std::fs::read(file).map_err(|e| format!("{file}: {e}"))).collect()
+}

@@ -1,0 +1,83 @@
+//! The yardstick: readers as one writes them by hand in plain Rust. Each looks at a byte once, keeps every rule of a row, and fills its tables.
+
+pub mod profiles;
+pub mod solution;
+pub mod timetable;
+
+/// What a reading says: two counts, or the number and place of the first refusal.
+#[derive(Clone, Copy, Debug, PartialEq, Eq)]
+pub enum Said {
+    Read(u32, u32),
+    Refused(u8, u32),
+}
+
+pub const TOO_LONG: u8 = 2;
+pub const HEADER: u8 = 3;
+pub const FORM: u8 = 4;
+pub const RANGE: u8 = 5;
+pub const COUNT: u8 = 6;
+pub const SEEN: u8 = 7;
+pub const NOMINAL: u8 = 8;
+pub const ROOM: u8 = 16;
+
+pub const MOST_TEXT: usize = 67_108_864;
+pub const MOST_ID: u32 = 999_999_999;
+
+/// A number of ten digits or more is past every limit.
+const TOO_GREAT: u32 = u32::MAX;
+
+/// A text and how far it is read.
+pub struct Bytes<'a> {
+    text: &'a [u8],
+    at: usize,
+}
+
+impl<'a> Bytes<'a> {
+    #[inline(always)]
+    fn digit(&self) -> Option<u32> {
+        let digit = self.text.get(self.at)?.wrapping_sub(b'0');
+        (digit < 10).then_some(u32::from(digit))
+    }
+
+    /// The digits of a whole number. A zero stands alone: what follows it must be the separator.
+    #[inline(always)]
+    fn whole(&mut self) -> Option<u32> {
+        let first = self.at;
+        let mut value = self.digit()?;
+        self.at += 1;
+        if value == 0 {
+            return Some(0);
+        }
+        while let Some(digit) = self.digit() {
+            value = value.wrapping_mul(10).wrapping_add(digit);
+            self.at += 1;
+        }
+        Some(if self.at - first < 10 { value } else { TOO_GREAT })
+    }
+
+    #[inline(always)]
+    fn next(&mut self) -> Option<u8> {
+        let byte = *self.text.get(self.at)?;
+        self.at += 1;
+        Some(byte)
+    }
+
+    /// A whole number and the separator behind it.
+    #[inline(always)]
+    fn closed(&mut self, separator: u8) -> Option<u32> {
+        let value = self.whole()?;
+        (self.next()? == separator).then_some(value)
+    }
+
+    /// A whole number and whatever byte is behind it.
+    #[inline(always)]
+    fn open(&mut self) -> Option<(u32, u8)> {
+        let value = self.whole()?;
+        Some((value, self.next()?))
+    }
+}
+
+/// The ids of the rows before, for a table in which a row starts with its id: an id above all others is new, another is looked for.
+fn seen(table: &[u32], width: usize, rows: usize, above: u32, id: u32) -> bool {
+    id < above && table.chunks_exact(width).take(rows).any(|row| row[0] == id)
+}

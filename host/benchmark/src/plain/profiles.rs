@@ -1,0 +1,84 @@
+//! Profiles by hand: 3 numbers a profile, a signed kW a sample.
+
+use super::*;
+
+const HEAD: &[u8] = b"profile_id,power_consumptions\n";
+const MOST_ROWS: u32 = 16_384;
+const MOST_LIST: u32 = 3_600;
+const MOST_SAMPLES: u32 = 1_048_576;
+const MOST_KW: u32 = 20_000;
+const MOST_MW: u32 = 20;
+
+impl Bytes<'_> {
+    /// A sample in kW and the byte behind it; more than the limit is the limit and one.
+    #[inline(always)]
+    fn sample(&mut self) -> Option<(bool, u32, u8)> {
+        let negative = self.text.get(self.at) == Some(&b'-');
+        self.at += usize::from(negative);
+        let whole = self.closed(b'.')?;
+        let mut thousandths = self.digit()? * 100;
+        self.at += 1;
+        if let Some(digit) = self.digit() {
+            thousandths += digit * 10;
+            self.at += 1;
+            if let Some(digit) = self.digit() {
+                thousandths += digit;
+                self.at += 1;
+            }
+        }
+        let kw = if whole <= MOST_MW { whole * 1_000 + thousandths } else { MOST_KW + 1 };
+        Some((negative, kw, self.next()?))
+    }
+}
+
+pub fn read(text: &[u8], profiles: &mut [u32], samples: &mut [i32]) -> Said {
+    if text.len() > MOST_TEXT {
+        return Said::Refused(TOO_LONG, 0);
+    }
+    if !text.starts_with(HEAD) {
+        return Said::Refused(HEADER, 0);
+    }
+    let mut bytes = Bytes { text, at: HEAD.len() };
+    let (mut rows, mut filled, mut above) = (0u32, 0u32, 0u32);
+    while bytes.at < text.len() {
+        let place = bytes.at as u32;
+        let refused = |number| Said::Refused(number, place);
+        let Some(id) = bytes.closed(b',') else { return refused(FORM) };
+        let mut in_range = id <= MOST_ID;
+        let mut count = 0;
+        loop {
+            let Some((negative, kw, byte)) = bytes.sample() else { return refused(FORM) };
+            if kw <= MOST_KW {
+                if let Some(room) = samples.get_mut(filled as usize + count as usize) {
+                    *room = if negative { -(kw as i32) } else { kw as i32 };
+                }
+            } else {
+                in_range = false;
+            }
+            count += 1;
+            match byte {
+                b' ' => {}
+                b'\n' => break,
+                _ => return refused(FORM),
+            }
+        }
+        if !in_range {
+            return refused(RANGE);
+        }
+        if rows >= MOST_ROWS || count > MOST_LIST || filled + count > MOST_SAMPLES {
+            return refused(COUNT);
+        }
+        if seen(profiles, 3, rows as usize, above, id) {
+            return refused(SEEN);
+        }
+        let at = rows as usize * 3;
+        if profiles.len() < at + 3 || samples.len() < (filled + count) as usize {
+            return refused(ROOM);
+        }
+        profiles[at..at + 3].copy_from_slice(&[id, filled, count]);
+        rows += 1;
+        filled += count;
+        above = above.max(id + 1);
+    }
+    Said::Read(rows, filled)
+}

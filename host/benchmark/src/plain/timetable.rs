@@ -1,0 +1,106 @@
+//! A timetable by hand: 8 numbers a leg, 3 a configuration.
+
+use super::*;
+
+pub const HEAD: &[u8] =
+    b"leg_id,train_id,track_id,start_station_id,end_station_id,nominal_departure_configuration,departure_configurations\n";
+pub const MOST_ROWS: u32 = 32_768;
+pub const MOST_LIST: u32 = 64;
+pub const MOST_ENTRIES: u32 = 1_048_576;
+const MOST_TRAVEL: u32 = 3_600;
+
+pub type Entry = (u32, u32, u32);
+
+/// The travel time and the departure keep their limits, and the profile's id does.
+#[inline(always)]
+pub fn fits(h: u32, (d, t, p): Entry) -> bool {
+    (1..=MOST_TRAVEL).contains(&t) && t <= h && d <= h - t && p <= MOST_ID
+}
+
+/// A row as it is read: its five ids, its nominal, and what its list says.
+pub struct Row {
+    pub ids: [u32; 5],
+    pub nominal: Entry,
+    /// The entries, those before the first that is the nominal, and whether every number so far is in range.
+    pub entries: u32,
+    pub before: u32,
+    pub in_range: bool,
+}
+
+impl Bytes<'_> {
+    /// The next row; `keep` takes each entry with its place in the list. None where the row breaks its form.
+    #[inline(always)]
+    pub fn row(&mut self, h: u32, mut keep: impl FnMut(u32, Entry)) -> Option<Row> {
+        let mut ids = [0; 5];
+        for id in &mut ids {
+            *id = self.closed(b',')?;
+        }
+        let nominal = (self.closed(b'_')?, self.closed(b'_')?, self.closed(b',')?);
+        let mut entries = 0;
+        let mut before = None;
+        let mut in_range = fits(h, nominal) && ids.iter().all(|id| *id <= MOST_ID);
+        loop {
+            let d = self.closed(b'_')?;
+            let t = self.closed(b'_')?;
+            let (p, byte) = self.open()?;
+            let entry = (d, t, p);
+            in_range &= fits(h, entry);
+            if before.is_none() && entry == nominal {
+                before = Some(entries);
+            }
+            keep(entries, entry);
+            entries += 1;
+            match byte {
+                b' ' => {}
+                b'\n' => return Some(Row { ids, nominal, entries, before: before.unwrap_or(entries), in_range }),
+                _ => return None,
+            }
+        }
+    }
+}
+
+pub fn read(text: &[u8], h: u32, legs: &mut [u32], configurations: &mut [u32]) -> Said {
+    if text.len() > MOST_TEXT {
+        return Said::Refused(TOO_LONG, 0);
+    }
+    if !text.starts_with(HEAD) {
+        return Said::Refused(HEADER, 0);
+    }
+    let mut bytes = Bytes { text, at: HEAD.len() };
+    let (mut rows, mut filled, mut above) = (0u32, 0u32, 0u32);
+    while bytes.at < text.len() {
+        let place = bytes.at as u32;
+        let refused = |number| Said::Refused(number, place);
+        let kept = bytes.row(h, |entry, (d, t, p)| {
+            let at = (filled as usize + entry as usize) * 3;
+            if entry <= MOST_LIST {
+                if let Some(room) = configurations.get_mut(at..at + 3) {
+                    room.copy_from_slice(&[d, t, p]);
+                }
+            }
+        });
+        let Some(row) = kept else { return refused(FORM) };
+        if !row.in_range {
+            return refused(RANGE);
+        }
+        if rows >= MOST_ROWS || row.entries > MOST_LIST || filled + row.entries > MOST_ENTRIES {
+            return refused(COUNT);
+        }
+        if seen(legs, 8, rows as usize, above, row.ids[0]) {
+            return refused(SEEN);
+        }
+        if row.before == row.entries {
+            return refused(NOMINAL);
+        }
+        let at = rows as usize * 8;
+        if legs.len() < at + 8 || configurations.len() / 3 < (filled + row.entries) as usize {
+            return refused(ROOM);
+        }
+        legs[at..at + 5].copy_from_slice(&row.ids);
+        legs[at + 5..at + 8].copy_from_slice(&[filled, row.entries, row.before]);
+        rows += 1;
+        filled += row.entries;
+        above = above.max(row.ids[0] + 1);
+    }
+    Said::Read(rows, filled)
+}

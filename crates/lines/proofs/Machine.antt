@@ -23,7 +23,7 @@ use Rattle.lines.proofs.Fold.{whole, fold-append, fold-parts}
 use Rattle.lines.proofs.Lines.{Unbroken, Lines, last, more, lines-of}
 
 module _ {A O : Type 0} (file : ℕ) (header : List ℕ) (judge : List A → Option A → Judged A) (start : O) (step : O → ℕ → Option O) (close : O → Option A) where
-  abbrev next : Progress A O → ℕ → Progress A O
+  abbrev pub next : Progress A O → ℕ → Progress A O
   next = progress file header judge start step close
 
   abbrev end : Progress A O → Reading (List A)
@@ -45,11 +45,11 @@ module _ {A O : Type 0} (file : ℕ) (header : List ℕ) (judge : List A → Opt
   -- ---- the open row
 
   -- the row after bytes of its own, none of them LF
-  abbrev opened : (place at : ℕ) → List A → Option O → Progress A O
+  abbrev pub opened : (place at : ℕ) → List A → Option O → Progress A O
   opened place at before none = stopped badRow place
   opened place at before (some o) = inRow place at before o
 
-  in-line : (place at : ℕ) (before : List A) (o : O) (line : List ℕ) → Unbroken line
+  pub in-line : (place at : ℕ) (before : List A) (o : O) (line : List ℕ) → Unbroken line
       → fold next (inRow place at before o) line ≡ opened place (at + length line) before (run step o line)
   in-line place at before o [] u = rw (add-zero at)
   in-line place at before o (b ∷ line) u =

@@ -31,12 +31,12 @@ use Rattle.timetable.proofs.Accept.{accepted}
 
 -- ---- the row that ends
 
-end-row : (closed : List ℕ) (list : List Configuration) (d t v : ℕ) (m : Row.Number) → length closed ≡ entrySlot → Row.numberEnd m ≡ some v
+pub end-row : (closed : List ℕ) (list : List Configuration) (d t v : ℕ) (m : Row.Number) → length closed ≡ entrySlot → Row.numberEnd m ≡ some v
     → openEnd (partly closed list (d ∷ t ∷ []) m) ≡ some (rowFrom closed (list ++ configuration d t v ∷ []))
 unfolding openEnd
 end-row closed list d t v m eight e = rw e (eight-make closed (list ++ configuration d t v ∷ []) eight)
 
-end-none : (closed : List ℕ) (list : List Configuration) (entry : List ℕ) (m : Row.Number) (v : ℕ) → Shaped closed list entry → (length (closed ++ entry) ≡ lastSlot → ⊥)
+pub end-none : (closed : List ℕ) (list : List Configuration) (entry : List ℕ) (m : Row.Number) (v : ℕ) → Shaped closed list entry → (length (closed ++ entry) ≡ lastSlot → ⊥)
     → Row.numberEnd m ≡ some v → openEnd (partly closed list entry m) ≡ none
 unfolding openEnd
 end-none closed list entry m v (inHead h) n e = rw e
@@ -114,7 +114,7 @@ module _ (H : ℕ) (line whole line′ : Line) (n at k : ℕ) (legs legs′ tabl
 
 -- ---- a byte that the open number does not take
 
-not-empty : (m : Row.Number) (x : Number) → x ≡ numberHeld m → isEmpty x ≡ false → (v : ℕ) × (Row.numberEnd m ≡ some v) × (valueOf x ≡ held v)
+pub not-empty : (m : Row.Number) (x : Number) → x ≡ numberHeld m → isEmpty x ≡ false → (v : ℕ) × (Row.numberEnd m ≡ some v) × (valueOf x ≡ held v)
 not-empty Row.empty x e q = let z : true ≡ false = sym (ap isEmpty e) ∙ q in absurd (never z)
   where
     never : true ≡ false → ⊥
@@ -122,7 +122,7 @@ not-empty Row.empty x e q = let z : true ≡ false = sym (ap isEmpty e) ∙ q in
 not-empty Row.zero x e q = (0, refl, ap valueOf e)
 not-empty (Row.digits n) x e q = (n, refl, ap valueOf e)
 
-is-empty : (m : Row.Number) (x : Number) → x ≡ numberHeld m → isEmpty x ≡ true → m ≡ Row.empty
+pub is-empty : (m : Row.Number) (x : Number) → x ≡ numberHeld m → isEmpty x ≡ true → m ≡ Row.empty
 is-empty Row.empty x e q = refl
 is-empty Row.zero x e q = absurd (never (sym (ap isEmpty e) ∙ q))
   where

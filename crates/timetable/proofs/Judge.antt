@@ -67,7 +67,7 @@ module _ {A : Type 0} (keeps p q : A → Bool) (agree : (x : A) → keeps x ≡ 
 
 -- ---- new ids
 
-any-below : (above id : ℕ) → above ≤ id → (rows : List Row) → All (λ r. r .leg < above) rows → any (λ r. eqb (r .leg) id) rows ≡ false
+pub any-below : (above id : ℕ) → above ≤ id → (rows : List Row) → All (λ r. r .leg < above) rows → any (λ r. eqb (r .leg) id) rows ≡ false
 any-below above id h [] b = refl
 any-below above id h (r ∷ rows) b = rw (ne-eqb (r .leg) id (λ e. omega (arith, b .0)), any-below above id h rows (b .1))
 
@@ -133,7 +133,7 @@ module _ (H : ℕ) (lent : Tables) (line : Line) (now : Tables) (place : ℕ) (b
   abbrev pub counted : Bool
   counted = ltb (length before) mostLegs && (leb (length list) mostListed && leb (listed before + length list) mostConfigurations)
 
-  number-held : (k : ℕ) → k < entrySlot → getD (line .numbers) k 0 ≡ held (getD closed k 0)
+  pub number-held : (k : ℕ) → k < entrySlot → getD (line .numbers) k 0 ≡ held (getD closed k 0)
   number-held k h =
       let s : line .slot ≡ entrySlot = o .slot-is ∙ ap length (append-nil closed) ∙ eight in
       sym (getD-take (line .slot) (line .numbers) k 0 (omega arith))
@@ -141,7 +141,7 @@ module _ (H : ℕ) (lent : Tables) (line : Line) (now : Tables) (place : ℕ) (b
       ∙ held-all (closed ++ []) k
       ∙ ap (λ (l : List ℕ). held (getD l k 0)) (append-nil closed)
 
-  range-same : rangeHolds H line ≡ ranged
+  pub range-same : rangeHolds H line ≡ ranged
   range-same =
       rw (
         number-held 0 (omega arith),
@@ -161,7 +161,7 @@ module _ (H : ℕ) (lent : Tables) (line : Line) (now : Tables) (place : ℕ) (b
         wide-twice (line .wide) (every (inRange H) list) (o .wide-is),
       )
 
-  few-is : length list ≤ mostListed → line .entries ≡ length list
+  pub few-is : length list ≤ mostListed → line .entries ≡ length list
   few-is h = o .entries-are ∙ omega arith
 
   counts-same : countsHold line ≡ counted
@@ -176,10 +176,10 @@ module _ (H : ℕ) (lent : Tables) (line : Line) (now : Tables) (place : ℕ) (b
           rw (lt-leb (line .entries) mostListed k)
 
   -- what good range says of each number
-  ids-right : ranged ≡ true → every (λ id. leb id mostId) (idsOf r) ≡ true
+  pub ids-right : ranged ≡ true → every (λ id. leb id mostId) (idsOf r) ≡ true
   ids-right e = and-left (every (λ id. leb id mostId) (idsOf r)) (inRange H (nominalOf closed) && every (inRange H) list) e
 
-  nominal-right : ranged ≡ true → inRange H (nominalOf closed) ≡ true
+  pub nominal-right : ranged ≡ true → inRange H (nominalOf closed) ≡ true
   nominal-right e =
       and-left (inRange H (nominalOf closed)) (every (inRange H) list) (and-right (every (λ id. leb id mostId) (idsOf r)) (inRange H (nominalOf closed) && every (inRange H) list) e)
 
@@ -188,7 +188,7 @@ module _ (H : ℕ) (lent : Tables) (line : Line) (now : Tables) (place : ℕ) (b
       and-right (inRange H (nominalOf closed)) (every (inRange H) list) (and-right (every (λ id. leb id mostId) (idsOf r)) (inRange H (nominalOf closed) && every (inRange H) list) e)
 
   -- an id in range is held as it is
-  number-exact : (k : ℕ) → k < entrySlot → getD closed k 0 ≤ mostId → getD (line .numbers) k 0 ≡ getD closed k 0
+  pub number-exact : (k : ℕ) → k < entrySlot → getD closed k 0 ≤ mostId → getD (line .numbers) k 0 ≡ getD closed k 0
   number-exact k h i = number-held k h ∙ omega arith
 
   new-same : getD closed 0 0 ≤ mostId → isNew (line .rows) (line .above) (getD (line .numbers) 0 0) (now .legs) ≡ not (any (λ b. eqb (b .leg) (r .leg)) before)
@@ -221,7 +221,7 @@ module _ (H : ℕ) (lent : Tables) (line : Line) (now : Tables) (place : ℕ) (b
   nominal-at e h =
       o .nominal-is h ∙ leading-alike (inRange H) (sameHeld (nominalOf closed)) (same (nominalOf closed)) (held-same (nominal-right e)) list (list-right e)
 
-  nominal-same : ranged ≡ true → length list ≤ mostListed → ltb (line .nominal) (line .entries) ≡ offers list (nominalOf closed)
+  pub nominal-same : ranged ≡ true → length list ≤ mostListed → ltb (line .nominal) (line .entries) ≡ offers list (nominalOf closed)
   nominal-same e h = rw (nominal-at e h, few-is h) (leading-any (same (nominalOf closed)) list)
 
   room-same : (room : ℕ) → room ≡ length (lent .configurations) → length list ≤ mostListed
@@ -238,7 +238,7 @@ module _ (H : ℕ) (lent : Tables) (line : Line) (now : Tables) (place : ℕ) (b
       (and-left (leb (length list) mostListed) (leb (listed before + length list) mostConfigurations)
       (and-right (ltb (length before) mostLegs) (leb (length list) mostListed && leb (listed before + length list) mostConfigurations) e))
 
-  leg-in-range : ranged ≡ true → getD closed 0 0 ≤ mostId
+  pub leg-in-range : ranged ≡ true → getD closed 0 0 ≤ mostId
   leg-in-range e = leb-true (getD closed 0 0) mostId (and-left (leb (getD closed 0 0) mostId) _ (ids-right e))
 
   -- the row is judged by the lowest number of the reader's tests

@@ -20,16 +20,17 @@ use rules::sizes::Leg;
 pub struct Line {
     // The first fault's number, or 0.
     pub fault: u8,
+    // Whether an entry of the list is out of range.
+    pub wide: bool,
     // The row's first byte.
     pub place: u32,
     // Which number of the row is open: of the eight before the list, and then of the entry's three.
     pub slot: usize,
     // The numbers before it.
     pub numbers: [u32; 10],
-    // The entries of the list, counted to one past the limit; those before the first that is the nominal; whether one is out of range.
+    // The entries of the list, counted to one past the limit; those before the first that is the nominal.
     pub entries: u32,
     pub nominal: u32,
-    pub wide: bool,
     // The rows before, their configurations, and a number above each of their ids.
     pub rows: u32,
     pub configurations: u32,
@@ -115,7 +116,7 @@ fn nominal_after(nominal: u32, entries: u32, hit: bool) -> u32
     entries + 1
 }
 
-fn store(table: &mut [u32], at: usize, d: u32, t: u32, p: u32)
+pub fn store(table: &mut [u32], at: usize, d: u32, t: u32, p: u32)
     ensures { λ r. ⌜ now (table .exit) ≡ storedAt configurationWidth at (d ∷ t ∷ p ∷ []) (now (table .entry)) ⌝ }
 {
     if at < table.len() / Configuration::WIDTH {
@@ -127,7 +128,7 @@ fn store(table: &mut [u32], at: usize, d: u32, t: u32, p: u32)
 }
 
 // An entry is closed by its third number.
-fn entry(line: Line, p: u32, h: u32, configurations: &mut [u32]) -> Line
+pub fn entry(line: Line, p: u32, h: u32, configurations: &mut [u32]) -> Line
     ensures { λ r. ⌜ Entered h line p r (now (configurations .entry)) (now (configurations .exit)) ⌝ }
 {
     let numbers = line.numbers;
@@ -173,7 +174,7 @@ fn close(line: Line, n: u32, b: u8, h: u32, configurations: &mut [u32]) -> Line
 
 // ---- a row that is over
 
-fn out_of_range(line: Line, h: u32) -> bool
+pub fn out_of_range(line: Line, h: u32) -> bool
     ensures { λ r. ⌜ r ≡ not (rangeHolds h line) ⌝ }
 {
     let numbers = line.numbers;
@@ -198,7 +199,7 @@ fn out_of_range(line: Line, h: u32) -> bool
     true
 }
 
-fn too_many(line: Line) -> bool
+pub fn too_many(line: Line) -> bool
     ensures { λ r. ⌜ r ≡ not (countsHold line) ⌝ }
 {
     if Leg::MOST <= line.rows as usize {
@@ -291,7 +292,7 @@ fn above_all(above: u32, id: u32) -> u32
     above
 }
 
-fn next_row(line: Line, at: u32) -> Line
+pub fn next_row(line: Line, at: u32) -> Line
     requires { ⌜ Bounded line at ⌝ }
     ensures { λ r. ⌜ r ≡ nextLine line at ⌝ }
 {

@@ -38,7 +38,7 @@ pub enum Rows {
     Read(u32, u32),
 }
 
-fn first_line() -> Line
+pub fn first_line() -> Line
     ensures { λ r. ⌜ r ≡ firstLine ⌝ }
 {
     Line {
@@ -93,7 +93,7 @@ fn header(part: &[u8], read: usize) -> Headed
 }
 
 // The rows of a part from a place on: the digits of a number in one loop, and then the byte that closes it.
-fn run_rows(
+pub fn run_rows(
     before: Line,
     unclosed: Number,
     read: usize,

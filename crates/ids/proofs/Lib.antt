@@ -1,5 +1,7 @@
 pub mod Column
 pub mod Written
+pub mod Curves
+pub mod More
 pub mod Places
 pub mod Onward
 pub mod Halves

@@ -19,13 +19,11 @@ use Rattle.rules.specs.Energy.{tabulate}
 use Rattle.rules.specs.Timetable.{Row, legOf, legsFrom, legsOf, legNumbers, configurationsOf, configurationNumbers}
 use Rattle.rules.specs.Profiles.{Curve, curveOf, lasts, profileFault, profilesFrom, profileNumbers}
 use Rattle.rules.specs.declared.sizes.Configuration.{Configuration}
-use Rattle.ids.specs.Column.{column, foundOf, Records}
-use Rattle.ids.proofs.Written.{tabulate-same, column-written}
-use Rattle.profiles.specs.declared.entries.Fault.the-variants.{Row as AtRow, Nothing as Clear}
-use Rattle.profiles.specs.Counts.{countFound, countAt, configurationAt, listAt, lastsFor, listFault, numberOf, rowAt, InTables, Tables, Tabled, FirstFault}
-use Rattle.profiles.specs.Holds.{idsOf}
-use Rattle.profiles.proofs.Tables.{profiles-length}
-use Rattle.profiles.proofs.Faults.{ids-of}
+use Rattle.ids.specs.Column.{column, foundOf, curveIdsOf, Records}
+use Rattle.ids.proofs.Written.{tabulate-same}
+use Rattle.ids.proofs.Curves.{profiles-length, curves-column}
+use Rattle.rows.specs.declared.lists.Fault.the-variants.{Row as AtRow, Nothing as Clear}
+use Rattle.rows.specs.Counts.{countFound, countAt, configurationAt, listAt, lastsFor, listFault, numberOf, rowAt, InTables, Tables, Tabled, FirstFault}
 
 -- ---- numbers of entries
 
@@ -146,15 +144,15 @@ countOf none = none
 countOf (some c) = some (length (c .samples))
 
 profiles-hold : (profiles : List ℕ) (id : ℕ) (curves : List Curve) (place start : ℕ) → Stands profiles profileWidth place (flat profileNumbers (profilesFrom start curves))
-    → countFound profiles (foundOf (placeFrom place (λ x. eqb x id) (idsOf curves))) ≡ countOf (curveOf curves id)
+    → countFound profiles (foundOf (placeFrom place (λ x. eqb x id) (curveIdsOf curves))) ≡ countOf (curveOf curves id)
 profiles-hold profiles id [] place start s = refl
 profiles-hold profiles id (c ∷ curves) place start s =
     go (eqb (c .id) id)
     (profiles-hold profiles id curves (suc place) (start + length (c .samples))
     (past-front (c .id ∷ start ∷ length (c .samples) ∷ []) (flat profileNumbers (profilesFrom (start + length (c .samples)) curves)) refl s))
   where
-    go : (t : Bool) → countFound profiles (foundOf (placeFrom (suc place) (λ x. eqb x id) (idsOf curves))) ≡ countOf (curveOf curves id)
-        → countFound profiles (foundOf (cond t (some place) (placeFrom (suc place) (λ x. eqb x id) (idsOf curves)))) ≡ countOf (cond t (some c) (curveOf curves id))
+    go : (t : Bool) → countFound profiles (foundOf (placeFrom (suc place) (λ x. eqb x id) (curveIdsOf curves))) ≡ countOf (curveOf curves id)
+        → countFound profiles (foundOf (cond t (some place) (placeFrom (suc place) (λ x. eqb x id) (curveIdsOf curves)))) ≡ countOf (cond t (some c) (curveOf curves id))
     go true rest = ap some (at-front s 2)
     go false rest = rest
 
@@ -235,11 +233,10 @@ module _ {legs : List ℕ} {n : ℕ} {configurations profiles : List ℕ} {m : �
   unfolding over
   lookups id = rw ids (profiles-hold profiles id curves 0 0 profiles-stand)
     where
-      ids : column profileWidth m profiles ≡ idsOf curves
+      ids : column profileWidth m profiles ≡ curveIdsOf curves
       ids =
-          ap₂ (λ k table. column profileWidth k table) (t .profiles-many ∙ sym (profiles-length 0 curves)) (t .profiles-hold)
-          ∙ column-written profileNumbers profileWidth (omega arith) (λ p. refl) (profilesFrom 0 curves) (drop (length (flat profileNumbers (profilesFrom 0 curves))) profiles)
-          ∙ ids-of 0 curves
+          ap₂ (λ k table. column profileWidth k table) (t .profiles-many) (t .profiles-hold)
+          ∙ curves-column curves (drop (length (flat profileNumbers (profilesFrom 0 curves))) profiles)
 
   tabled-faults : firstFault 0 (listFault (countAt profiles m)) (tabulate n (rowAt legs configurations)) ≡ firstFault 0 (profileFault curves) rows
   tabled-faults =

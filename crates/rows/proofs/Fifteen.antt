@@ -1,6 +1,6 @@
 -- The first row whose track is in no subnet, by a walk over the legs. Assumes nothing.
 use Prim.Native.Nat.{ℕ, suc, _+_, _*_, _≤_, _<_}
-use mathlib.Core.Path.{_≡_, refl, ap, sym, subst, _∙_}
+use mathlib.Core.Path.{_≡_, refl, ap, _∙_}
 use mathlib.Core.Bool.{Bool, true, false, not, cond, _||_}
 use mathlib.Core.List.{List, [], _∷_, map}
 use mathlib.Core.Option.{Option, none, some}
@@ -10,19 +10,18 @@ use lib.Dec.{eqb}
 use lib.ListN.{length, getD, drop, drop-of-length-le}
 use lib.Seq.{drop-cons}
 use Rattle.rules.specs.Limits.{legWidth, trackWidth}
-use Rattle.rules.specs.Lists.{any, isSome, placeFrom, firstPlace}
+use Rattle.rules.specs.Lists.{any, isSome, placeFrom}
 use Rattle.rules.specs.Answers.{noSubnet}
-use Rattle.rules.specs.Rows.{RowFault, orElse, firstFault}
+use Rattle.rules.specs.Rows.{orElse, firstFault}
 use Rattle.rules.specs.Timetable.{Row}
 use Rattle.rules.specs.Constraints.{subnetOf, subnetFault}
 use Rattle.rules.specs.declared.sizes.Track.{Track}
 use Rattle.ids.specs.declared.Found.{Found}
 use Rattle.ids.specs.declared.Found.the-variants.{At, Nothing}
-use Rattle.ids.specs.Column.{Records, column, foundOf, placeOf}
+use Rattle.ids.specs.Column.{Records, column, trackIdsOf, foundOf, placeOf}
 use Rattle.ids.proofs.Column.{length-tabulate, getD-tabulate}
-use Rattle.constraints.specs.Steps.{trackIdsOf}
-use Rattle.constraints.specs.Subnets.{trackPlace, legTracks, unlisted, faultAt, Hold, Fifteen}
-use Rattle.constraints.proofs.Words.{some-there, none-there}
+use Rattle.ids.proofs.Places.{some-there, none-there}
+use Rattle.rows.specs.Subnets.{trackPlace, legTracks, unlisted, faultAt, Fifteen}
 
 -- ---- by lists of tracks alone
 

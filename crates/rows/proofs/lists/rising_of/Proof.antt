@@ -1,9 +1,9 @@
--- `profiles::entries::rising_of` meets its contract. The invariant: the ids before i rise. Assumes nothing.
+-- `rows::lists::rising_of` meets its contract. The invariant: the ids before i rise. Assumes nothing.
 use borrow.Author.Needs.{needs}
-use Rattle.profiles.proofs.Counts.{Rose, counts}
+use Rattle.rows.proofs.Counts.{Rose, counts}
 use Prim.Native.Nat.{_-_}
-use Rattle.profiles.proofs.entries.rising_of.Statement.{statement}
-use Rattle.profiles.proofs.entries.rising_of.Tie as tie
+use Rattle.rows.proofs.lists.rising_of.Statement.{statement}
+use Rattle.rows.proofs.lists.rising_of.Tie as tie
 
 abbrev Inv-loop : tie.InvT-loop
 Inv-loop profiles m last₀ i₀ last i = Rose profiles m last i

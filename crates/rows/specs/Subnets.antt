@@ -16,8 +16,7 @@ use Rattle.rules.specs.Constraints.{subnetFault}
 use Rattle.rules.specs.declared.sizes.Track.{Track}
 use Rattle.ids.specs.declared.Found.{Found}
 use Rattle.ids.specs.declared.Found.the-variants.{At, Nothing}
-use Rattle.ids.specs.Column.{column}
-use Rattle.constraints.specs.Steps.{trackIdsOf}
+use Rattle.ids.specs.Column.{column, trackIdsOf}
 
 -- where a leg's track stands in its entry
 abbrev pub trackPlace : ℕ

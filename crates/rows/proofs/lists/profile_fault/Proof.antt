@@ -1,9 +1,9 @@
--- `profiles::entries::profile_fault` meets its contract. The invariant: no row before i is at fault. Assumes nothing.
+-- `rows::lists::profile_fault` meets its contract. The invariant: no row before i is at fault. Assumes nothing.
 use borrow.Author.Needs.{needs}
-use Rattle.profiles.proofs.Holding.{Passing, holding}
+use Rattle.rows.proofs.Holding.{Passing, holding}
 use Prim.Native.Nat.{_-_}
-use Rattle.profiles.proofs.entries.profile_fault.Statement.{statement}
-use Rattle.profiles.proofs.entries.profile_fault.Tie as tie
+use Rattle.rows.proofs.lists.profile_fault.Statement.{statement}
+use Rattle.rows.proofs.lists.profile_fault.Tie as tie
 
 abbrev Inv-loop : tie.InvT-loop
 Inv-loop legs n configurations profiles m rising i₀ i = Passing legs n configurations profiles m i

@@ -1,10 +1,10 @@
--- `profiles::entries::list_fault` meets its contract. The invariant: of the entries before k no profile is missing, and whether one has another length is known. Assumes nothing.
+-- `rows::lists::list_fault` meets its contract. The invariant: of the entries before k no profile is missing, and whether one has another length is known. Assumes nothing.
 use borrow.Author.Needs.{needs}
-use Rattle.profiles.proofs.Counts.{Seeing, counts}
+use Rattle.rows.proofs.Counts.{Seeing, counts}
 use Prim.Native.Nat.{_-_}
-use Rattle.profiles.specs.Counts.{countAt}
-use Rattle.profiles.proofs.entries.list_fault.Statement.{statement}
-use Rattle.profiles.proofs.entries.list_fault.Tie as tie
+use Rattle.rows.specs.Counts.{countAt}
+use Rattle.rows.proofs.lists.list_fault.Statement.{statement}
+use Rattle.rows.proofs.lists.list_fault.Tie as tie
 
 abbrev Inv-loop : tie.InvT-loop
 Inv-loop configurations first count profiles m rising seen₀ k₀ seen k = Seeing configurations first count (countAt profiles m) seen k

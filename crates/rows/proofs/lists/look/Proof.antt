@@ -1,8 +1,8 @@
--- `profiles::entries::look` meets its contract: a profile looked up tells an entry's fault. Assumes nothing.
-use Rattle.profiles.proofs.Counts.{counts}
+-- `rows::lists::look` meets its contract: a profile looked up tells an entry's fault. Assumes nothing.
+use Rattle.rows.proofs.Counts.{counts}
 use borrow.Author.Needs.{needs}
-use Rattle.profiles.proofs.entries.look.Statement.{statement}
-use Rattle.profiles.proofs.entries.look.Tie as tie
+use Rattle.rows.proofs.lists.look.Statement.{statement}
+use Rattle.rows.proofs.lists.look.Tie as tie
 
 count-of-requires : tie.Need-count-of-requires
 count-of-requires c κs = search needs

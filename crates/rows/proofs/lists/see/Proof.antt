@@ -1,8 +1,8 @@
--- `profiles::entries::see` meets its contract: an entry like the one before tells nothing new. Assumes nothing.
-use Rattle.profiles.proofs.Counts.{counts}
+-- `rows::lists::see` meets its contract: an entry like the one before tells nothing new. Assumes nothing.
+use Rattle.rows.proofs.Counts.{counts}
 use borrow.Author.Needs.{needs}
-use Rattle.profiles.proofs.entries.see.Statement.{statement}
-use Rattle.profiles.proofs.entries.see.Tie as tie
+use Rattle.rows.proofs.lists.see.Statement.{statement}
+use Rattle.rows.proofs.lists.see.Tie as tie
 
 returns : tie.Need-returns
 returns c = search (counts, needs)

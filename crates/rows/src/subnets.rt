@@ -1,7 +1,7 @@
 // 15: every leg's track is in a subnet.
 ghost use Rattle.rules.specs.Limits.{legWidth, trackWidth};
 ghost use Rattle.ids.specs.Column.{Records};
-ghost use Rattle.constraints.specs.Subnets.{Fifteen};
+ghost use Rattle.rows.specs.Subnets.{Fifteen};
 use ids::Found;
 use rules::sizes::Leg;
 use rules::sizes::Track;

@@ -9,7 +9,7 @@ ghost use Prim.Native.Nat.{_+_, _*_, _≤_, _<_};
 ghost use lib.ListN.{length, getD};
 ghost use Rattle.rules.specs.Limits.{profileWidth, configurationWidth};
 ghost use Rattle.ids.specs.Column.{Records, Rising};
-ghost use Rattle.profiles.specs.Counts.{countAt, countedOf, configurationAt, listAt, listFault, numberOf, Sees, rowAt, InTables, Tables, FirstFault};
+ghost use Rattle.rows.specs.Counts.{countAt, countedOf, configurationAt, listAt, listFault, numberOf, Sees, rowAt, InTables, Tables, FirstFault};
 
 fn id_at(profiles: &[u32], i: usize) -> u32
     requires { ⌜ (i + 1) * profileWidth ≤ length (now profiles) ⌝ }

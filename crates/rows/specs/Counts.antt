@@ -18,13 +18,13 @@ use Rattle.rules.specs.declared.sizes.Configuration.{Configuration}
 use Rattle.ids.specs.declared.Found.{Found}
 use Rattle.ids.specs.declared.Found.the-variants.{At, Nothing}
 use Rattle.ids.specs.Column.{column, placeOf}
-use Rattle.profiles.specs.declared.entries.Seen.{Seen}
-use Rattle.profiles.specs.declared.entries.Sight.{Sight}
-use Rattle.profiles.specs.declared.entries.Sight.the-variants.{On, Gone}
-use Rattle.profiles.specs.declared.entries.Fault.{Fault}
-use Rattle.profiles.specs.declared.entries.Fault.the-variants.{Row, Nothing as Clear}
-use Rattle.profiles.specs.declared.entries.Counted.{Counted}
-use Rattle.profiles.specs.declared.entries.Counted.the-variants.{Samples, Missing}
+use Rattle.rows.specs.declared.lists.Seen.{Seen}
+use Rattle.rows.specs.declared.lists.Sight.{Sight}
+use Rattle.rows.specs.declared.lists.Sight.the-variants.{On, Gone}
+use Rattle.rows.specs.declared.lists.Fault.{Fault}
+use Rattle.rows.specs.declared.lists.Fault.the-variants.{Row, Nothing as Clear}
+use Rattle.rows.specs.declared.lists.Counted.{Counted}
+use Rattle.rows.specs.declared.lists.Counted.the-variants.{Samples, Missing}
 
 -- how many samples the profile with an id has
 abbrev pub countFound : List ℕ → Found → Option ℕ

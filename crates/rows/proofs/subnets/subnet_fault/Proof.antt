@@ -1,13 +1,13 @@
--- `constraints::subnets::subnet_fault` meets its contract: what is left from the loop's row on has the fault that all has. Assumes nothing.
+-- `rows::subnets::subnet_fault` meets its contract: what is left from the loop's row on has the fault that all has. Assumes nothing.
 use Prim.Native.Nat.{_-_, _≤_}
-use Rattle.constraints.proofs.Fifteen.{all-listed, fifteen, in-legs, listed-on, unlisted-here, unlistedFrom}
+use Rattle.rows.proofs.Fifteen.{all-listed, fifteen, in-legs, listed-on, unlisted-here, unlistedFrom}
 use Rattle.ids.specs.Column.{foundOf}
 use borrow.Author.Needs.{needs}
 use denote.Ref.{now}
 use mathlib.Core.Path.{_∙_, _≡_, ap, refl, sym}
 use native.Mathlib.Omega.{arith}
-use Rattle.constraints.proofs.subnets.subnet_fault.Statement.{statement}
-use Rattle.constraints.proofs.subnets.subnet_fault.Tie as tie
+use Rattle.rows.proofs.subnets.subnet_fault.Statement.{statement}
+use Rattle.rows.proofs.subnets.subnet_fault.Tie as tie
 
 abbrev Inv-loop : tie.InvT-loop
 Inv-loop legs n tracks m i₀ i =

@@ -1,8 +1,8 @@
--- `profiles::entries::count_of` meets its contract: the profile that is found has its count beside it. Assumes nothing.
-use Rattle.profiles.proofs.Counts.{counts}
+-- `rows::lists::count_of` meets its contract: the profile that is found has its count beside it. Assumes nothing.
+use Rattle.rows.proofs.Counts.{counts}
 use borrow.Author.Needs.{needs}
-use Rattle.profiles.proofs.entries.count_of.Statement.{statement}
-use Rattle.profiles.proofs.entries.count_of.Tie as tie
+use Rattle.rows.proofs.lists.count_of.Statement.{statement}
+use Rattle.rows.proofs.lists.count_of.Tie as tie
 
 find-requires : tie.Need-find-requires
 find-requires c κs = search needs

@@ -21,13 +21,13 @@ use Rattle.ids.specs.declared.Found.{Found}
 use Rattle.ids.specs.declared.Found.the-variants.{At, Nothing}
 use Rattle.ids.specs.Column.{column, foundOf, placeOf, Ascending, Records, Rising}
 use Rattle.ids.proofs.Column.{column-length, column-at}
-use Rattle.profiles.specs.declared.entries.Seen.{Seen}
-use Rattle.profiles.specs.declared.entries.Sight.{Sight}
-use Rattle.profiles.specs.declared.entries.Sight.the-variants.{On, Gone}
-use Rattle.profiles.specs.declared.entries.Counted.{Counted}
-use Rattle.profiles.specs.declared.entries.Counted.the-variants.{Samples, Missing}
-use Rattle.profiles.specs.Counts.{countAt, countedOf, configurationAt, listAt, lastsFor, listFault, numberOf, Sighted, SightedBy, Sees}
-use Rattle.profiles.proofs.Closing.{every-more}
+use Rattle.ids.proofs.More.{every-more}
+use Rattle.rows.specs.declared.lists.Seen.{Seen}
+use Rattle.rows.specs.declared.lists.Sight.{Sight}
+use Rattle.rows.specs.declared.lists.Sight.the-variants.{On, Gone}
+use Rattle.rows.specs.declared.lists.Counted.{Counted}
+use Rattle.rows.specs.declared.lists.Counted.the-variants.{Samples, Missing}
+use Rattle.rows.specs.Counts.{countAt, countedOf, configurationAt, listAt, lastsFor, listFault, numberOf, Sighted, SightedBy, Sees}
 
 -- ---- how far the ids rise
 

@@ -5,9 +5,9 @@ use mathlib.Core.Path.{_≡_, refl}
 use mathlib.Core.Bool.{Bool, true, false}
 use mathlib.Core.List.{List}
 use lib.Dec.{ltb}
-use lib.ListN.{length, getD, take}
+use lib.ListN.{length, getD}
 use borrow.Author.Tests.{ltb-true, ltb-false}
-use Rattle.ids.specs.Column.{Records, column, Ascending, Rising}
+use Rattle.ids.specs.Column.{Records, Rising}
 use Rattle.ids.proofs.Column.{column-length, column-at, take-column, in-table}
 
 module _ {width n : ℕ} {table : List ℕ} where

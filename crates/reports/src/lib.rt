@@ -7,6 +7,8 @@ use rules::figures::Desk;
 use rules::figures::Figures;
 use rules::figures::Peaks;
 
+pub mod working; // an accepted solution
+
 pub struct Report {
     pub answer: Answer,
     pub figures: Figures,
@@ -14,7 +16,7 @@ pub struct Report {
 }
 
 // Short of acceptance all figures are 0.
-fn no_report(answer: Answer) -> Report
+pub fn no_report(answer: Answer) -> Report
     ensures { λ r. ⌜ r ≡ noReport answer ⌝ }
 {
     let figures = Figures {

@@ -6,3 +6,4 @@ pub mod Places
 pub mod Onward
 pub mod Halves
 pub mod Parts
+pub mod Rises

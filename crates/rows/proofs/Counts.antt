@@ -7,10 +7,9 @@ use mathlib.Core.Option.{Option, none, some}
 use native.Mathlib.Omega.{arith}
 use native.Mathlib.Numerals.{add-one}
 use native.Mathlib.Nat.{not-suc-le-zero}
-use lib.Dec.{eqb, ltb}
-use lib.ListN.{length, getD, take}
-use lib.Seq.{getD-take, length-take-le}
-use borrow.Author.Tests.{eq-eqb, ne-eqb, ltb-true, ltb-false, not-true, not-false}
+use lib.Dec.{eqb}
+use lib.ListN.{length, getD}
+use borrow.Author.Tests.{eq-eqb, ne-eqb, not-true, not-false}
 use Rattle.rules.specs.Limits.{profileWidth}
 use Rattle.rules.specs.Lists.{every, isSome, placeFrom}
 use Rattle.rules.specs.Answers.{notThere, wrongSamples}
@@ -19,8 +18,8 @@ use Rattle.rules.specs.Timetable.{configuration}
 use Rattle.rules.specs.declared.sizes.Configuration.{Configuration}
 use Rattle.ids.specs.declared.Found.{Found}
 use Rattle.ids.specs.declared.Found.the-variants.{At, Nothing}
-use Rattle.ids.specs.Column.{column, foundOf, placeOf, Ascending, Records, Rising}
-use Rattle.ids.proofs.Column.{column-length, column-at}
+use Rattle.ids.specs.Column.{column, foundOf, placeOf, Records, Rising}
+use Rattle.ids.proofs.Column.{column-length}
 use Rattle.ids.proofs.More.{every-more}
 use Rattle.rows.specs.declared.lists.Seen.{Seen}
 use Rattle.rows.specs.declared.lists.Sight.{Sight}
@@ -28,62 +27,6 @@ use Rattle.rows.specs.declared.lists.Sight.the-variants.{On, Gone}
 use Rattle.rows.specs.declared.lists.Counted.{Counted}
 use Rattle.rows.specs.declared.lists.Counted.the-variants.{Samples, Missing}
 use Rattle.rows.specs.Counts.{countAt, countedOf, configurationAt, listAt, lastsFor, listFault, numberOf, Sighted, SightedBy, Sees}
-
--- ---- how far the ids rise
-
--- the first so many ids rise, as they stand in the table
-pub record Rises (profiles : List ℕ) (i : ℕ) : Type 0 where
-  pub step : (j : ℕ) → j + 1 < i → getD profiles (j * profileWidth) 0 < getD profiles ((j + 1) * profileWidth) 0
-
-rises-one : (profiles : List ℕ) → Rises profiles 1
-rises-one profiles = record { step = λ j h. absurd (omega arith) }
-
-rises-more : {profiles : List ℕ} {i last id : ℕ} → Rises profiles i → 1 ≤ i → last ≡ getD profiles ((i - 1) * profileWidth) 0
-    → id ≡ getD profiles (i * profileWidth) 0 → last < id → Rises profiles (i + 1)
-rises-more {profiles} {i} {last} {id} r one e q h = record { step = λ j k. go j k (ltb (j + 1) i) refl }
-  where
-    go : (j : ℕ) → j + 1 < i + 1 → (t : Bool) → ltb (j + 1) i ≡ t → getD profiles (j * profileWidth) 0 < getD profiles ((j + 1) * profileWidth) 0
-    go j k true x = r .step j (ltb-true (j + 1) i x)
-    go j k false x =
-        let n : j + 1 ≡ i = omega (arith, ltb-false (j + 1) i x) in
-        let p : i - 1 ≡ j = omega arith in
-        let a : getD profiles (j * profileWidth) 0 ≡ last = rw (← p) (sym e) in
-        let b : getD profiles ((j + 1) * profileWidth) 0 ≡ id = rw n (sym q) in
-        omega arith
-
-rises-to : {profiles : List ℕ} {m i : ℕ} → Records profileWidth m profiles → Rises profiles i → i ≤ m → Rising profileWidth m i profiles
-rises-to {profiles} {m} {i} records r h =
-    record { records = records; within = h; ascending = up }
-  where
-    up : Ascending (take i (column profileWidth m profiles))
-    up j k =
-        let n : length (take i (column profileWidth m profiles)) ≡ i = length-take-le i (column profileWidth m profiles) (rw column-length h) in
-        let a : getD (take i (column profileWidth m profiles)) j 0 ≡ getD profiles (j * profileWidth) 0 =
-        getD-take i (column profileWidth m profiles) j 0 (omega arith) ∙ column-at profileWidth m profiles j (omega arith) in
-        let b : getD (take i (column profileWidth m profiles)) (j + 1) 0 ≡ getD profiles ((j + 1) * profileWidth) 0 =
-        getD-take i (column profileWidth m profiles) (j + 1) 0 (omega arith) ∙ column-at profileWidth m profiles (j + 1) (omega arith) in
-        omega (arith, r .step j (omega arith))
-
--- the loop's invariant at record i
-pub record Rose (profiles : List ℕ) (m last i : ℕ) : Type 0 where
-  pub one : 1 ≤ i
-  pub inside : i ≤ m
-  pub before : last ≡ getD profiles ((i - 1) * profileWidth) 0
-  pub rises : Rises profiles i
-
-pub rose-first : {profiles : List ℕ} {m last : ℕ} → (m ≡ 0 → ⊥) → last ≡ getD profiles (0 * profileWidth) 0 → Rose profiles m last 1
-rose-first {profiles} z e = record { one = omega arith; inside = omega arith; before = e; rises = rises-one profiles }
-
-pub rose-more : {profiles : List ℕ} {m last i id : ℕ} → Rose profiles m last i → i < m → id ≡ getD profiles (i * profileWidth) 0 → last < id → Rose profiles m id (i + 1)
-rose-more {i = i} r h e k =
-    let n : i + 1 - 1 ≡ i = omega arith in
-    record { one = omega arith; inside = omega arith; before = rw n e; rises = rises-more (r .rises) (r .one) (r .before) e k }
-
-pub rose-end : {profiles : List ℕ} {m last i : ℕ} → Records profileWidth m profiles → Rose profiles m last i → Rising profileWidth m i profiles
-rose-end records r = rises-to records (r .rises) (r .inside)
-
-pub rises-none : (profiles : List ℕ) (m : ℕ) → Records profileWidth m profiles → Rising profileWidth m 0 profiles
-rises-none profiles m records = record { records = records; within = omega arith; ascending = λ j h. absurd (omega arith) }
 
 -- an entry that is one of the table's
 pub entry-in : {profiles : List ℕ} {m i : ℕ} → Records profileWidth m profiles → i < m → (i + 1) * profileWidth ≤ length profiles
@@ -248,4 +191,4 @@ module _ {table : List ℕ} {first count : ℕ} {lookup : ℕ → Option ℕ} {s
       rw (all h .there, q)
 
 pub ruleset counts =
-    (rose-first, rose-more, rose-end, rises-none, entry-in, found-in, count-found, count-missing, sees-right, sees-wrong, sees-gone, sees-again, seeing-none, seeing-on, seeing-gone, seeing-wrong, seeing-all)
+    (entry-in, found-in, count-found, count-missing, sees-right, sees-wrong, sees-gone, sees-again, seeing-none, seeing-on, seeing-gone, seeing-wrong, seeing-all)

@@ -1,6 +1,6 @@
 -- The first row whose track is in no subnet, by a walk over the legs. Assumes nothing.
 use Prim.Native.Nat.{ℕ, suc, _+_, _*_, _≤_, _<_}
-use mathlib.Core.Path.{_≡_, refl, ap, _∙_}
+use mathlib.Core.Path.{_≡_, refl, ap, sym, _∙_}
 use mathlib.Core.Bool.{Bool, true, false, not, cond, _||_}
 use mathlib.Core.List.{List, [], _∷_, map}
 use mathlib.Core.Option.{Option, none, some}
@@ -48,10 +48,11 @@ first-unlisted n ts (r ∷ rows) =
 
 -- ---- the walk
 
-module _ (legs : List ℕ) (n : ℕ) (tracks : List ℕ) (m : ℕ) where
-  abbrev pub unlistedFrom : ℕ → Option ℕ
-  unlistedFrom i = placeFrom i (unlisted (column trackWidth m tracks)) (drop i (legTracks n legs))
+-- from row i on
+abbrev pub unlistedFrom : (legs : List ℕ) (n : ℕ) (tracks : List ℕ) (m i : ℕ) → Option ℕ
+unlistedFrom legs n tracks m i = placeFrom i (unlisted (column trackWidth m tracks)) (drop i (legTracks n legs))
 
+module _ (legs : List ℕ) (n : ℕ) where
   tracks-length : length (legTracks n legs) ≡ n
   unfolding legTracks
   tracks-length = length-tabulate n (λ i. getD legs (i * legWidth + trackPlace) 0)
@@ -60,25 +61,47 @@ module _ (legs : List ℕ) (n : ℕ) (tracks : List ℕ) (m : ℕ) where
   unfolding legTracks
   track-at i h = getD-tabulate n (λ j. getD legs (j * legWidth + trackPlace) 0) i 0 h
 
-  -- a track stands in the table
-  pub in-legs : Records legWidth n legs → (i : ℕ) → i < n → i * legWidth + trackPlace < length legs
-  in-legs r i h = omega (arith, r .whole)
+-- a track stands in the table
+pub in-legs : {legs : List ℕ} {n i : ℕ} → Records legWidth n legs → i < n → i * legWidth + trackPlace < length legs
+in-legs r h = omega (arith, r .whole)
 
-  module _ (i : ℕ) (h : i < n) (f : Found) (q : f ≡ placeOf (getD legs (i * legWidth + trackPlace) 0) (column trackWidth m tracks)) where
-    pub listed-on : (row : ℕ) → f ≡ At row → unlistedFrom i ≡ unlistedFrom (i + 1)
-    listed-on row is =
-        let there = some-there (getD legs (i * legWidth + trackPlace) 0) (column trackWidth m tracks) f q row is in
-        simp add-one (rw (drop-cons (legTracks n legs) i 0 (rw tracks-length h), track-at i h, there))
+-- every track before row i is listed: what is left has the fault that all has
+pub record Listed (legs : List ℕ) (n : ℕ) (tracks : List ℕ) (m i : ℕ) : Type 0 where
+  pub inside : i ≤ n
+  pub left : unlistedFrom legs n tracks m i ≡ unlistedFrom legs n tracks m 0
 
-    pub unlisted-here : f ≡ Nothing → unlistedFrom i ≡ some i
-    unlisted-here is =
-        let nowhere = none-there (getD legs (i * legWidth + trackPlace) 0) (column trackWidth m tracks) f q is in
-        rw (drop-cons (legTracks n legs) i 0 (rw tracks-length h), track-at i h, nowhere)
-
-  pub all-listed : (i : ℕ) → n ≤ i → unlistedFrom i ≡ none
-  all-listed i h = let all : length (legTracks n legs) ≤ i = rw tracks-length h in rw (drop-of-length-le (legTracks n legs) all)
+module _ {legs : List ℕ} {n : ℕ} {tracks : List ℕ} {m : ℕ} where
+  pub listed-none : Listed legs n tracks m 0
+  listed-none = record { inside = omega arith; left = refl }
 
   -- the walk's answer is that of the definition
-  pub fifteen : (r : Found) → r ≡ foundOf (unlistedFrom 0) → Fifteen legs n tracks m r
+  fifteen : (r : Found) → r ≡ foundOf (unlistedFrom legs n tracks m 0) → Fifteen legs n tracks m r
   fifteen r e rows ts held =
       ap faultAt e ∙ rw (held .of-rows, held .of-tracks) (first-unlisted 0 ts rows)
+
+  module _ {i track : ℕ} {f : Found} (l : Listed legs n tracks m i) (h : i < n) (e : track ≡ getD legs (i * legWidth + trackPlace) 0)
+      (q : f ≡ placeOf track (column trackWidth m tracks)) where
+    found-by : f ≡ placeOf (getD legs (i * legWidth + trackPlace) 0) (column trackWidth m tracks)
+    found-by = q ∙ ap (λ (x : ℕ). placeOf x (column trackWidth m tracks)) e
+
+    pub listed-next : {row : ℕ} → f ≡ At row → Listed legs n tracks m (i + 1)
+    listed-next {row} is =
+        let there = some-there (getD legs (i * legWidth + trackPlace) 0) (column trackWidth m tracks) f found-by row is in
+        let on : unlistedFrom legs n tracks m i ≡ unlistedFrom legs n tracks m (i + 1) =
+        simp add-one (rw (drop-cons (legTracks n legs) i 0 (rw (tracks-length legs n) h), track-at legs n i h, there)) in
+        record { inside = omega arith; left = sym on ∙ l .left }
+
+    pub listed-gone : f ≡ Nothing → Fifteen legs n tracks m (At i)
+    listed-gone is =
+        let nowhere = none-there (getD legs (i * legWidth + trackPlace) 0) (column trackWidth m tracks) f found-by is in
+        let here : unlistedFrom legs n tracks m i ≡ some i =
+        rw (drop-cons (legTracks n legs) i 0 (rw (tracks-length legs n) h), track-at legs n i h, nowhere) in
+        fifteen _ (ap foundOf (sym here ∙ l .left))
+
+  pub listed-end : {i : ℕ} → Listed legs n tracks m i → n ≤ i → Fifteen legs n tracks m Nothing
+  listed-end {i} l h =
+      let all : length (legTracks n legs) ≤ i = rw (tracks-length legs n) h in
+      let over : unlistedFrom legs n tracks m i ≡ none = rw (drop-of-length-le (legTracks n legs) all) in
+      fifteen _ (ap foundOf (sym over ∙ l .left))
+
+pub ruleset listing = (in-legs, listed-none, listed-next, listed-gone, listed-end)

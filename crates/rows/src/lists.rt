@@ -11,39 +11,11 @@ ghost use Rattle.rules.specs.Limits.{profileWidth, configurationWidth};
 ghost use Rattle.ids.specs.Column.{Records, Rising};
 ghost use Rattle.rows.specs.Counts.{countAt, countedOf, configurationAt, listAt, listFault, numberOf, Sees, rowAt, InTables, Tables, FirstFault};
 
-fn id_at(profiles: &[u32], i: usize) -> u32
-    requires { ⌜ (i + 1) * profileWidth ≤ length (now profiles) ⌝ }
-    ensures { λ r. ⌜ r ≡ getD (now (profiles .entry)) (i * profileWidth) 0 ⌝ }
-{
-    profiles[i * Profile::WIDTH]
-}
-
 fn count_at(profiles: &[u32], i: usize) -> u32
     requires { ⌜ (i + 1) * profileWidth ≤ length (now profiles) ⌝ }
     ensures { λ r. ⌜ r ≡ getD (now (profiles .entry)) (i * profileWidth + 2) 0 ⌝ }
 {
     profiles[i * Profile::WIDTH + 2]
-}
-
-// How many ids rise from the first on.
-pub fn rising_of(profiles: &[u32], m: usize) -> usize
-    requires { ⌜ Records profileWidth m (now profiles) ⌝ }
-    ensures { λ r. ⌜ Rising profileWidth m r (now (profiles .entry)) ⌝ }
-{
-    if m == 0 {
-        return 0;
-    }
-    let mut last = id_at(profiles, 0);
-    let mut i = 1;
-    while i < m {
-        let id = id_at(profiles, i);
-        if id <= last {
-            return i;
-        }
-        last = id;
-        i += 1;
-    }
-    i
 }
 
 // How many samples a profile has, where it is there.
@@ -197,7 +169,7 @@ pub fn profile_fault(
     requires { ⌜ Tables (now legs) n (now configurations) × Records profileWidth m (now profiles) ⌝ }
     ensures { λ r. ⌜ FirstFault (now (legs .entry)) n (now (configurations .entry)) (now (profiles .entry)) m r ⌝ }
 {
-    let rising = rising_of(profiles, m);
+    let rising = ids::rising_of(profiles, Profile::WIDTH, m);
     let mut i = 0;
     while i < n {
         let fault = leg_fault(legs, i, configurations, profiles, m, rising);

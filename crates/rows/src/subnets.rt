@@ -14,10 +14,11 @@ pub fn subnet_fault(legs: &[u32], n: usize, tracks: &[u32], m: usize) -> Found
     requires { ⌜ Records legWidth n (now legs) × Records trackWidth m (now tracks) ⌝ }
     ensures { λ r. ⌜ Fifteen (now (legs .entry)) n (now (tracks .entry)) m r ⌝ }
 {
+    let rising = ids::rising_of(tracks, Track::WIDTH, m);
     let mut i = 0;
     while i < n {
         let track = legs[i * Leg::WIDTH + TRACK];
-        match ids::row_of(tracks, Track::WIDTH, m, track) {
+        match ids::find(tracks, Track::WIDTH, m, rising, track) {
             Found::At(_) => {
                 i += 1;
             }

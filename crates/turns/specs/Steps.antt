@@ -1,16 +1,12 @@
 -- What a step of the code does to a document, so that it is a turn of ../../rules/specs/Constraints.antt; and what the code knows of the document.
 use Prim.Native.Nat.{ℕ, _≤_}
 use mathlib.Core.Path.{_≡_}
-use mathlib.Core.Bool.{cond}
 use mathlib.Core.List.{List}
-use lib.Dec.{eqb}
 use lib.ListN.{length}
 use Rattle.rules.specs.Limits.{mostLegs, legWidth, trackWidth}
 use Rattle.rules.specs.Bytes.{wholeOf}
 use Rattle.rules.specs.Tokens.{Token}
-use Rattle.rules.specs.Constraints.{classNumber, Document, withConstraint, withSubnet, withId, withTrack, Turn, fault, on, finish}
-use Rattle.rules.specs.declared.tokens.Action.{Action}
-use Rattle.rules.specs.declared.tokens.Class.{Class}
+use Rattle.rules.specs.Constraints.{Document, withConstraint, withSubnet, withId, withTrack, Turn, fault, on, finish}
 use Rattle.text.specs.Held.{wholeHeld}
 use Rattle.text.specs.declared.numbers.Whole.{Whole}
 use Rattle.tokens.specs.declared.Token.{Token as Found}
@@ -18,11 +14,6 @@ use Rattle.ids.specs.Column.{Records, column, trackIdsOf}
 use Rattle.turns.specs.declared.steps.Step.{Step}
 use Rattle.turns.specs.declared.steps.Step.the-variants.{On, Emit, Opened, Named, Listed, Finish, Fault}
 use Rattle.turns.specs.declared.steps.Counts.{Counts}
-
--- ---- an action where the class is the one that may stand there, or else another
-
-abbrev pub orElse : Class → Class → Action → Action → Action
-orElse class c a other = cond (eqb (classNumber c) (classNumber class)) a other
 
 -- ---- what a step does
 

@@ -1,9 +1,13 @@
 // What a token does in a phase: the table of ../../rules/specs/Constraints.antt, row by row.
 ghost use mathlib.Core.Path.{_≡_};
+ghost use mathlib.Core.Bool.{cond};
+ghost use mathlib.Core.List.{[], _∷_};
+ghost use lib.Dec.{eqb};
 ghost use Rattle.rules.specs.Constraints as law;
+ghost use Rattle.rules.specs.Constraints.{_⇒_, sought};
 ghost use Rattle.rules.specs.declared.tokens.Action.the-variants as does;
 ghost use Rattle.rules.specs.declared.tokens.Class.the-variants as is;
-ghost use Rattle.turns.specs.Steps.{orElse};
+ghost use Rattle.rules.specs.declared.tokens.Phase.the-variants as at;
 use rules::tokens::Action;
 use rules::tokens::Class;
 use rules::tokens::Phase;
@@ -38,7 +42,7 @@ fn otherwise(class: Class) -> Action
 
 // The action of a token of class `may`; of any other token, `other`.
 fn or_else(class: Class, may: Class, action: Action, other: Action) -> Action
-    ensures { λ r. ⌜ r ≡ orElse class may action other ⌝ }
+    ensures { λ r. ⌜ r ≡ cond (eqb (law.classNumber may) (law.classNumber class)) action other ⌝ }
 {
     if class_number(may) == class_number(class) {
         return action;
@@ -46,117 +50,116 @@ fn or_else(class: Class, may: Class, action: Action, other: Action) -> Action
     other
 }
 
-// Where a name may stand.
-fn name_or(class: Class, named: Action, other: Action) -> Action
-    ensures { λ r. ⌜ r ≡ orElse class is.Quoted named (orElse class is.Unclosed does.Early other) ⌝ }
+// Where one class may stand, and no other.
+fn only(class: Class, may: Class, action: Action) -> Action
+    ensures { λ r. ⌜ r ≡ sought class (may ⇒ action ∷ []) ⌝ }
 {
-    or_else(
+    or_else(class, may, action, otherwise(class))
+}
+
+// Where one of two may stand.
+fn either(class: Class, may: Class, action: Action, or: Class, second: Action) -> Action
+    ensures { λ r. ⌜ r ≡ sought class (may ⇒ action ∷ or ⇒ second ∷ []) ⌝ }
+{
+    or_else(class, may, action, only(class, or, second))
+}
+
+// A name.
+fn name(class: Class, named: Action) -> Action
+    ensures { λ r. ⌜ r ≡ sought class (is.Quoted ⇒ named ∷ is.Unclosed ⇒ does.Early ∷ []) ⌝ }
+{
+    either(class, Class::Quoted, named, Class::Unclosed, Action::Early)
+}
+
+// The first name, or no name at all.
+fn name_or_brace(class: Class, named: Action, closes: Action) -> Action
+    ensures { λ r. ⌜ r ≡ sought class (is.Quoted ⇒ named ∷ is.Unclosed ⇒ does.Early ∷ is.CloseBrace ⇒ closes ∷ []) ⌝ }
+{
+    let other = either(
         class,
-        Class::Quoted,
-        named,
-        or_else(class, Class::Unclosed, Action::Early, other),
+        Class::Unclosed,
+        Action::Early,
+        Class::CloseBrace,
+        closes,
+    );
+    or_else(class, Class::Quoted, named, other)
+}
+
+// One more of what braces hold, or their end.
+fn comma_or_brace(class: Class, next: Phase, closes: Action) -> Action
+    ensures { λ r. ⌜ r ≡ sought class (is.Comma ⇒ does.Goes next ∷ is.CloseBrace ⇒ closes ∷ []) ⌝ }
+{
+    either(
+        class,
+        Class::Comma,
+        Action::Goes(next),
+        Class::CloseBrace,
+        closes,
     )
 }
 
-// Where a sign goes on and another closes.
-fn sign_or(class: Class, sign: Class, goes: Action, close: Class, closes: Action) -> Action
-    ensures { λ r. ⌜ r ≡ orElse class sign goes (orElse class close closes (law.otherwise class)) ⌝ }
+// One more of what brackets hold, or their end.
+fn comma_or_bracket(class: Class, next: Phase, after: Phase) -> Action
+    ensures { λ r. ⌜ r ≡ sought class (is.Comma ⇒ does.Goes next ∷ is.CloseBracket ⇒ does.Goes after ∷ []) ⌝ }
 {
-    or_else(
+    either(
         class,
-        sign,
-        goes,
-        or_else(class, close, closes, otherwise(class)),
+        Class::Comma,
+        Action::Goes(next),
+        Class::CloseBracket,
+        Action::Goes(after),
     )
 }
 
-// A record's value.
-fn value_or(class: Class, other: Action) -> Action
-    ensures { λ r. ⌜ r ≡ orElse class is.Run does.NumberValue (orElse class is.Quoted does.StringValue (orElse class is.Unclosed does.StringCut (orElse class is.OpenBracket does.TracksOpen other))) ⌝ }
+// The first of what brackets hold, or their end.
+fn or_bracket(class: Class, may: Class, action: Action, after: Phase) -> Action
+    ensures { λ r. ⌜ r ≡ sought class (may ⇒ action ∷ is.CloseBracket ⇒ does.Goes after ∷ []) ⌝ }
 {
-    let list = or_else(class, Class::OpenBracket, Action::TracksOpen, other);
-    let cut = or_else(class, Class::Unclosed, Action::StringCut, list);
-    let string = or_else(class, Class::Quoted, Action::StringValue, cut);
+    either(class, may, action, Class::CloseBracket, Action::Goes(after))
+}
+
+// A key's value.
+fn value(class: Class) -> Action
+    ensures { λ r. ⌜ r ≡ sought class (law.table at.Value) ⌝ }
+{
+    let list = either(
+        class,
+        Class::Unclosed,
+        Action::StringCut,
+        Class::OpenBracket,
+        Action::TracksOpen,
+    );
+    let string = or_else(class, Class::Quoted, Action::StringValue, list);
     or_else(class, Class::Run, Action::NumberValue, string)
 }
 
-// THE TABLE.
+// The table.
 pub fn action(phase: Phase, class: Class) -> Action
     ensures { λ r. ⌜ r ≡ law.actionOf phase class ⌝ }
 {
-    let other = otherwise(class);
     match phase {
-        Phase::Document => or_else(
-            class,
-            Class::OpenBrace,
-            Action::Goes(Phase::FirstName),
-            other,
-        ),
-        Phase::FirstName => name_or(
-            class,
-            Action::ListName,
-            or_else(class, Class::CloseBrace, Action::DocumentEnds, other),
-        ),
-        Phase::Name => name_or(class, Action::ListName, other),
-        Phase::NameColon => or_else(class, Class::Colon, Action::Goes(Phase::ListOpen), other),
-        Phase::ListOpen => or_else(
-            class,
-            Class::OpenBracket,
-            Action::Goes(Phase::FirstRecord),
-            other,
-        ),
-        Phase::AfterList => sign_or(
-            class,
-            Class::Comma,
-            Action::Goes(Phase::Name),
-            Class::CloseBrace,
-            Action::DocumentEnds,
-        ),
-        Phase::FirstRecord => sign_or(
+        Phase::Document => only(class, Class::OpenBrace, Action::Goes(Phase::FirstName)),
+        Phase::FirstName => name_or_brace(class, Action::ListName, Action::DocumentEnds),
+        Phase::Name => name(class, Action::ListName),
+        Phase::NameColon => only(class, Class::Colon, Action::Goes(Phase::ListOpen)),
+        Phase::ListOpen => only(class, Class::OpenBracket, Action::Goes(Phase::FirstRecord)),
+        Phase::AfterList => comma_or_brace(class, Phase::Name, Action::DocumentEnds),
+        Phase::FirstRecord => or_bracket(
             class,
             Class::OpenBrace,
             Action::RecordOpens,
-            Class::CloseBracket,
-            Action::Goes(Phase::AfterList),
+            Phase::AfterList,
         ),
-        Phase::Record => or_else(class, Class::OpenBrace, Action::RecordOpens, other),
-        Phase::AfterRecord => sign_or(
-            class,
-            Class::Comma,
-            Action::Goes(Phase::Record),
-            Class::CloseBracket,
-            Action::Goes(Phase::AfterList),
-        ),
-        Phase::FirstKey => name_or(
-            class,
-            Action::KeyName,
-            or_else(class, Class::CloseBrace, Action::RecordEnds, other),
-        ),
-        Phase::NextKey => name_or(class, Action::KeyName, other),
-        Phase::KeyColon => or_else(class, Class::Colon, Action::Goes(Phase::Value), other),
-        Phase::Value => value_or(class, other),
-        Phase::AfterValue => sign_or(
-            class,
-            Class::Comma,
-            Action::Goes(Phase::NextKey),
-            Class::CloseBrace,
-            Action::RecordEnds,
-        ),
-        Phase::FirstTrack => sign_or(
-            class,
-            Class::Run,
-            Action::TrackNumber,
-            Class::CloseBracket,
-            Action::Goes(Phase::AfterValue),
-        ),
-        Phase::NextTrack => or_else(class, Class::Run, Action::TrackNumber, other),
-        Phase::AfterTrack => sign_or(
-            class,
-            Class::Comma,
-            Action::Goes(Phase::NextTrack),
-            Class::CloseBracket,
-            Action::Goes(Phase::AfterValue),
-        ),
-        Phase::Done => or_else(class, Class::End, Action::Finishes, other),
+        Phase::Record => only(class, Class::OpenBrace, Action::RecordOpens),
+        Phase::AfterRecord => comma_or_bracket(class, Phase::Record, Phase::AfterList),
+        Phase::FirstKey => name_or_brace(class, Action::KeyName, Action::RecordEnds),
+        Phase::NextKey => name(class, Action::KeyName),
+        Phase::KeyColon => only(class, Class::Colon, Action::Goes(Phase::Value)),
+        Phase::Value => value(class),
+        Phase::AfterValue => comma_or_brace(class, Phase::NextKey, Action::RecordEnds),
+        Phase::FirstTrack => or_bracket(class, Class::Run, Action::TrackNumber, Phase::AfterValue),
+        Phase::NextTrack => only(class, Class::Run, Action::TrackNumber),
+        Phase::AfterTrack => comma_or_bracket(class, Phase::NextTrack, Phase::AfterValue),
+        Phase::Done => only(class, Class::End, Action::Finishes),
     }
 }

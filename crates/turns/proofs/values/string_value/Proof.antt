@@ -21,7 +21,7 @@ given-requires c κs = search needs
 
 returns-3 : tie.Need-returns-3
 unfolding stringValue
-returns-3 c = λ legs constraints tracks d t at. simp (eq-eqb _ _ (c .before .before .before .if1 .left), ← c .before .before .type-named .ensures, ne-eqb _ _ (c .before .if2 .left), c .given .ensures, c .before .before .before .if1 .left)
+returns-3 c = λ legs constraints tracks d t at. simp (← c .before .before .type-named .ensures, ne-eqb _ _ (c .before .if2 .left), c .given .ensures, c .before .before .before .if1 .left)
 
 pub string-value-spec : {M : Type 1} → statement M
 string-value-spec =

@@ -19,11 +19,11 @@ use Rattle.laws.specs.LawfulDocument.{LawfulConstraint, LawfulDocument}
 use Rattle.laws.proofs.Ordered.{OfKind}
 use Rattle.laws.proofs.Documents.{good-is-lawful}
 use Rattle.ids.specs.Column.{Records, column}
-use Rattle.constraints.specs.declared.steps.Counts.{Counts}
+use Rattle.turns.specs.declared.steps.Counts.{Counts}
 use Rattle.constraints.specs.declared.walks.Walked.{Walked}
 use Rattle.constraints.specs.declared.walks.Walked.the-variants.{Good, Refused}
 use Rattle.constraints.specs.declared.Read.the-variants.{Whole, Refused as NotRead}
-use Rattle.constraints.specs.Steps.{countsOf}
+use Rattle.turns.specs.Steps.{countsOf}
 use Rattle.constraints.specs.Tables.{nexts, startsOf, outcome, Filled, Walks, Able, reading, readOf, Tables, Reads}
 use Rattle.constraints.proofs.ByKind.{none, counted, all-counted, by-kind}
 

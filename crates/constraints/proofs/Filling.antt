@@ -16,7 +16,7 @@ use Rattle.ids.specs.Column.{column, trackIdsOf}
 use Rattle.ids.proofs.Column.{column-length, column-at}
 use Rattle.constraints.specs.Tables.{bumped, nexts, placed, writes, written}
 use Rattle.constraints.proofs.Putting.{counted-low}
-use Rattle.constraints.proofs.Words.{ids-length}
+use Rattle.turns.proofs.Words.{ids-length}
 
 -- ---- records one after the other
 

@@ -9,9 +9,6 @@ use tables::starts_of;
 use walks::Walked;
 use walks::walk;
 
-pub mod actions; // what a token does in a phase
-pub mod steps; // each action
-pub mod turns; // one token
 pub mod tables; // entries into the lent tables
 pub mod walks; // the whole text
 

@@ -4,7 +4,6 @@ use crate::Counts;
 use crate::Filed;
 use crate::places;
 use constraints::Read;
-
 use ids::Found;
 use rows::lists;
 use rows::lists::Fault;

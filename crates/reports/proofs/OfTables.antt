@@ -16,7 +16,7 @@ use Rattle.rules.specs.Answers.{refusal, noRoom, noFile, good, solutionFile}
 use Rattle.rules.specs.Reading.{legIds, filesOf}
 use Rattle.rules.specs.Profiles.{profilesFrom, profileNumbers}
 use Rattle.rules.specs.Constraints.{trackNumbers}
-use Rattle.rules.specs.Entries.{Tables, roomsOf, writtenTables, writtenChoices, Whole}
+use Rattle.rules.specs.Entries.{roomsOf, Whole}
 use Rattle.rules.specs.declared.figures.Figures.{Figures}
 use Rattle.rules.specs.declared.figures.Desk.{Desk}
 use Rattle.rules.specs.declared.answers.Refusal.{Refusal}
@@ -30,7 +30,7 @@ use Rattle.laws.proofs.Documents.{good-is-lawful}
 use Rattle.verdict.proofs.GoodReading.{choices-many}
 use Rattle.energy.specs.declared.runs.Counts.{Counts}
 use Rattle.energy.specs.Exact.{Exact}
-use Rattle.energy.specs.Given.{Given, given, curvesSeen, Readable}
+use Rattle.energy.specs.Given.{given, curvesSeen, Readable}
 use Rattle.energy.specs.Worked.{figuresSeen, Worked}
 use Rattle.energy.proofs.Reading.{Counted, read as read-tables, curves-read, figures-read, reading-readable, figures-exact}
 use Rattle.files.specs.declared as files

@@ -2,12 +2,8 @@
 ghost use mathlib.Core.Path.{_≡_};
 ghost use Rattle.rules.specs.Constraints.{start, plainRules};
 ghost use Rattle.constraints.specs.Tables.{Able, outcome, Walks};
-use crate::steps::Counts;
-use crate::steps::Room;
-use crate::steps::Step;
 use crate::tables::emit;
 use crate::tables::put_track;
-use crate::turns::turn;
 use rules::kinds::Key;
 use rules::sizes::Constraint;
 use rules::tokens::Lists;
@@ -15,6 +11,10 @@ use rules::tokens::Phase;
 use rules::tokens::Rules;
 use rules::tokens::State;
 use tokens::token_at;
+use turns::steps::Counts;
+use turns::steps::Room;
+use turns::steps::Step;
+use turns::turn;
 
 pub enum Walked {
     Good(Counts),

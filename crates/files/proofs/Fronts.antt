@@ -14,7 +14,7 @@ use Rattle.rules.specs.Reading.{legIds}
 use Rattle.rules.specs.declared.sizes.Leg.{Leg}
 use Rattle.ids.specs.Column.{Records, column}
 use Rattle.ids.proofs.Written.{tabulate-same, column-written}
-use Rattle.constraints.specs.Subnets.{trackPlace, legTracks}
+use Rattle.rows.specs.Subnets.{trackPlace, legTracks}
 use Rattle.constraints.proofs.Filling.{flat-length}
 use Rattle.tables.specs.View.{legAt}
 use Rattle.tables.proofs.Tabulated.{tabulate-map}

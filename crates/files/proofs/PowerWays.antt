@@ -16,12 +16,12 @@ use Rattle.rules.specs.declared.answers.Refusal.{Refusal}
 use Rattle.ids.specs.Column.{Records}
 use Rattle.profiles.specs.declared.reader.Rows.{Rows}
 use Rattle.profiles.specs.declared.reader.Rows.the-variants.{Refused as NotRead, Read}
-use Rattle.profiles.specs.declared.entries.Fault.{Fault}
-use Rattle.profiles.specs.declared.entries.Fault.the-variants.{Row as AtRow, Nothing}
+use Rattle.rows.specs.declared.lists.Fault.{Fault}
+use Rattle.rows.specs.declared.lists.Fault.the-variants.{Row as AtRow, Nothing}
 use Rattle.profiles.specs.Reads.{rowsOf, Reads}
 use Rattle.profiles.specs.Holds.{profileTable}
-use Rattle.profiles.specs.Counts.{Tables, Tabled, faultOf, FirstFault}
-use Rattle.profiles.proofs.Holding.{tabled-tables, tabled-records}
+use Rattle.rows.specs.Counts.{Tables, Tabled, faultOf, FirstFault}
+use Rattle.rows.proofs.Holding.{tabled-tables, tabled-records}
 use Rattle.files.specs.declared.Counts.{Counts}
 use Rattle.files.specs.declared.Filed.the-variants.{Whole, Refused}
 use Rattle.files.specs.Parts.{powersOf, Draft, Lists, Listed, PowersRead}

@@ -20,7 +20,7 @@ use Rattle.ids.specs.Column.{Records, column}
 use Rattle.constraints.specs.declared.Read.{Read}
 use Rattle.constraints.specs.declared.Read.the-variants.{Whole as WholeText, Refused as NotRead}
 use Rattle.constraints.specs.Tables.{readOf, reading, Reads}
-use Rattle.constraints.specs.Subnets.{faultAt, Hold, Fifteen}
+use Rattle.rows.specs.Subnets.{faultAt, Hold, Fifteen}
 use Rattle.constraints.proofs.Filling.{tracks-held}
 use Rattle.files.specs.declared.Counts.{Counts}
 use Rattle.files.specs.declared.Filed.the-variants.{Whole, Refused}

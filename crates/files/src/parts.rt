@@ -4,10 +4,10 @@ use crate::Counts;
 use crate::Filed;
 use crate::places;
 use constraints::Read;
-use constraints::subnets;
 use ids::Found;
-use profiles::entries;
-use profiles::entries::Fault;
+use rows::lists;
+use rows::lists::Fault;
+use rows::subnets;
 use rules::answers::File;
 use rules::answers::Refusal;
 use rules::sizes::Horizon;
@@ -54,7 +54,7 @@ pub fn read_powers(
         profiles::reader::Rows::Read(curves, sampled) => {
             let n = counts.legs;
             let m = curves as usize;
-            match entries::profile_fault(legs, n, configurations, profiles, m) {
+            match lists::profile_fault(legs, n, configurations, profiles, m) {
                 Fault::Row(row, number) => {
                     Filed::Refused(places::row_refusal(number, File::TIMETABLE, timetable, row))
                 }

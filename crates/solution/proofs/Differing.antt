@@ -21,7 +21,7 @@ use Rattle.timetable.proofs.Words.{length-snoc}
 use Rattle.solution.specs.declared.compare.Compared.{Compared}
 use Rattle.solution.specs.declared.reader.Choices.{Choices}
 use Rattle.solution.specs.declared.reader.Choices.the-variants.{Fault, Read}
-use Rattle.solution.specs.Against.{sameAt, noneDiffers, differsAt, comparedWith}
+use Rattle.solution.specs.Against.{sameAt, differsAt, comparedWith}
 use Rattle.solution.specs.Promise.{HoldsRows, choicesAnswer}
 use Rattle.solution.specs.Whole.{choicesAfter, comparedAnswer}
 

@@ -1,29 +1,28 @@
 -- The loop over a solution's lines: its invariant, kept by each turn, and what it gives at each return. Assumes nothing.
 use Prim.Native.Nat.{ℕ, suc, _+_, _*_, _-_, _/_, _≤_, _<_}
 use mathlib.Core.Path.{_≡_, refl, ap, sym, _∙_}
-use mathlib.Core.Bool.{Bool, true, false, _&&_}
+use mathlib.Core.Bool.{true}
 use mathlib.Core.List.{List, [], _∷_, _++_}
 use native.Mathlib.Omega.{arith}
 use lib.Dec.{eqb}
-use lib.ListN.{length, getD, take, drop, drop-of-length-le, length-drop, length-take}
+use lib.ListN.{length, take, drop, drop-of-length-le, length-drop, length-take}
 use lib.Seq.{drop-cons}
 use borrow.Author.Tests.{eqb-true}
-use Rattle.rules.specs.Limits.{mostHorizon, mostText, legWidth, configurationWidth}
+use Rattle.rules.specs.Limits.{legWidth, configurationWidth}
 use Rattle.rules.specs.Lists.{flat, over, startsWith}
 use Rattle.rules.specs.Answers.{refusal, badRow, Reading, refused, good, Judged, wrong, right}
 use Rattle.rules.specs.Bytes.{lineFeed, splitOn, startOf}
 use Rattle.rules.specs.Rows.{onRow, rowsFrom}
-use Rattle.rules.specs.Timetable.{Row, rowOf, solutionFits, listed, timetableHeader}
-use Rattle.rules.specs.Verdict.{All}
+use Rattle.rules.specs.Timetable.{Row, rowOf, solutionFits, timetableHeader}
 use Rattle.rules.proofs.Pieces.{split-not-empty, split-free}
 use Rattle.text.specs.Places.{upTo}
-use Rattle.text.proofs.Laws.{found-from, found-within, pieces-next, pieces-last}
+use Rattle.text.proofs.Laws.{pieces-next, pieces-last}
 use Rattle.timetable.specs.declared.line.Line.{Line}
 use Rattle.timetable.specs.Text.{firstLine}
 use Rattle.timetable.proofs.Words.{length-snoc, over-length, and-left, and-right}
 use Rattle.solution.specs.declared.compare.Compared.{Compared}
 use Rattle.solution.specs.declared.reader.Choices.{Choices}
-use Rattle.solution.specs.declared.reader.Choices.the-variants.{Fault, Read}
+use Rattle.solution.specs.declared.reader.Choices.the-variants.{Fault}
 use Rattle.solution.specs.Said.{Alone}
 use Rattle.solution.specs.Before.{packedRow, Counted, AfterRow, Turned, Roomy}
 use Rattle.solution.specs.Against.{noneDiffers, comparedWith}

@@ -12,11 +12,10 @@ use lib.Seq.{sets}
 use mir.Syntax.{w32}
 use mir.Val.{Fits}
 use borrow.Author.Tests.{leb-true, leb-false, lt-leb, ltb-true, le-leb, le-ltb, lt-ltb, not-false}
-use Rattle.rules.specs.Limits.{mostHorizon, mostText, mostId, mostLegs, mostListed, mostConfigurations, configurationWidth}
+use Rattle.rules.specs.Limits.{mostId, leastTravel, mostTravel, mostLegs, mostListed, mostConfigurations, configurationWidth}
 use Rattle.rules.specs.Lists.{every, any, flat, over, placeFrom}
-use Rattle.rules.specs.Answers.{badRow, outOfRange, tooMany, alreadySeen, nominalNotListed, noRoom, _needs_, Test, judge, Judged, wrong, right}
-use Rattle.rules.specs.Timetable.{Row, formOf, inRange, offers, listed, rowTests, judgeForm, solutionFits, configurationNumbers}
-use Rattle.rules.specs.Verdict.{All}
+use Rattle.rules.specs.Answers.{outOfRange, tooMany, alreadySeen, nominalNotListed, noRoom, _needs_, Test, judge}
+use Rattle.rules.specs.Timetable.{Row, formOf, idsOf, inRange, offers, listed, rowTests, judgeForm, solutionFits}
 use Rattle.rules.specs.declared.sizes.Configuration.{Configuration}
 use Rattle.rules.proofs.Truth.{all-append, all-map}
 use Rattle.ids.specs.declared.Found.{Found}
@@ -148,7 +147,7 @@ module _ (H : ℕ) (lent : List ℕ) (line : Line) (choices : List ℕ) (before 
         leb-true (listed before + length (r .list)) mostConfigurations (and-right (leb (length (r .list)) mostListed) _ (and-right (ltb (length before) mostLegs) _ counts))
 
     nominal-right : inRange H (r .nominal) ≡ true
-    nominal-right = and-left (inRange H (r .nominal)) (every (inRange H) (r .list)) (and-right (every (λ id. leb id mostId) (Rattle.rules.specs.Timetable.idsOf r)) _ ranged)
+    nominal-right = and-left (inRange H (r .nominal)) (every (inRange H) (r .list)) (and-right (every (λ id. leb id mostId) (idsOf r)) _ ranged)
 
     room : length before < length lent / configurationWidth
     room = ltb-true (length before) (length lent / configurationWidth) (sym room-same ∙ holds .4)
@@ -270,7 +269,7 @@ module _ (H : ℕ) (line : Line) (choices : List ℕ) (k : ℕ) (lowest-is : k �
   ends-by =
       let n : Configuration = nominalOf (line .numbers) in
       let i = and-left (inRange H n) (not (line .wide)) (and-right (every (λ id. leb id mostId) (heldIds (line .numbers))) _ (passes .0)) in
-      let j = and-right (leb (n .travel) Rattle.rules.specs.Limits.mostTravel) _ (and-right (leb Rattle.rules.specs.Limits.leastTravel (n .travel)) _ i) in
+      let j = and-right (leb (n .travel) mostTravel) _ (and-right (leb leastTravel (n .travel)) _ i) in
       leb-true (n .departure + n .travel) H (and-left (leb (n .departure + n .travel) H) _ j)
 
   -- so it can be packed

@@ -2,40 +2,40 @@
 -- Assumes nothing.
 use Prim.Native.Nat.{ℕ, _+_, _≤_, _<_}
 use mathlib.Core.Path.{_≡_, refl, ap, sym, subst, _∙_}
-use mathlib.Core.Bool.{Bool, true, false, _&&_}
+use mathlib.Core.Bool.{Bool, true, false}
 use mathlib.Core.List.{List, [], _∷_, _++_, append-nil}
 use mathlib.Core.Option.{Option, none, some}
 use native.Mathlib.Omega.{arith}
 use lib.Dec.{leb}
-use lib.ListN.{length, getD, drop}
+use lib.ListN.{length, getD}
 use lib.Seq.{drop-length}
 use borrow.Author.Tests.{leb-true}
 use Rattle.rules.specs.Limits.{mostId}
 use Rattle.rules.specs.Lists.{_>>=_, every}
 use Rattle.rules.specs.Answers.{badRow, timetableFile}
 use Rattle.rules.specs.Bytes.{lineFeed}
-use Rattle.rules.specs.Timetable.{Row, formOf, configuration, inRange, idsOf, judgeForm, timetableHeader}
+use Rattle.rules.specs.Timetable.{Row, formOf, configuration, idsOf, judgeForm, timetableHeader}
 use Rattle.rules.specs.Verdict.{All}
 use Rattle.rules.specs.declared.sizes.Configuration.{Configuration}
 use Rattle.lines.specs.Fold.{fold, run}
 use Rattle.lines.specs.Number as Row
-use Rattle.lines.specs.Machine.{Progress, inHeader, inRow, stopped}
+use Rattle.lines.specs.Machine.{Progress, inRow, stopped}
 use Rattle.lines.proofs.Lines.{Unbroken}
 use Rattle.lines.proofs.Machine.{in-line, opened}
 use Rattle.timetable.specs.declared.line.Line.{Line}
 use Rattle.timetable.specs.declared.number.Number.{Number}
 use Rattle.timetable.specs.declared.number.Number.the-variants.{Empty}
 use Rattle.timetable.specs.declared.reader.Reader.{Reader}
-use Rattle.timetable.specs.Digits.{mostHeld, numberHeld, isEmpty, valueOf}
+use Rattle.timetable.specs.Digits.{numberHeld, isEmpty, valueOf}
 use Rattle.timetable.specs.Open.{Open, partly, start, openStep, openEnd, reach}
 use Rattle.timetable.specs.Held.{lastSlot, entrySlot, Shaped, inHead, inFirst, inSecond, inThird, stoppedWith, nominalOf, Tables, tables, InLine, Entered}
 use Rattle.timetable.specs.RowOver.{heldIds, draftRoom}
-use Rattle.timetable.specs.Text.{firstLine, Holds, drafted, Leads, Placed, Ran}
+use Rattle.timetable.specs.Text.{firstLine, Holds, drafted, Placed, Ran}
 use Rattle.timetable.proofs.Words.{and-left, and-right, exact}
 use Rattle.timetable.proofs.Close.{entry-slot}
 use Rattle.timetable.proofs.Form.{form-run}
 use Rattle.timetable.proofs.Feed.{first-row}
-use Rattle.timetable.proofs.Judge.{rowFrom, number-held, number-exact, range-same, few-is, ids-right, nominal-right, nominal-same}
+use Rattle.timetable.proofs.Judge.{rowFrom, number-held, number-exact, range-same, ids-right, nominal-right, nominal-same}
 use Rattle.timetable.proofs.Ended.{end-row, end-none, not-empty, is-empty}
 use Rattle.solution.specs.Said.{Alone, rangeOf, Said, SaidOf, RowClosed}
 

@@ -2,7 +2,7 @@
 use Prim.Native.Nat.{ℕ, zero, suc, _+_, _*_, _/_, _%_, _≤_, _<_}
 use mathlib.Core.Path.{_≡_, refl, ap, ap₂, sym, _∙_}
 use mathlib.Core.Bool.{true}
-use mathlib.Core.List.{List, [], _∷_, _++_, append-nil}
+use mathlib.Core.List.{List, [], _∷_, _++_}
 use native.Mathlib.Omega.{arith}
 use native.Mathlib.Numerals.{add-one}
 use lib.Dec.{leb}
@@ -11,7 +11,7 @@ use lib.Seq.{sets, getD-append-add, getD-drop, drop-at}
 use borrow.Author.Tests.{leb-true}
 use Rattle.rules.specs.Limits.{leastTravel, mostTravel, configurationWidth}
 use Rattle.rules.specs.Lists.{flat, over}
-use Rattle.rules.specs.Timetable.{Row, configuration, inRange, choicesOf, configurationNumbers}
+use Rattle.rules.specs.Timetable.{Row, inRange, choicesOf, configurationNumbers}
 use Rattle.rules.specs.Energy.{tabulate}
 use Rattle.rules.specs.Verdict.{All}
 use Rattle.rules.specs.declared.sizes.Configuration.{Configuration}

@@ -6,7 +6,7 @@ use mathlib.Core.Bool.{Bool, true, cond}
 use mathlib.Core.List.{List, [], _∷_, _++_}
 use lib.Dec.{leb, ltb}
 use lib.ListN.{length, getD}
-use Rattle.rules.specs.Limits.{mostHorizon, mostText, mostLegs, mostConfigurations, mostTravel, configurationWidth}
+use Rattle.rules.specs.Limits.{mostLegs, mostConfigurations, mostTravel, configurationWidth}
 use Rattle.rules.specs.Lists.{flat, over}
 use Rattle.rules.specs.Answers.{outOfRange, tooMany, alreadySeen, nominalNotListed, noRoom, Test, _needs_, Judged, wrong, right}
 use Rattle.rules.specs.Timetable.{Row, idsOf, inRange, listed, rowOf, solutionFits}
@@ -14,7 +14,6 @@ use Rattle.rules.specs.Verdict.{All}
 use Rattle.rules.specs.declared.sizes.Configuration.{Configuration}
 use Rattle.ids.specs.Column.{column, isNew}
 use Rattle.timetable.specs.declared.line.Line.{Line}
-use Rattle.timetable.specs.Held.{nominalOf}
 use Rattle.timetable.specs.RowOver.{heldIds, rangeHolds, countsHold}
 
 -- more than any travel time

@@ -1,8 +1,6 @@
 // A row after those before it: its tests, and its place in the table.
 ghost use mathlib.Core.Path.{_≡_};
-ghost use mathlib.Core.Bool.{not};
 ghost use Prim.Native.Nat.{_*_, _≤_};
-ghost use lib.Dec.{ltb};
 ghost use lib.ListN.{length};
 ghost use Rattle.rules.specs.Limits.{configurationWidth};
 ghost use Rattle.timetable.specs.RowOver.{lowest};

@@ -1,5 +1,4 @@
 // A line by itself: the timetable's machine reads it, after no rows and into no tables.
-ghost use mathlib.Core.Path.{_≡_};
 ghost use Rattle.rules.specs.Timetable.{formOf};
 ghost use Rattle.solution.specs.Said.{Alone, SaidOf, RowClosed};
 use rules::answers::Refusal;

@@ -1,0 +1,5 @@
+pub mod Words
+pub mod Numbers
+pub mod Keys
+pub mod Rows
+pub mod ByAction

@@ -1,44 +1,24 @@
 -- A check that refuses fills everything, and one that does not leaves what it read. Assumes nothing.
 use Prim.Native.Nat.{ℕ}
 use mathlib.Core.Path.{_≡_, refl, sym, ap, _∙_}
-use mathlib.Core.Bool.{Bool, true, false}
+use mathlib.Core.Bool.{true, false}
 use mathlib.Core.List.{List}
 use native.Mathlib.Omega.{arith}
 use lib.ListN.{length, replicate}
-use Rattle.rules.specs.Limits.{unsignedFill, signedFill}
+use Rattle.rules.specs.Limits.{unsignedFill}
 use Rattle.rules.specs.Answers.{isRefusal, solutionFile, Reading, refused, good}
 use Rattle.rules.specs.Reading.{Texts}
 use Rattle.rules.specs.Verdict.{Verdict, accepted, violated, answerOf}
-use Rattle.rules.specs.Entries.{Tables, Whole, roomsOf, filled, filledTables, writtenTables, writtenChoices, verdictOf, allRead, checkedFrom, checked}
-use Rattle.rules.specs.declared.answers.Answer.{Answer}
+use Rattle.rules.specs.Entries.{Tables, Whole, roomsOf, filled, filledTables, verdictOf, allRead, checkedFrom, checked}
 use Rattle.tails.specs.declared.Judged.{Judged}
 use Rattle.tails.specs.Promise.{ReadAndJudged}
 use Rattle.checker.specs.Checks.{Checks}
+use Rattle.checker.proofs.Filling.{SameLengths, filled-alike}
 
 -- a verdict is no refusal
 verdict-kept : (file : ℕ) (v : Verdict) → isRefusal (answerOf file v) ≡ false
 verdict-kept file accepted = refl
 verdict-kept file (violated k n i m) = refl
-
--- tables of the same lengths are filled to the same
-pub record SameLengths (a b : Tables) : Type 0 where
-  pub legs : length (a .legs) ≡ length (b .legs)
-  pub configurations : length (a .configurations) ≡ length (b .configurations)
-  pub profiles : length (a .profiles) ≡ length (b .profiles)
-  pub samples : length (a .samples) ≡ length (b .samples)
-  pub constraints : length (a .constraints) ≡ length (b .constraints)
-  pub tracks : length (a .tracks) ≡ length (b .tracks)
-
-filled-alike : (a b : Tables) → SameLengths a b → filledTables a ≡ filledTables b
-filled-alike a b e j =
-    record {
-      legs = replicate (e .legs j) unsignedFill;
-      configurations = replicate (e .configurations j) unsignedFill;
-      profiles = replicate (e .profiles j) unsignedFill;
-      samples = replicate (e .samples j) signedFill;
-      constraints = replicate (e .constraints j) unsignedFill;
-      tracks = replicate (e .tracks j) unsignedFill;
-    }
 
 module _ (H : ℕ) (x : Texts) (s : List ℕ) (t : Tables) (c : List ℕ) {j : Judged} {t′ : Tables} {c′ : List ℕ} (read : ReadAndJudged H x s t c j t′ c′) where
   abbrev all : Reading Whole

@@ -26,7 +26,6 @@ use values::number_value;
 use values::string_cut;
 use values::string_value;
 
-pub mod actions; // what a token does in a phase
 pub mod steps; // what that leads to
 pub mod states; // the state after it
 pub mod records; // names and braces

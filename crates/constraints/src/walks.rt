@@ -6,6 +6,7 @@ use crate::tables::emit;
 use crate::tables::put_track;
 use rules::kinds::Key;
 use rules::sizes::Constraint;
+use rules::sizes::Subnet;
 use rules::tokens::Lists;
 use rules::tokens::Phase;
 use rules::tokens::Rules;
@@ -63,7 +64,7 @@ pub fn walk(
 {
     let room = Room::of(constraints.len(), tracks.len());
     let mut seen = Counts::none();
-    let mut ids = [0u32; 8];
+    let mut ids = [0u32; Subnet::MOST];
     let mut st = starting();
     let mut at: usize = 0;
     loop {

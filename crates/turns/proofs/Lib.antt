@@ -1,5 +1,4 @@
 pub mod Words
 pub mod Numbers
 pub mod Keys
-pub mod Rows
 pub mod ByAction

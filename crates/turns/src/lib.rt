@@ -26,7 +26,6 @@ use values::number_value;
 use values::string_cut;
 use values::string_value;
 
-pub mod actions; // what a token does in a phase
 pub mod steps; // what that leads to
 pub mod states; // the state after it
 pub mod records; // names and braces
@@ -50,32 +49,25 @@ pub fn turn(
 {
     let phase = st.phase;
     let class = t.class;
-    let place = t.place;
+    let at = t.place;
     let from = t.from;
     let end = t.end;
     let word = &text[from..end];
     match action(phase, class) {
-        Action::Broken => Step::Fault(Refusal::JSON_FORM, place),
+        Action::Broken => Step::Fault(Refusal::JSON_FORM, at),
         Action::Early => Step::Fault(Refusal::JSON_FORM, t.next),
         Action::Goes(next) => Step::On(to_phase(st, next)),
-        Action::ListName => list_name(word, st, place),
-        Action::DocumentEnds => document_ends(st, place),
-        Action::RecordOpens => record_opens(seen, room.constraints, st, place),
-        Action::KeyName => key_name(word, st, place),
-        Action::RecordEnds => record_ends(st, place),
-        Action::StringValue => string_value(word, st, place),
-        Action::StringCut => string_cut(st, place, t.next),
-        Action::NumberValue => { number_value(legs, n, ids, seen.ids, read_whole(word), st, place) }
-        Action::TracksOpen => tracks_open(st, place),
+        Action::ListName => list_name(word, st, at),
+        Action::DocumentEnds => document_ends(st, at),
+        Action::RecordOpens => record_opens(seen, room.constraints, st, at),
+        Action::KeyName => key_name(word, st, at),
+        Action::RecordEnds => record_ends(st, at),
+        Action::StringValue => string_value(word, st, at),
+        Action::StringCut => string_cut(st, at, t.next),
+        Action::NumberValue => { number_value(legs, n, ids, seen.ids, read_whole(word), st, at) }
+        Action::TracksOpen => tracks_open(st, at),
         Action::TrackNumber => {
-            track_number(
-                tracks,
-                seen.tracks,
-                room.tracks,
-                read_whole(word),
-                st,
-                place,
-            )
+            track_number(tracks, seen.tracks, room.tracks, read_whole(word), st, at)
         }
         Action::Finishes => Step::Finish(st),
     }

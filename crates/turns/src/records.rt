@@ -16,6 +16,8 @@ use crate::steps::Counts;
 use crate::steps::Step;
 use rules::answers::Refusal;
 use rules::kinds::Key;
+use rules::kinds::Kind;
+use rules::kinds::kind_at;
 use rules::sizes::Constraint;
 use rules::sizes::Subnet;
 use rules::tokens::Lists;
@@ -28,11 +30,11 @@ fn list_bit(list: u8) -> u8
     ensures { λ r. ⌜ r ≡ law.listBit list ⌝ }
 {
     match list {
-        1 => 1,
-        2 => 2,
-        3 => 4,
-        4 => 8,
-        5 => 16,
+        Kind::HEADWAY => 1,
+        Kind::SINGLE_TRACK => 2,
+        Kind::DWELL => 4,
+        Kind::TURNAROUND => 8,
+        Kind::CONNECTION => 16,
         _ => 32,
     }
 }
@@ -89,11 +91,11 @@ fn keys_of(list: u8) -> u16
         return Key::SUBNET_ID + Key::TRACK_IDS;
     }
     if list == Lists::UNKNOWN {
-        return rules::kinds::kind_at(0).keys;
+        return kind_at(0).keys;
     }
     let place = (list - 1) as usize;
-    if place < 5 {
-        return rules::kinds::kind_at(place).keys;
+    if place < Kind::COUNT {
+        return kind_at(place).keys;
     }
     0
 }

@@ -1,7 +1,7 @@
--- `turns::actions::either` meets its contract: the first of two that fits. Assumes nothing.
+-- `actions::either` meets its contract: the first of two that fits. Assumes nothing.
 use borrow.Author.Needs.{needs}
-use Rattle.turns.proofs.actions.either.Statement.{statement}
-use Rattle.turns.proofs.actions.either.Tie as tie
+use Rattle.actions.proofs.either.Statement.{statement}
+use Rattle.actions.proofs.either.Tie as tie
 
 only-requires : tie.Need-only-requires
 only-requires c κs = search needs

@@ -1,7 +1,7 @@
--- `turns::actions::only` meets its contract: the class that may stand, or the fault of any other. Assumes nothing.
+-- `actions::only` meets its contract: the class that may stand, or the fault of any other. Assumes nothing.
 use borrow.Author.Needs.{needs}
-use Rattle.turns.proofs.actions.only.Statement.{statement}
-use Rattle.turns.proofs.actions.only.Tie as tie
+use Rattle.actions.proofs.only.Statement.{statement}
+use Rattle.actions.proofs.only.Tie as tie
 
 otherwise-requires : tie.Need-otherwise-requires
 otherwise-requires c κs = search needs

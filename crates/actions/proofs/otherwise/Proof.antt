@@ -1,9 +1,9 @@
--- `turns::actions::otherwise` meets its contract: only the end of the text comes too early. Assumes nothing.
-use Rattle.turns.proofs.Rows.{breaks, ends-early}
+-- `actions::otherwise` meets its contract: only the end of the text comes too early. Assumes nothing.
+use Rattle.actions.proofs.Classes.{breaks, ends-early}
 use borrow.Author.Needs.{needs}
 use borrow.Author.Tests.{eq-eqb, ne-eqb}
-use Rattle.turns.proofs.actions.otherwise.Statement.{statement}
-use Rattle.turns.proofs.actions.otherwise.Tie as tie
+use Rattle.actions.proofs.otherwise.Statement.{statement}
+use Rattle.actions.proofs.otherwise.Tie as tie
 
 class-number-requires : tie.Need-class-number-requires
 class-number-requires c κs = search needs

@@ -1,7 +1,7 @@
--- `turns::actions::name_or_brace` meets its contract: the first of three that fits. Assumes nothing.
+-- `actions::name_or_brace` meets its contract: the first of three that fits. Assumes nothing.
 use borrow.Author.Needs.{needs}
-use Rattle.turns.proofs.actions.name_or_brace.Statement.{statement}
-use Rattle.turns.proofs.actions.name_or_brace.Tie as tie
+use Rattle.actions.proofs.name_or_brace.Statement.{statement}
+use Rattle.actions.proofs.name_or_brace.Tie as tie
 
 either-requires : tie.Need-either-requires
 either-requires c κs = search needs

@@ -1,8 +1,8 @@
--- `turns::actions::or_else` meets its contract: a test of two numbers. Assumes nothing.
+-- `actions::or_else` meets its contract: a test of two numbers. Assumes nothing.
 use borrow.Author.Needs.{needs}
 use borrow.Author.Tests.{eq-eqb, ne-eqb}
-use Rattle.turns.proofs.actions.or_else.Statement.{statement}
-use Rattle.turns.proofs.actions.or_else.Tie as tie
+use Rattle.actions.proofs.or_else.Statement.{statement}
+use Rattle.actions.proofs.or_else.Tie as tie
 
 class-number-requires : tie.Need-class-number-requires
 class-number-requires c κs = search needs

@@ -1,7 +1,7 @@
--- `turns::actions::value` meets its contract: the first of four that fits. Assumes nothing.
+-- `actions::value` meets its contract: the first of four that fits. Assumes nothing.
 use borrow.Author.Needs.{needs}
-use Rattle.turns.proofs.actions.value.Statement.{statement}
-use Rattle.turns.proofs.actions.value.Tie as tie
+use Rattle.actions.proofs.value.Statement.{statement}
+use Rattle.actions.proofs.value.Tie as tie
 
 either-requires : tie.Need-either-requires
 either-requires c κs = search needs

@@ -1,8 +1,8 @@
--- `turns::actions::action` meets its contract: each row of the table. Assumes nothing.
+-- `actions::action` meets its contract: each row of the table. Assumes nothing.
 use Rattle.rules.specs.Constraints.{actionOf}
 use borrow.Author.Needs.{needs}
-use Rattle.turns.proofs.actions.action.Statement.{statement}
-use Rattle.turns.proofs.actions.action.Tie as tie
+use Rattle.actions.proofs.action.Statement.{statement}
+use Rattle.actions.proofs.action.Tie as tie
 
 enum-told : tie.Need-enum-told
 enum-told c = search needs

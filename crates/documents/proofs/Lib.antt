@@ -1,0 +1,10 @@
+-- The theorems over constraints.json as a value and as a text.
+pub mod Same
+pub mod Grows
+pub mod Names
+pub mod Sets
+pub mod Passes
+pub mod Means
+pub mod Turns
+pub mod Members
+pub mod Lists

@@ -8,3 +8,6 @@ pub mod Means
 pub mod Turns
 pub mod Members
 pub mod Lists
+pub mod Text
+pub mod Fine
+pub mod Completeness

@@ -11,7 +11,7 @@ use borrow.Author.Tests.{eq-eqb, leb-true}
 use Rattle.rules.specs.Limits.{mostId}
 use Rattle.rules.specs.Answers.{Reading}
 use Rattle.rules.specs.Lists.{every}
-use Rattle.rules.specs.Kinds.{subnets, byArrival, byDeparture, connectionType, trackIds, keyNamed, typeNamed}
+use Rattle.rules.specs.Kinds.{subnets, connectionType, trackIds, keyNamed, typeNamed}
 use Rattle.rules.specs.Tokens.{Token}
 use Rattle.rules.specs.Constraints.{Document, Turn, on, actionOf, state, goes, atKey, withEntry, withTrack, withConstraint, keyName, stringValue, tracksOpen, act}
 use Rattle.rules.specs.declared.sizes.Constraint.{Constraint}
@@ -22,13 +22,12 @@ use Rattle.rules.specs.declared.tokens.Action.{Action}
 use Rattle.rules.specs.declared.tokens.Action.the-variants.{KeyName}
 use Rattle.rules.specs.declared.tokens.Rules.{Rules}
 use Rattle.rules.specs.declared.tokens.State.{State}
-use Rattle.laws.proofs.Keys.{types}
 use Rattle.laws.proofs.DocumentWords.{and-first, and-second}
-use Rattle.documents.specs.Value.{Member, number, type, trackList, keyOf, Among, Fits, inRange}
+use Rattle.documents.specs.Value.{Member, number, type, trackList, keyOf, Fits, inRange}
 use Rattle.documents.specs.Written.{Piece, closeBrace, openBracket, closeBracket, colon, comma, string, whole, more, items, trackPieces, saidPieces, memberPieces, keyName as nameOfKey, typeName}
 use Rattle.documents.proofs.Same.{Says, withTracks, withMember, entryWith, afterMembers, closing, Allowed, OkMembers}
 use Rattle.documents.proofs.Grows.{fits-before, front-length, tracks-grow, member-grows, members-grow}
-use Rattle.documents.proofs.Names.{key-named, type-named, type-is-known}
+use Rattle.documents.proofs.Names.{key-named, type-named, type-is-known, type-in}
 use Rattle.documents.proofs.Turns.{Reads, step, by-class, record-ended, track-read, number-read}
 
 module _ (legs : List ℕ) (constraints tracks : ℕ) (r : Reading Document) where
@@ -102,16 +101,8 @@ module _ (legs : List ℕ) (constraints tracks : ℕ) (r : Reading Document) whe
       step legs constraints tracks (string (typeName t)) rest (goes Value st) (withEntry (entryWith legs (type t) (st .entry)) st) d d r
       (λ u says. by-class legs constraints tracks (goes Value st) d u Quoted (says .0)
       ∙ ap (λ (w : List ℕ). stringValue legs constraints tracks (typeNamed w) (goes Value st) d u) (says .1)
-      ∙ ap (λ (n : ℕ). stringValue legs constraints tracks n (goes Value st) d u) (type-named t known)
-      ∙ rw (eq-eqb (st .key) connectionType at, type-is-known t known)) k
-    where
-      known : Among types t
-      known = go (eqb t byArrival) (eqb t byDeparture) ok
-        where
-          go : (a b : Bool) → a || b ≡ true → a || (b || false) ≡ true
-          go true b h = refl
-          go false true h = refl
-          go false false h = h
+      ∙ ap (λ (n : ℕ). stringValue legs constraints tracks n (goes Value st) d u) (type-named t (type-in legs t ok))
+      ∙ rw (eq-eqb (st .key) connectionType at, type-is-known t (type-in legs t ok))) k
   said-then (trackList ids) st d rest at ok fits k =
       step legs constraints tracks openBracket (items trackPieces closeBracket ids rest) (goes Value st) (goes FirstTrack st) d d r
       (λ t says. by-class legs constraints tracks (goes Value st) d t OpenBracket says ∙ rw (eq-eqb (st .key) trackIds at))

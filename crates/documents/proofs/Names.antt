@@ -1,14 +1,14 @@
 -- Names of lists, keys and connection types: by number and back. Assumes nothing.
-use Prim.Native.Nat.{ℕ, _+_}
+use Prim.Native.Nat.{ℕ}
 use mathlib.Core.Path.{_≡_, refl}
-use mathlib.Core.Bool.{true, false, not}
+use mathlib.Core.Bool.{Bool, true, false, not, _||_}
 use mathlib.Core.List.{List}
 use lib.Dec.{eqb}
 use borrow.Author.Tests.{eqb-true}
 use Rattle.rules.specs.Kinds.{unknown, byArrival, byDeparture, listNamed, keyNamed, typeNamed}
 use Rattle.laws.proofs.DocumentWords.{passed}
 use Rattle.laws.proofs.Keys.{types}
-use Rattle.documents.specs.Value.{sixLists, allKeys, Among}
+use Rattle.documents.specs.Value.{type, inRange, sixLists, allKeys, Among}
 use Rattle.documents.specs.Written.{listName, keyName, typeName}
 
 pub list-named : (list : ℕ) → Among sixLists list → listNamed (listName list) ≡ list
@@ -28,3 +28,12 @@ type-named t known = eqb-true _ t (passed (λ k. eqb (typeNamed (typeName k)) k)
 
 pub type-is-known : (t : ℕ) → Among types t → not (eqb t unknown) ≡ true
 type-is-known t known = passed (λ k. not (eqb k unknown)) types t refl known
+
+-- a type that is in range is one of the two
+pub type-in : (legs : List ℕ) (t : ℕ) → inRange legs (type t) ≡ true → Among types t
+type-in legs t ok = go (eqb t byArrival) (eqb t byDeparture) ok
+  where
+    go : (a b : Bool) → a || b ≡ true → a || (b || false) ≡ true
+    go true b h = refl
+    go false true h = refl
+    go false false h = h

@@ -124,7 +124,7 @@ module _ (table : List ℕ) (bit : ℕ → ℕ)
   fresh-distinct [] seen known fresh = tt
   fresh-distinct (n ∷ ns) seen known fresh = (
     all-map (λ m. bitAnd (bitOr seen (bit n)) (bit m) ≡ 0) (λ m. n ≡ m → ⊥) (λ m out. differs seen n m (known .0) (fresh .0) out) ns
-    (fresh-out ns (bitOr seen (bit n)) (known .1) (fresh .1)),
+        (fresh-out ns (bitOr seen (bit n)) (known .1) (fresh .1)),
     fresh-distinct ns (bitOr seen (bit n)) (known .1) (fresh .1),
   )
 
@@ -164,8 +164,8 @@ module _ (table : List ℕ) (bit : ℕ → ℕ)
     once-passes once = (
       distinct-fresh ns 0 (all-map (Among wanted) (Among table) (among-all (Among table) wanted in-table) ns (once .known)) (once .distinct) (none-yet ns),
       sym (all-within wanted 0 (union bit 0 ns) (or-zero-l (union bit 0 ns)) (all-map (Among ns) (λ n. Within (bit n) (union bit 0 ns)) (λ n there. among-within n ns 0 there) wanted (once .present)))
-      ∙ or-comm (union bit 0 wanted) (union bit 0 ns)
-      ∙ all-within ns 0 (union bit 0 wanted) (or-zero-l (union bit 0 wanted)) (all-map (Among wanted) (λ n. Within (bit n) (union bit 0 wanted)) (λ n there. among-within n wanted 0 there) ns (once .known)),
+          ∙ or-comm (union bit 0 wanted) (union bit 0 ns)
+          ∙ all-within ns 0 (union bit 0 wanted) (or-zero-l (union bit 0 wanted)) (all-map (Among wanted) (λ n. Within (bit n) (union bit 0 wanted)) (λ n there. among-within n wanted 0 there) ns (once .known)),
     )
       where
         none-yet : (ms : List ℕ) → All (λ m. bitAnd 0 (bit m) ≡ 0) ms

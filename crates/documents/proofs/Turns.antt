@@ -89,9 +89,13 @@ module _ (legs : List ℕ) (constraints tracks : ℕ) where
       track-read low fits =
           let track : Track = record { id = n; subnet = d .opened - 1 } in
           let one-more = length-append (d .tracks) (track ∷ []) in
-          rw (says, le-leb n mostId low, lt-ltb (length (d .tracks)) mostTracks (omega arith),
-          last-differs (λ x y. x .id ≡ y .id → ⊥) (λ k. eqb (k .id) n) (d .tracks) track (λ x differ. ne-eqb (x .id) n differ) (fits .distinct-tracks),
-          lt-ltb (length (d .tracks)) tracks (omega arith))
+          rw (
+            says,
+            le-leb n mostId low,
+            lt-ltb (length (d .tracks)) mostTracks (omega arith),
+            last-differs (λ x y. x .id ≡ y .id → ⊥) (λ k. eqb (k .id) n) (d .tracks) track (λ x differ. ne-eqb (x .id) n differ) (fits .distinct-tracks),
+            lt-ltb (length (d .tracks)) tracks (omega arith),
+          )
 
       leg-read : leb n mostId && isSome (rowOfLeg legs n) ≡ true
           → legValue legs constraints tracks st d t ≡ on (withEntry (entered (st .key) (Option·getD (rowOfLeg legs n) 0) (st .entry)) st) d

@@ -11,3 +11,9 @@ pub mod Lists
 pub mod Text
 pub mod Fine
 pub mod Completeness
+pub mod Shown
+pub mod Inverse
+pub mod Left
+pub mod Cells
+pub mod Rows
+pub mod Soundness

@@ -38,7 +38,7 @@ last-differs {A} R p (x ∷ s) y differ h = rw (differ x (last s (h .0))) (last-
     last (z ∷ l) k = last l (k .1)
 
 -- a leg's key is no subnet's
-leg-no-id : (key : ℕ) → isLeg key ≡ true → eqb key subnetId ≡ false
+pub leg-no-id : (key : ℕ) → isLeg key ≡ true → eqb key subnetId ≡ false
 leg-no-id key leg = go (eqb key firstLeg) refl leg
   where
     go : (b : Bool) → eqb key firstLeg ≡ b → b || eqb key secondLeg ≡ true → eqb key subnetId ≡ false

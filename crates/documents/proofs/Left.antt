@@ -1,4 +1,5 @@
--- What is left of a value, by the phase of the automaton: the pieces that the tokens still say, their tests, and the document at the end. Assumes nothing.
+-- What is left of a value, by the phase of the automaton: the pieces that are still to come, the tests that they pass, and the document at the end.
+-- Assumes nothing.
 use Prim.Native.Nat.{ℕ}
 use mathlib.Core.Path.{_≡_}
 use mathlib.Core.Bool.{true}
@@ -15,106 +16,142 @@ use Rattle.rules.specs.declared.tokens.Phase.the-variants.{Document as Text, Fi
 use Rattle.rules.specs.declared.tokens.State.{State}
 use Rattle.documents.specs.Value.{Member, Listed, Value, keyOf, inRange}
 use Rattle.documents.specs.Written.{Piece, Writes, closeBrace, openBracket, closeBracket, colon, more, items, trackPieces, saidPieces, memberPieces, recordPieces, listPieces, pieces}
-use Rattle.documents.proofs.Same.{Same, withTracks, withMember, entryWith, afterMembers, afterRecords, afterLists, OkMembers, OkLists}
+use Rattle.documents.proofs.Same.{Says, Same, withTracks, withMember, entryWith, afterMembers, afterRecords, afterLists, OkMembers, OkLists}
 
--- ---- some things, or one at least
+-- ---- the parts of a value that can be left: each with what follows it
 
-pub record One (A : Type 0) : Type 0 where
-  pub first : A
-  pub rest : List A
-
-abbrev pub some : {A : Type 0} → List A → List A
-some xs = xs
-
-abbrev pub one : {A : Type 0} → One A → List A
-one x = x .first ∷ x .rest
-
-abbrev pub onePieces : {A : Type 0} → Writes A → (close : Piece) → Writes (One A)
-onePieces write close x rest = write (x .first) (more write close (x .rest) rest)
-
--- ---- the pieces behind a list, a record, a member
-
-abbrev pub behindList : Value → List Piece
-behindList lists = more listPieces closeBrace lists []
-
-abbrev pub behindRecord : List (List Member) → Value → List Piece
-behindRecord records lists = more recordPieces closeBracket records (behindList lists)
-
-abbrev pub behindMember : List Member → List (List Member) → Value → List Piece
-behindMember members records lists = more memberPieces closeBrace members (behindRecord records lists)
-
--- D: the document at the end. A: some things or one at least, of those that are read now; all: as a list; write: as pieces
-module _ (legs : List ℕ) (D : Document) (A : Type 0) where
-  pub record ListsLeft (all : A → Value) (write : A → List Piece) (seen : ℕ) (d : Document) (ts : List Token) : Type 0 where
-    pub left : A
-    pub same : Same (write left) ts
-    pub ok : OkLists legs seen (all left)
-    pub ends : afterLists legs d (all left) ≡ D
-
-  pub record RecordsLeft (all : A → List (List Member)) (write : Writes A) (list seen : ℕ) (d : Document) (ts : List Token) : Type 0 where
-    pub left : A
-    pub lists : Value
-    pub same : Same (write left (behindList lists)) ts
-    pub ok : All (OkMembers legs list 0) (all left)
-    pub lists-ok : OkLists legs seen lists
-    pub ends : afterLists legs (afterRecords legs list d (all left)) lists ≡ D
-
-  pub record MembersLeft (all : A → List Member) (write : Writes A) (list seen keys : ℕ) (c : Constraint) (d : Document) (ts : List Token) : Type 0 where
-    pub left : A
-    pub records : List (List Member)
-    pub lists : Value
-    pub same : Same (write left (behindRecord records lists)) ts
-    pub ok : OkMembers legs list keys (all left)
-    pub records-ok : All (OkMembers legs list 0) records
-    pub lists-ok : OkLists legs seen lists
-    pub ends : afterLists legs (afterRecords legs list (afterMembers legs list c d (all left)) records) lists ≡ D
-
-  pub record TracksLeft (all : A → List ℕ) (write : Writes A) (list seen keys : ℕ) (c : Constraint) (d : Document) (ts : List Token) : Type 0 where
-    pub left : A
-    pub members : List Member
-    pub records : List (List Member)
-    pub lists : Value
-    pub same : Same (write left (behindMember members records lists)) ts
-    pub range : every (λ id. leb id mostId) (all left) ≡ true
-    pub ok : OkMembers legs list keys members
-    pub records-ok : All (OkMembers legs list 0) records
-    pub lists-ok : OkLists legs seen lists
-    pub ends : afterLists legs (afterRecords legs list (afterMembers legs list c (withTracks (all left) d) members) records) lists ≡ D
-
--- at a key whose value is still to come
-pub record ValueLeft (legs : List ℕ) (D : Document) (write : Writes Member) (list seen key keys : ℕ) (c : Constraint) (d : Document) (ts : List Token) : Type 0 where
-  pub member : Member
-  pub members : List Member
+pub record Records : Type 0 where
   pub records : List (List Member)
   pub lists : Value
-  pub key-is : keyOf member ≡ key
-  pub same : Same (write member (behindMember members records lists)) ts
-  pub value : inRange legs member ≡ true
-  pub ok : OkMembers legs list keys members
-  pub records-ok : All (OkMembers legs list 0) records
-  pub lists-ok : OkLists legs seen lists
-  pub ends : afterLists legs (afterRecords legs list (afterMembers legs list (entryWith legs member c) (withMember member d) members) records) lists ≡ D
+
+pub record Members : Type 0 where
+  pub members : List Member
+  pub then : Records
+
+pub record Tracks : Type 0 where
+  pub ids : List ℕ
+  pub then : Members
+
+pub record ListThen : Type 0 where
+  pub list : ℕ
+  pub then : Records
+
+pub record MemberThen : Type 0 where
+  pub member : Member
+  pub then : Members
+
+pub record TrackThen : Type 0 where
+  pub id : ℕ
+  pub then : Tracks
+
+-- one in front
+abbrev pub listJoined : ListThen → Value
+listJoined l = record { list = l .list; records = l .then .records } ∷ l .then .lists
+
+abbrev pub recordJoined : Members → Records
+recordJoined m = record { records = m .members ∷ m .then .records; lists = m .then .lists }
+
+abbrev pub memberJoined : MemberThen → Members
+memberJoined m = record { members = m .member ∷ m .then .members; then = m .then .then }
+
+abbrev pub trackJoined : TrackThen → Tracks
+trackJoined t = record { ids = t .id ∷ t .then .ids; then = t .then .then }
+
+-- none in front
+abbrev pub noRecords : Value → Records
+noRecords v = record { records = []; lists = v }
+
+abbrev pub noMembers : Records → Members
+noMembers r = record { members = []; then = r }
+
+abbrev pub noTracks : Members → Tracks
+noTracks m = record { ids = []; then = m }
+
+-- ---- as pieces
+
+abbrev pub recordsBy : Writes (List (List Member)) → Records → List Piece
+recordsBy write r = write (r .records) (more listPieces closeBrace (r .lists) [])
+
+abbrev pub membersBy : Writes (List Member) → Members → List Piece
+membersBy write m = write (m .members) (recordsBy (more recordPieces closeBracket) (m .then))
+
+abbrev pub tracksBy : Writes (List ℕ) → Tracks → List Piece
+tracksBy write t = write (t .ids) (membersBy (more memberPieces closeBrace) (t .then))
+
+abbrev pub valueOf : MemberThen → List Piece
+valueOf m = saidPieces (m .member) (membersBy (more memberPieces closeBrace) (m .then))
+
+-- ---- the tests that are left, and the document at the end
+
+module _ (legs : List ℕ) (st : State) where
+  abbrev pub RecordsOk : Records → Type 0
+  RecordsOk r = All (OkMembers legs (st .list) 0) (r .records) × OkLists legs (st .lists) (r .lists)
+
+  abbrev pub MembersOk : Members → Type 0
+  MembersOk m = OkMembers legs (st .list) (st .keys) (m .members) × RecordsOk (m .then)
+
+  abbrev pub TracksOk : Tracks → Type 0
+  TracksOk t = (every (λ id. leb id mostId) (t .ids) ≡ true) × MembersOk (t .then)
+
+  -- the key has been read
+  abbrev pub ValueOk : MemberThen → Type 0
+  ValueOk m = (keyOf (m .member) ≡ st .key) × (inRange legs (m .member) ≡ true) × MembersOk (m .then)
+
+  module _ (d : Document) where
+    abbrev pub afterThoseRecords : Records → Document
+    afterThoseRecords r = afterLists legs (afterRecords legs (st .list) d (r .records)) (r .lists)
+
+  module _ (c : Constraint) (d : Document) where
+    abbrev pub afterThoseMembers : Members → Document
+    afterThoseMembers m = afterThoseRecords (afterMembers legs (st .list) c d (m .members)) (m .then)
+
+  module _ (d : Document) where
+    abbrev pub afterTracks : Tracks → Document
+    afterTracks t = afterThoseMembers (st .entry) (withTracks (t .ids) d) (t .then)
+
+    abbrev pub afterValue : MemberThen → Document
+    afterValue m = afterThoseMembers (entryWith legs (m .member) (st .entry)) (withMember (m .member) d) (m .then)
 
 -- ---- by phase
 
+-- something is left: the tokens say its pieces, it passes its tests, and D is the document at the end
+pub record Is (A : Type 0) (write : A → List Piece) (Ok : A → Type 0) (after : A → Document) (D : Document) (ts : List Token) : Type 0 where
+  pub left : A
+  pub same : Same (write left) ts
+  pub ok : Ok left
+  pub ends : after left ≡ D
+
 module _ (legs : List ℕ) (D : Document) where
   abbrev pub Left : Phase → State → Document → List Token → Type 0
-  Left Text st d ts = ListsLeft legs D Value some pieces (st .lists) d ts
-  Left FirstName st d ts = ListsLeft legs D Value some (λ v. items listPieces closeBrace v []) (st .lists) d ts
-  Left Name st d ts = ListsLeft legs D (One Listed) one (λ v. onePieces listPieces closeBrace v []) (st .lists) d ts
-  Left AfterList st d ts = ListsLeft legs D Value some behindList (st .lists) d ts
-  Left NameColon st d ts =
-      RecordsLeft legs D (List (List Member)) some (λ rs rest. colon ∷ openBracket ∷ items recordPieces closeBracket rs rest) (st .list) (st .lists) d ts
-  Left ListOpen st d ts = RecordsLeft legs D (List (List Member)) some (λ rs rest. openBracket ∷ items recordPieces closeBracket rs rest) (st .list) (st .lists) d ts
-  Left FirstRecord st d ts = RecordsLeft legs D (List (List Member)) some (items recordPieces closeBracket) (st .list) (st .lists) d ts
-  Left Record st d ts = RecordsLeft legs D (One (List Member)) one (onePieces recordPieces closeBracket) (st .list) (st .lists) d ts
-  Left AfterRecord st d ts = RecordsLeft legs D (List (List Member)) some (more recordPieces closeBracket) (st .list) (st .lists) d ts
-  Left FirstKey st d ts = MembersLeft legs D (List Member) some (items memberPieces closeBrace) (st .list) (st .lists) (st .keys) (st .entry) d ts
-  Left NextKey st d ts = MembersLeft legs D (One Member) one (onePieces memberPieces closeBrace) (st .list) (st .lists) (st .keys) (st .entry) d ts
-  Left AfterValue st d ts = MembersLeft legs D (List Member) some (more memberPieces closeBrace) (st .list) (st .lists) (st .keys) (st .entry) d ts
-  Left KeyColon st d ts = ValueLeft legs D (λ m rest. colon ∷ saidPieces m rest) (st .list) (st .lists) (st .key) (st .keys) (st .entry) d ts
-  Left AtValue st d ts = ValueLeft legs D saidPieces (st .list) (st .lists) (st .key) (st .keys) (st .entry) d ts
-  Left FirstTrack st d ts = TracksLeft legs D (List ℕ) some (items trackPieces closeBracket) (st .list) (st .lists) (st .keys) (st .entry) d ts
-  Left NextTrack st d ts = TracksLeft legs D (One ℕ) one (onePieces trackPieces closeBracket) (st .list) (st .lists) (st .keys) (st .entry) d ts
-  Left AfterTrack st d ts = TracksLeft legs D (List ℕ) some (more trackPieces closeBracket) (st .list) (st .lists) (st .keys) (st .entry) d ts
-  Left Done st d ts = Same [] ts × (d ≡ D)
+  Left Text st d = Is Value pieces (OkLists legs (st .lists)) (afterLists legs d) D
+  Left FirstName st d = Is Value (λ v. items listPieces closeBrace v []) (OkLists legs (st .lists)) (afterLists legs d) D
+  Left Name st d =
+      Is ListThen (λ l. items listPieces closeBrace (listJoined l) []) (λ l. OkLists legs (st .lists) (listJoined l)) (λ l. afterLists legs d (listJoined l)) D
+  Left AfterList st d = Is Value (λ v. more listPieces closeBrace v []) (OkLists legs (st .lists)) (afterLists legs d) D
+  Left NameColon st d = Is Records (λ r. colon ∷ openBracket ∷ recordsBy (items recordPieces closeBracket) r) (RecordsOk legs st) (afterThoseRecords legs st d) D
+  Left ListOpen st d = Is Records (λ r. openBracket ∷ recordsBy (items recordPieces closeBracket) r) (RecordsOk legs st) (afterThoseRecords legs st d) D
+  Left FirstRecord st d = Is Records (recordsBy (items recordPieces closeBracket)) (RecordsOk legs st) (afterThoseRecords legs st d) D
+  Left Record st d =
+      Is Members (λ m. recordsBy (items recordPieces closeBracket) (recordJoined m)) (λ m. RecordsOk legs st (recordJoined m)) (λ m. afterThoseRecords legs st d (recordJoined m)) D
+  Left AfterRecord st d = Is Records (recordsBy (more recordPieces closeBracket)) (RecordsOk legs st) (afterThoseRecords legs st d) D
+  Left FirstKey st d = Is Members (membersBy (items memberPieces closeBrace)) (MembersOk legs st) (afterThoseMembers legs st (st .entry) d) D
+  Left NextKey st d =
+      Is MemberThen (λ m. membersBy (items memberPieces closeBrace) (memberJoined m)) (λ m. MembersOk legs st (memberJoined m)) (λ m. afterThoseMembers legs st (st .entry) d (memberJoined m)) D
+  Left KeyColon st d = Is MemberThen (λ m. colon ∷ valueOf m) (ValueOk legs st) (afterValue legs st d) D
+  Left AtValue st d = Is MemberThen valueOf (ValueOk legs st) (afterValue legs st d) D
+  Left AfterValue st d = Is Members (membersBy (more memberPieces closeBrace)) (MembersOk legs st) (afterThoseMembers legs st (st .entry) d) D
+  Left FirstTrack st d = Is Tracks (tracksBy (items trackPieces closeBracket)) (TracksOk legs st) (afterTracks legs st d) D
+  Left NextTrack st d =
+      Is TrackThen (λ t. tracksBy (items trackPieces closeBracket) (trackJoined t)) (λ t. TracksOk legs st (trackJoined t)) (λ t. afterTracks legs st d (trackJoined t)) D
+  Left AfterTrack st d = Is Tracks (tracksBy (more trackPieces closeBracket)) (TracksOk legs st) (afterTracks legs st d) D
+  Left Done st d = Is (Unit {0}) (λ u. []) (λ u. Unit {0}) (λ u. d) D
+
+-- ---- a sign in front, and the same as another thing
+
+module _ {A : Type 0} {write : A → List Piece} {Ok : A → Type 0} {after : A → Document} {D : Document} where
+  pub behind-sign : (x : Piece) {t : Token} {ts : List Token} → Says x t → Is A write Ok after D ts → Is A (λ a. x ∷ write a) Ok after D (t ∷ ts)
+  behind-sign x says k = record { left = k .left; same = (says, k .same); ok = k .ok; ends = k .ends }
+
+  pub renamed : {B : Type 0} {OkB : B → Type 0} (f : B → A) → ((b : B) → OkB b → Ok (f b)) → {ts : List Token}
+      → Is B (λ b. write (f b)) OkB (λ b. after (f b)) D ts → Is A write Ok after D ts
+  renamed f g k = record { left = f (k .left); same = k .same; ok = g (k .left) (k .ok); ends = k .ends }

@@ -14,6 +14,5 @@ pub mod Completeness
 pub mod Shown
 pub mod Inverse
 pub mod Left
-pub mod Cells
 pub mod Rows
 pub mod Soundness

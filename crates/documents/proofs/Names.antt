@@ -43,6 +43,14 @@ type-in legs t ok = go (eqb t byArrival) (eqb t byDeparture) ok
     go false true h = refl
     go false false h = h
 
+pub in-range : (legs : List ℕ) (t : ℕ) → Among types t → inRange legs (type t) ≡ true
+in-range legs t known = go (eqb t byArrival) (eqb t byDeparture) known
+  where
+    go : (a b : Bool) → a || (b || false) ≡ true → a || b ≡ true
+    go true b h = refl
+    go false true h = refl
+    go false false h = h
+
 -- ---- from a name that is known to its number and back
 
 same-list : (s t : List ℕ) → sameList s t ≡ true → s ≡ t

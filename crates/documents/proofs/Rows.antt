@@ -1,24 +1,29 @@
 -- THE TABLE, row by row: if a document was read, then in every phase what is left of the text is what is left of a value. Assumes nothing.
 use Prim.Native.Nat.{ℕ}
-use mathlib.Core.Path.{_≡_, refl, sym, ap, _∙_}
-use mathlib.Core.Bool.{Bool, true, false, cond}
+use mathlib.Core.Path.{_≡_, refl, sym, ap, ap₂, subst, _∙_}
+use mathlib.Core.Bool.{Bool, true, false, not, cond, _&&_}
 use mathlib.Core.List.{List, [], _∷_}
 use native.Mathlib.Omega.{arith}
 use lib.Dec.{eqb}
-use borrow.Author.Tests.{eqb-true}
+use lib.Bits.{bitAnd, bitOr, and-zero-r}
+use borrow.Author.Tests.{eqb-true, eqb-false, not-true}
 use Rattle.rules.specs.Answers.{badJson, Reading, good}
+use Rattle.rules.specs.Kinds.{unknown, connectionType, listNamed, keyNamed, typeNamed}
 use Rattle.rules.specs.Tokens.{Token}
-use Rattle.rules.specs.Kinds.{connectionType}
-use Rattle.rules.specs.Constraints.{May, table, classNumber, otherwise, sought, actionOf, Document, Turn, goes, past, plainRules, stringCut, act, turnOf, run}
+use Rattle.rules.specs.Constraints.{May, table, classNumber, otherwise, sought, actionOf, Document, Turn, fault, past, numberOf, goes, inList, inRecord, atKey, withEntry, withTrack, entered, keysOf, allLists, plainRules, listName, documentEnds, recordOpens, keyName, recordEnds, stringValue, stringCut, numberValue, tracksOpen, trackNumber, act, turnOf, onward, run}
 use Rattle.rules.specs.Verdict.{All}
 use Rattle.rules.specs.declared.tokens.Class.{Class}
 use Rattle.rules.specs.declared.tokens.Class.the-variants.{OpenBrace, CloseBrace, OpenBracket, CloseBracket, Colon, Comma, Quoted, Run, End, Unclosed, Forbidden}
 use Rattle.rules.specs.declared.tokens.Phase.{Phase}
 use Rattle.rules.specs.declared.tokens.Phase.the-variants.{Document as Text, FirstName, Name, NameColon, ListOpen, AfterList, FirstRecord, Record, AfterRecord, FirstKey, NextKey, KeyColon, Value as AtValue, AfterValue, FirstTrack, NextTrack, AfterTrack, Done}
 use Rattle.rules.specs.declared.tokens.State.{State}
-use Rattle.documents.proofs.Inverse.{no-fault}
-use Rattle.documents.proofs.Left.{one, ListsLeft, RecordsLeft, MembersLeft, TracksLeft, ValueLeft, Left}
-use Rattle.documents.proofs.Cells.{next, Behind, Read, early, document-ends, list-left, first-list, record-left, first-record, record-ends, no-members, member-left, first-member, number-left, type-left, tracks-left, track-left, first-track}
+use Rattle.laws.proofs.Keys.{list-known, type-known}
+use Rattle.documents.specs.Value.{Member, number, type, trackList, keyOf, Value, allKeys, Among}
+use Rattle.documents.specs.Written.{openBrace, closeBrace, openBracket, closeBracket, colon, comma, more, recordPieces, keyName as nameOfKey}
+use Rattle.documents.proofs.Same.{Same, opening, closing, withMember, entryWith, OkMembers, OkLists}
+use Rattle.documents.proofs.Names.{list-back, key-back, type-back, key-in, in-range}
+use Rattle.documents.proofs.Inverse.{no-fault, list-said, document-said, record-said, key-said, end-said, type-said, tracks-said, track-said, number-said}
+use Rattle.documents.proofs.Left.{Records, listJoined, recordJoined, memberJoined, trackJoined, noRecords, noMembers, noTracks, recordsBy, RecordsOk, afterThoseRecords, Is, Left, behind-sign, renamed}
 
 -- two classes with the same number are the same
 classAt : ℕ → Class
@@ -53,171 +58,198 @@ same-class : (a b : Class) → eqb (classNumber a) (classNumber b) ≡ true → 
 same-class a b e = sym (class-at b) ∙ ap classAt (sym (eqb-true (classNumber a) (classNumber b) e)) ∙ class-at a
 
 module _ (legs : List ℕ) (constraints tracks : ℕ) (D : Document) (ts : List Token) where
-  module _ (st : State) (d : Document) (t : Token) (plain : st .rules ≡ plainRules) (behind : Behind legs constraints tracks D ts) where
-    -- the turn of an action after which D was read
-    abbrev Done-by : May → Type 0
-    Done-by m = Read legs constraints tracks D ts st d t plain behind (act legs constraints tracks (m .action) st d t)
+  -- the run behind the token
+  abbrev next : State → Document → Reading Document
+  next st d = run legs constraints tracks st d ts
 
-    -- a cell of the table
-    abbrev Cell : Phase → May → Type 0
-    Cell p m = t .class ≡ m .class → Done-by m → Left legs D p st d (t ∷ ts)
+  -- what is left behind the token, in any phase
+  abbrev Behind : Type 0
+  Behind = (st : State) (d : Document) → st .rules ≡ plainRules → next st d ≡ good D → Left legs D (st .phase) st d ts
 
-    -- ---- signs that only lead on
+  module _ (st : State) (d : Document) (t : Token) (plain : st .rules ≡ plainRules) (behind : Behind) where
+    -- a turn after which D was read
+    abbrev Read : Turn → Type 0
+    Read turn = onward legs constraints tracks turn next ≡ good D
 
-    colon-left : t .class ≡ Colon → next legs constraints tracks D ts (goes ListOpen st) d ≡ good D → Left legs D NameColon st d (t ∷ ts)
-    colon-left is e =
-        let k = behind (goes ListOpen st) d plain e in
-        record { left = k .left; lists = k .lists; same = (is, k .same); ok = k .ok; lists-ok = k .lists-ok; ends = k .ends }
+    faulty : {A : Type 0} (n place : ℕ) → Read (fault n place) → A
+    faulty n place e = no-fault legs constraints tracks next D n place e
 
-    bracket-left : t .class ≡ OpenBracket → next legs constraints tracks D ts (goes FirstRecord st) d ≡ good D → Left legs D ListOpen st d (t ∷ ts)
-    bracket-left is e =
-        let k = behind (goes FirstRecord st) d plain e in
-        record { left = k .left; lists = k .lists; same = (is, k .same); ok = k .ok; lists-ok = k .lists-ok; ends = k .ends }
+    -- ---- tokens that are tested
 
-    more-lists : t .class ≡ Comma → next legs constraints tracks D ts (goes Name st) d ≡ good D → Left legs D AfterList st d (t ∷ ts)
-    more-lists is e =
-        let k = behind (goes Name st) d plain e in
-        record { left = one (k .left); same = (is, k .same); ok = k .ok; ends = k .ends }
-
-    more-records : t .class ≡ Comma → next legs constraints tracks D ts (goes Record st) d ≡ good D → Left legs D AfterRecord st d (t ∷ ts)
-    more-records is e =
-        let k = behind (goes Record st) d plain e in
-        record { left = one (k .left); lists = k .lists; same = (is, k .same); ok = k .ok; lists-ok = k .lists-ok; ends = k .ends }
-
-    no-more-records : t .class ≡ CloseBracket → next legs constraints tracks D ts (goes AfterList st) d ≡ good D → Left legs D AfterRecord st d (t ∷ ts)
-    no-more-records is e =
-        let k = behind (goes AfterList st) d plain e in
-        record { left = []; lists = k .left; same = (is, k .same); ok = tt; lists-ok = k .ok; ends = k .ends }
-
-    no-records : t .class ≡ CloseBracket → next legs constraints tracks D ts (goes AfterList st) d ≡ good D → Left legs D FirstRecord st d (t ∷ ts)
-    no-records is e =
-        let k = behind (goes AfterList st) d plain e in
-        record { left = []; lists = k .left; same = (is, k .same); ok = tt; lists-ok = k .ok; ends = k .ends }
-
-    more-members : t .class ≡ Comma → next legs constraints tracks D ts (goes NextKey st) d ≡ good D → Left legs D AfterValue st d (t ∷ ts)
-    more-members is e =
-        let k = behind (goes NextKey st) d plain e in
+    list-left : t .class ≡ Quoted → Read (listName legs constraints tracks (listNamed (t .word)) st d t) → Left legs D Name st d (t ∷ ts)
+    list-left is e =
+        let list : ℕ = listNamed (t .word) in
+        let said = list-said legs constraints tracks next D st d t list e in
+        let named = not-true (eqb list unknown) (said .0) in
+        let k = behind (inList list st) d plain (said .2) in
         record {
-          left = one (k .left);
-          records = k .records;
-          lists = k .lists;
-          same = (is, k .same);
-          ok = k .ok;
-          records-ok = k .records-ok;
-          lists-ok = k .lists-ok;
+          left = record { list = list; then = k .left };
+          same = ((is, sym (list-back (t .word) (eqb-false list unknown named))), k .same);
+          ok = (record { in-lists = list-known (t .word) named; fresh = said .1; records = k .ok .0 }, k .ok .1);
           ends = k .ends;
         }
 
-    value-left : t .class ≡ Colon → next legs constraints tracks D ts (goes AtValue st) d ≡ good D → Left legs D KeyColon st d (t ∷ ts)
-    value-left is e =
-        let k = behind (goes AtValue st) d plain e in
+    document-left : t .class ≡ CloseBrace → Read (documentEnds legs constraints tracks st d t)
+        → Is (Unit {0}) (λ u. closeBrace ∷ []) (λ u. bitAnd (st .lists) allLists ≡ allLists) (λ u. d) D (t ∷ ts)
+    document-left is e =
+        let said = document-said legs constraints tracks next D st d t plain e in
+        let k = behind (goes Done st) d plain (said .1) in
+        record { left = tt; same = (is, k .same); ok = said .0; ends = k .ends }
+
+    record-left : t .class ≡ OpenBrace → Read (recordOpens legs constraints tracks st d t) → Left legs D Record st d (t ∷ ts)
+    record-left is e =
+        let k = behind (inRecord st) (opening (st .list) d) plain (record-said legs constraints tracks next D st d t e) in
+        record { left = k .left; same = (is, k .same); ok = ((k .ok .0, k .ok .1 .0), k .ok .1 .1); ends = k .ends }
+
+    member-left : t .class ≡ Quoted → Read (keyName legs constraints tracks (keyNamed (t .word)) st d t) → Left legs D NextKey st d (t ∷ ts)
+    member-left is e =
+        let key : ℕ = keyNamed (t .word) in
+        let said = key-said legs constraints tracks next D st d t key e in
+        let none : key ≡ unknown → bitAnd (keysOf (st .list)) key ≡ 0 = λ e. ap (bitAnd (keysOf (st .list))) e ∙ and-zero-r (keysOf (st .list)) in
+        let known : key ≡ unknown → ⊥ = λ e. eqb-false (bitAnd (keysOf (st .list)) key) 0 (not-true _ (said .0)) (none e) in
+        let k = behind (atKey key st) d plain (said .2) in
+        let is-key : key ≡ keyOf (k .left .member) = sym (k .ok .0) in
         record {
-          member = k .member;
-          members = k .members;
-          records = k .records;
-          lists = k .lists;
-          key-is = k .key-is;
-          same = (is, k .same);
-          value = k .value;
-          ok = k .ok;
-          records-ok = k .records-ok;
-          lists-ok = k .lists-ok;
+          left = k .left;
+          same = ((is, sym (key-back (t .word) known) ∙ ap nameOfKey is-key), k .same);
+          ok = (
+            (
+              record {
+                in-keys = subst (Among allKeys) is-key (key-in (t .word) known);
+                carried = subst (λ (n : ℕ). not (eqb (bitAnd (keysOf (st .list)) n) 0) ≡ true) is-key (said .0);
+                fresh = subst (λ (n : ℕ). bitAnd (st .keys) n ≡ 0) is-key (said .1);
+                value = k .ok .1;
+              },
+              subst (λ (n : ℕ). OkMembers legs (st .list) (bitOr (st .keys) n) (k .left .then .members)) is-key (k .ok .2 .0),
+            ),
+            k .ok .2 .1,
+          );
           ends = k .ends;
         }
 
-    more-tracks : t .class ≡ Comma → next legs constraints tracks D ts (goes NextTrack st) d ≡ good D → Left legs D AfterTrack st d (t ∷ ts)
-    more-tracks is e =
-        let k = behind (goes NextTrack st) d plain e in
+    record-ended : t .class ≡ CloseBrace → Read (recordEnds legs constraints tracks st d t)
+        → Is Records (λ r. closeBrace ∷ recordsBy (more recordPieces closeBracket) r) (λ r. (st .keys ≡ keysOf (st .list)) × RecordsOk legs st r)
+        (afterThoseRecords legs st (closing (st .list) (st .entry) d)) D (t ∷ ts)
+    record-ended is e =
+        let said = end-said legs constraints tracks next D st d t e in
+        let k = behind (goes AfterRecord st) (closing (st .list) (st .entry) d) plain (said .1) in
+        record { left = k .left; same = (is, k .same); ok = (said .0, k .ok); ends = k .ends }
+
+    number-left : t .class ≡ Run → Read (numberValue legs constraints tracks st d t) → Left legs D AtValue st d (t ∷ ts)
+    number-left is e =
+        let said = number-said legs constraints tracks next D st d t e in
+        let m : Member = number (st .key) (numberOf t) in
+        let k = behind (withEntry (entryWith legs m (st .entry)) st) (withMember m d) plain (said .2) in
+        record { left = record { member = m; then = k .left }; same = ((is, said .0), k .same); ok = (refl, said .1, k .ok); ends = k .ends }
+
+    type-left : t .class ≡ Quoted → Read (stringValue legs constraints tracks (typeNamed (t .word)) st d t) → Left legs D AtValue st d (t ∷ ts)
+    type-left is e =
+        let n : ℕ = typeNamed (t .word) in
+        let said = type-said legs constraints tracks next D st d t n e in
+        let named = not-true (eqb n unknown) (said .1) in
+        let k = behind (withEntry (entered connectionType n (st .entry)) st) d plain (said .2) in
         record {
-          left = one (k .left);
-          members = k .members;
-          records = k .records;
-          lists = k .lists;
-          same = (is, k .same);
-          range = k .range;
-          ok = k .ok;
-          records-ok = k .records-ok;
-          lists-ok = k .lists-ok;
+          left = record { member = type n; then = k .left };
+          same = ((is, sym (type-back (t .word) (eqb-false n unknown named))), k .same);
+          ok = (sym (said .0), in-range legs n (type-known (t .word) named), k .ok);
           ends = k .ends;
         }
 
-    no-more-tracks : t .class ≡ CloseBracket → next legs constraints tracks D ts (goes AfterValue st) d ≡ good D → Left legs D AfterTrack st d (t ∷ ts)
-    no-more-tracks is e =
-        let k = behind (goes AfterValue st) d plain e in
+    tracks-left : t .class ≡ OpenBracket → Read (tracksOpen legs constraints tracks st d t) → Left legs D AtValue st d (t ∷ ts)
+    tracks-left is e =
+        let said = tracks-said legs constraints tracks next D st d t e in
+        let k = behind (goes FirstTrack st) d plain (said .1) in
         record {
-          left = [];
-          members = k .left;
-          records = k .records;
-          lists = k .lists;
+          left = record { member = trackList (k .left .ids); then = k .left .then };
           same = (is, k .same);
-          range = refl;
-          ok = k .ok;
-          records-ok = k .records-ok;
-          lists-ok = k .lists-ok;
+          ok = (sym (said .0), k .ok .0, k .ok .1);
           ends = k .ends;
         }
 
-    no-tracks : t .class ≡ CloseBracket → next legs constraints tracks D ts (goes AfterValue st) d ≡ good D → Left legs D FirstTrack st d (t ∷ ts)
-    no-tracks is e =
-        let k = behind (goes AfterValue st) d plain e in
+    track-left : t .class ≡ Run → Read (trackNumber legs constraints tracks st d t) → Left legs D NextTrack st d (t ∷ ts)
+    track-left is e =
+        let said = track-said legs constraints tracks next D st d t e in
+        let k = behind (goes AfterTrack st) (withTrack (numberOf t) d) plain (said .2) in
         record {
-          left = [];
-          members = k .left;
-          records = k .records;
-          lists = k .lists;
-          same = (is, k .same);
-          range = refl;
-          ok = k .ok;
-          records-ok = k .records-ok;
-          lists-ok = k .lists-ok;
+          left = record { id = numberOf t; then = k .left };
+          same = ((is, said .0), k .same);
+          ok = (ap₂ _&&_ (said .1) (k .ok .0), k .ok .1);
           ends = k .ends;
         }
 
     -- ---- the rows
 
+    -- a cell of the table
+    abbrev Cell : Phase → May → Type 0
+    Cell p m = t .class ≡ m .class → Read (act legs constraints tracks (m .action) st d t) → Left legs D p st d (t ∷ ts)
+
     row : (p : Phase) → All (Cell p) (table p)
     unfolding act stringCut
-    row Text = (λ is e. let k = behind (goes FirstName st) d plain e in record { left = k .left; same = (is, k .same); ok = k .ok; ends = k .ends }, tt)
-    row FirstName = (λ is e. (first-list legs constraints tracks D ts st d t plain behind) ((list-left legs constraints tracks D ts st d t plain behind) is e), (λ is e. (early legs constraints tracks D ts st d t plain behind) e, (λ is e. let k = (document-ends legs constraints tracks D ts st d t plain behind) e in record { left = []; same = (is, k .1); ok = k .0; ends = k .2 }, tt)))
-    row Name = ((list-left legs constraints tracks D ts st d t plain behind), (λ is e. (early legs constraints tracks D ts st d t plain behind) e, tt))
-    row NameColon = (colon-left, tt)
-    row ListOpen = (bracket-left, tt)
-    row AfterList = (more-lists, (λ is e. let k = (document-ends legs constraints tracks D ts st d t plain behind) e in record { left = []; same = (is, k .1); ok = k .0; ends = k .2 }, tt))
-    row FirstRecord = (λ is e. (first-record legs constraints tracks D ts st d t plain behind) ((record-left legs constraints tracks D ts st d t plain behind) is e), (no-records, tt))
-    row Record = ((record-left legs constraints tracks D ts st d t plain behind), tt)
-    row AfterRecord = (more-records, (no-more-records, tt))
-    row FirstKey = (λ is e. (first-member legs constraints tracks D ts st d t plain behind) ((member-left legs constraints tracks D ts st d t plain behind) is e), (λ is e. (early legs constraints tracks D ts st d t plain behind) e, ((no-members legs constraints tracks D ts st d t plain behind), tt)))
-    row NextKey = ((member-left legs constraints tracks D ts st d t plain behind), (λ is e. (early legs constraints tracks D ts st d t plain behind) e, tt))
-    row KeyColon = (value-left, tt)
-    row AtValue = ((number-left legs constraints tracks D ts st d t plain behind), ((type-left legs constraints tracks D ts st d t plain behind), (λ is e. no-fault legs constraints tracks (next legs constraints tracks D ts) D badJson _ e, ((tracks-left legs constraints tracks D ts st d t plain behind), tt))))
-    row AfterValue = (more-members, ((record-ends legs constraints tracks D ts st d t plain behind), tt))
-    row FirstTrack = (λ is e. (first-track legs constraints tracks D ts st d t plain behind) ((track-left legs constraints tracks D ts st d t plain behind) is e), (no-tracks, tt))
-    row NextTrack = ((track-left legs constraints tracks D ts st d t plain behind), tt)
-    row AfterTrack = (more-tracks, (no-more-tracks, tt))
-    row Done = (λ is e. (is, cc), tt)
+    row Text = (λ is e. behind-sign openBrace is (behind (goes FirstName st) d plain e), tt)
+    row FirstName = (
+      λ is e. renamed listJoined (λ l h. h) (list-left is e),
+      (λ is e. faulty badJson (past t) e, (λ is e. renamed (λ u. []) (λ u h. h) (document-left is e), tt)),
+    )
+    row Name = (list-left, (λ is e. faulty badJson (past t) e, tt))
+    row NameColon = (λ is e. behind-sign colon is (behind (goes ListOpen st) d plain e), tt)
+    row ListOpen = (λ is e. behind-sign openBracket is (behind (goes FirstRecord st) d plain e), tt)
+    row AfterList = (
+      λ is e. renamed listJoined (λ l h. h) (behind-sign comma is (behind (goes Name st) d plain e)),
+      (λ is e. renamed (λ u. []) (λ u h. h) (document-left is e), tt),
+    )
+    row FirstRecord = (
+      λ is e. renamed recordJoined (λ m h. h) (record-left is e),
+      (λ is e. renamed noRecords (λ v h. (tt, h)) (behind-sign closeBracket is (behind (goes AfterList st) d plain e)), tt),
+    )
+    row Record = (record-left, tt)
+    row AfterRecord = (
+      λ is e. renamed recordJoined (λ m h. h) (behind-sign comma is (behind (goes Record st) d plain e)),
+      (λ is e. renamed noRecords (λ v h. (tt, h)) (behind-sign closeBracket is (behind (goes AfterList st) d plain e)), tt),
+    )
+    row FirstKey = (
+      λ is e. renamed memberJoined (λ m h. h) (member-left is e),
+      (λ is e. faulty badJson (past t) e, (λ is e. renamed noMembers (λ r h. h) (record-ended is e), tt)),
+    )
+    row NextKey = (member-left, (λ is e. faulty badJson (past t) e, tt))
+    row KeyColon = (λ is e. behind-sign colon is (behind (goes AtValue st) d plain e), tt)
+    row AtValue = (number-left, (type-left, (λ is e. faulty badJson _ e, (tracks-left, tt))))
+    row AfterValue = (
+      λ is e. renamed memberJoined (λ m h. h) (behind-sign comma is (behind (goes NextKey st) d plain e)),
+      (λ is e. renamed noMembers (λ r h. h) (record-ended is e), tt),
+    )
+    row FirstTrack = (
+      λ is e. renamed trackJoined (λ k h. h) (track-left is e),
+      (λ is e. renamed noTracks (λ m h. (refl, h)) (behind-sign closeBracket is (behind (goes AfterValue st) d plain e)), tt),
+    )
+    row NextTrack = (track-left, tt)
+    row AfterTrack = (
+      λ is e. renamed trackJoined (λ k h. h) (behind-sign comma is (behind (goes NextTrack st) d plain e)),
+      (λ is e. renamed noTracks (λ m h. (refl, h)) (behind-sign closeBracket is (behind (goes AfterValue st) d plain e)), tt),
+    )
+    row Done = (λ is e. record { left = tt; same = is; ok = tt; ends = cc }, tt)
 
     -- a token that may not stand where it stands
-    otherwise-not : {A : Type 0} (c : Class) → (Read legs constraints tracks D ts st d t plain behind) (act legs constraints tracks (otherwise c) st d t) → A
+    otherwise-not : {A : Type 0} (c : Class) → Read (act legs constraints tracks (otherwise c) st d t) → A
     unfolding act
-    otherwise-not End e = (early legs constraints tracks D ts st d t plain behind) e
-    otherwise-not OpenBrace e = no-fault legs constraints tracks (next legs constraints tracks D ts) D badJson (t .place) e
-    otherwise-not CloseBrace e = no-fault legs constraints tracks (next legs constraints tracks D ts) D badJson (t .place) e
-    otherwise-not OpenBracket e = no-fault legs constraints tracks (next legs constraints tracks D ts) D badJson (t .place) e
-    otherwise-not CloseBracket e = no-fault legs constraints tracks (next legs constraints tracks D ts) D badJson (t .place) e
-    otherwise-not Colon e = no-fault legs constraints tracks (next legs constraints tracks D ts) D badJson (t .place) e
-    otherwise-not Comma e = no-fault legs constraints tracks (next legs constraints tracks D ts) D badJson (t .place) e
-    otherwise-not Quoted e = no-fault legs constraints tracks (next legs constraints tracks D ts) D badJson (t .place) e
-    otherwise-not Run e = no-fault legs constraints tracks (next legs constraints tracks D ts) D badJson (t .place) e
-    otherwise-not Unclosed e = no-fault legs constraints tracks (next legs constraints tracks D ts) D badJson (t .place) e
-    otherwise-not Forbidden e = no-fault legs constraints tracks (next legs constraints tracks D ts) D badJson (t .place) e
+    otherwise-not End e = faulty badJson (past t) e
+    otherwise-not OpenBrace e = faulty badJson (t .place) e
+    otherwise-not CloseBrace e = faulty badJson (t .place) e
+    otherwise-not OpenBracket e = faulty badJson (t .place) e
+    otherwise-not CloseBracket e = faulty badJson (t .place) e
+    otherwise-not Colon e = faulty badJson (t .place) e
+    otherwise-not Comma e = faulty badJson (t .place) e
+    otherwise-not Quoted e = faulty badJson (t .place) e
+    otherwise-not Run e = faulty badJson (t .place) e
+    otherwise-not Unclosed e = faulty badJson (t .place) e
+    otherwise-not Forbidden e = faulty badJson (t .place) e
 
-    in-row : (p : Phase) (ms : List May) → All (Cell p) ms → (Read legs constraints tracks D ts st d t plain behind) (act legs constraints tracks (sought (t .class) ms) st d t) → Left legs D p st d (t ∷ ts)
+    in-row : (p : Phase) (ms : List May) → All (Cell p) ms → Read (act legs constraints tracks (sought (t .class) ms) st d t) → Left legs D p st d (t ∷ ts)
     in-row p [] h e = otherwise-not (t .class) e
     in-row p (m ∷ ms) h e = go (eqb (classNumber (m .class)) (classNumber (t .class))) refl e (in-row p ms (h .1))
       where
         go : (b : Bool) → eqb (classNumber (m .class)) (classNumber (t .class)) ≡ b
-            → (Read legs constraints tracks D ts st d t plain behind) (act legs constraints tracks (cond b (m .action) (sought (t .class) ms)) st d t)
-            → ((Read legs constraints tracks D ts st d t plain behind) (act legs constraints tracks (sought (t .class) ms) st d t) → Left legs D p st d (t ∷ ts)) → Left legs D p st d (t ∷ ts)
+            → Read (act legs constraints tracks (cond b (m .action) (sought (t .class) ms)) st d t)
+            → (Read (act legs constraints tracks (sought (t .class) ms) st d t) → Left legs D p st d (t ∷ ts)) → Left legs D p st d (t ∷ ts)
         go true same e rest = h .0 (same-class (m .class) (t .class) same) e
         go false other e rest = rest e
 

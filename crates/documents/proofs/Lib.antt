@@ -16,3 +16,4 @@ pub mod Inverse
 pub mod Left
 pub mod Rows
 pub mod Soundness
+pub mod Example

@@ -87,6 +87,11 @@ pub data Laid : List Piece → List ℕ → Type 0 where
   white : {xs : List Piece} {s : List ℕ} {b : ℕ} → isWhite b ≡ true → Laid xs s → Laid xs (b ∷ s)
   next : {xs : List Piece} {s : List ℕ} (x : Piece) → Laid xs s → Laid (x ∷ xs) (inked x ++ s)
 
+-- for one: the same white bytes before each piece and at the end
+abbrev pub spread : (blank : List ℕ) → List Piece → List ℕ
+spread blank [] = blank
+spread blank (x ∷ xs) = blank ++ (inked x ++ spread blank xs)
+
 -- THE STATEMENT: a text writes a lawful value, and d is the value's document
 pub record Writing (legs : List ℕ) (constraints tracks : ℕ) (s : List ℕ) (d : Document) : Type 0 where
   pub value : Value

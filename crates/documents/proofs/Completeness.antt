@@ -10,7 +10,7 @@ use Rattle.rules.specs.Limits.{mostText}
 use Rattle.rules.specs.Answers.{good}
 use Rattle.rules.specs.Lists.{every}
 use Rattle.rules.specs.Tokens.{isWhite, tokensOf}
-use Rattle.rules.specs.Constraints.{Document, empty, start, plainRules, run, constraintsOf}
+use Rattle.rules.specs.Constraints.{Document, plainRules, constraintsOf}
 use Rattle.laws.proofs.DocumentWords.{and-first, and-second}
 use Rattle.documents.specs.Value.{Value, documentOf, Lawful, Fits}
 use Rattle.documents.specs.Written.{Piece, pieces, Laid, done, white, next, spread, Writing}

@@ -1,19 +1,16 @@
 -- A document only grows, so that what fits at the end has fitted all the time. Assumes nothing.
-use Prim.Native.Nat.{ℕ, _+_, _≤_}
+use Prim.Native.Nat.{ℕ, _≤_}
 use mathlib.Core.Path.{_≡_, refl, sym, ap, subst, _∙_}
-use mathlib.Core.Bool.{Bool, true, false, cond}
 use mathlib.Core.List.{List, [], _∷_, _++_, append-nil, append-assoc}
 use native.Mathlib.Omega.{arith}
 use lib.Dec.{eqb}
 use lib.ListN.{length, length-append}
 use Rattle.rules.specs.Kinds.{subnets, subnetId}
 use Rattle.rules.specs.Constraints.{Document, withSubnet, withConstraint, withId, withTrack, noEntry}
-use Rattle.rules.specs.Verdict.{All}
 use Rattle.rules.specs.declared.sizes.Constraint.{Constraint}
-use Rattle.rules.specs.declared.sizes.Track.{Track}
 use Rattle.rules.proofs.Truth.{by-case, all-front}
 use Rattle.laws.specs.Lists.{Pairs}
-use Rattle.documents.specs.Value.{Member, number, type, trackList, Listed, Value, Fits}
+use Rattle.documents.specs.Value.{Member, number, type, trackList, Value, Fits}
 use Rattle.documents.proofs.Same.{withTracks, withMember, opening, closing, entryWith, afterMembers, afterRecord, afterRecords, afterLists}
 
 -- ---- a list goes on

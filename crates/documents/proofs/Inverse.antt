@@ -1,24 +1,24 @@
 -- One token after which a document was read: the tests that it has passed, and what the automaton went on with. Assumes nothing.
-use Prim.Native.Nat.{ℕ, _≤_}
-use mathlib.Core.Path.{_≡_, refl, sym, ap, subst, _∙_}
-use mathlib.Core.Bool.{Bool, true, false, not, cond, _&&_, _||_, true≢false}
-use mathlib.Core.List.{List, [], _∷_}
+use Prim.Native.Nat.{ℕ}
+use mathlib.Core.Path.{_≡_, refl, sym, ap, subst}
+use mathlib.Core.Bool.{Bool, true, false, not, cond, _||_, true≢false}
+use mathlib.Core.List.{List}
 use mathlib.Core.Option.{Option, none, some, Option·getD}
 use native.Mathlib.Omega.{arith}
 use lib.Dec.{leb, ltb, eqb}
 use lib.Bits.{bitAnd}
 use lib.ListN.{length}
-use borrow.Author.Tests.{eqb-true, eq-eqb}
+use borrow.Author.Tests.{eqb-true}
 use Rattle.rules.specs.Limits.{mostId, mostSeconds, mostConstraints, mostSubnets, mostTracks}
 use Rattle.rules.specs.Lists.{any, isSome}
 use Rattle.rules.specs.Bytes.{wholeOf}
-use Rattle.rules.specs.Answers.{outOfRange, tooMany, alreadySeen, badJson, unknownName, repeatedOrMissing, notThere, noRoom, Reading, refused, good}
-use Rattle.rules.specs.Kinds.{unknown, subnets, firstLeg, secondLeg, connectionType, subnetId, trackIds}
+use Rattle.rules.specs.Answers.{outOfRange, tooMany, alreadySeen, badJson, unknownName, repeatedOrMissing, notThere, noRoom, Reading, good}
+use Rattle.rules.specs.Kinds.{unknown, subnets, connectionType, subnetId, trackIds}
 use Rattle.rules.specs.Tokens.{Token}
 use Rattle.rules.specs.Constraints.{Document, Turn, fault, on, goes, inList, inRecord, atKey, withEntry, withId, withTrack, withSubnet, entered, keysOf, listBit, allLists, plainRules, numberOf, isNumber, rowOfLeg, listName, documentEnds, recordOpens, keyName, recordEnds, stringValue, legValue, subnetValue, secondsValue, numberValue, tracksOpen, trackNumber, onward}
-use Rattle.rules.specs.declared.tokens.Phase.the-variants.{Done, AfterRecord, AfterValue, FirstTrack, AfterTrack}
+use Rattle.rules.specs.declared.tokens.Phase.the-variants.{Done, AfterRecord, FirstTrack, AfterTrack}
 use Rattle.rules.specs.declared.tokens.State.{State}
-use Rattle.documents.specs.Value.{Member, number, isLeg, inRange}
+use Rattle.documents.specs.Value.{number, isLeg, inRange}
 use Rattle.documents.proofs.Same.{opening, closing, withMember, entryWith}
 use Rattle.documents.proofs.Turns.{leg-no-id}
 

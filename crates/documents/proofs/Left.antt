@@ -14,7 +14,7 @@ use Rattle.rules.specs.declared.sizes.Constraint.{Constraint}
 use Rattle.rules.specs.declared.tokens.Phase.{Phase}
 use Rattle.rules.specs.declared.tokens.Phase.the-variants.{Document as Text, FirstName, Name, NameColon, ListOpen, AfterList, FirstRecord, Record, AfterRecord, FirstKey, NextKey, KeyColon, Value as AtValue, AfterValue, FirstTrack, NextTrack, AfterTrack, Done}
 use Rattle.rules.specs.declared.tokens.State.{State}
-use Rattle.documents.specs.Value.{Member, Listed, Value, keyOf, inRange}
+use Rattle.documents.specs.Value.{Member, Value, keyOf, inRange}
 use Rattle.documents.specs.Written.{Piece, Writes, closeBrace, openBracket, closeBracket, colon, more, items, trackPieces, saidPieces, memberPieces, recordPieces, listPieces, pieces}
 use Rattle.documents.proofs.Same.{Says, Same, withTracks, withMember, entryWith, afterMembers, afterRecords, afterLists, OkMembers, OkLists}
 

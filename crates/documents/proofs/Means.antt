@@ -1,24 +1,24 @@
 -- What a value adds to a document, list by list and member by member, is the document that it means. Assumes nothing.
 use Prim.Native.Nat.{ℕ, suc, _+_, _-_}
 use mathlib.Core.Path.{_≡_, refl, sym, ap, subst, _∙_}
-use mathlib.Core.Bool.{Bool, true, false, not, cond, true≢false}
+use mathlib.Core.Bool.{Bool, true, false, not, cond}
 use mathlib.Core.List.{List, [], _∷_, _++_, map, append-nil, append-assoc}
 use native.Mathlib.Omega.{arith}
 use native.Mathlib.Nat.{add-zero, zero-add, add-assoc}
 use lib.Dec.{eqb}
 use lib.Bits.{bitAnd, bitOr}
 use lib.ListN.{length, length-append}
-use borrow.Author.Tests.{eqb-true, eqb-false, eq-eqb}
+use borrow.Author.Tests.{eqb-true, eqb-false}
 use Rattle.rules.specs.Lists.{flat}
-use Rattle.rules.specs.Kinds.{subnets, subnetId, firstLeg, secondLeg, maxConnection, connectionType, trackIds}
+use Rattle.rules.specs.Kinds.{subnets, subnetId, firstLeg, secondLeg, maxConnection, connectionType}
 use Rattle.rules.specs.Constraints.{Document, document, empty, withId, withTrack, withConstraint, noEntry, keysOf, isLow, listBit}
 use Rattle.rules.specs.Verdict.{All}
 use Rattle.rules.specs.declared.sizes.Constraint.{Constraint}
 use Rattle.rules.specs.declared.sizes.Track.{Track}
 use Rattle.laws.proofs.DocumentWords.{is-false}
 use Rattle.laws.proofs.Keys.{id-of-subnet, tracks-of-subnet}
-use Rattle.documents.specs.Value.{Member, number, type, trackList, keyOf, Listed, Value, said, constraintOf, idsOf, tracksOf, tracksFrom, constraintsIn, subnetsIn, documentOf, sixLists, Among}
-use Rattle.documents.proofs.Same.{withTracks, withMember, opening, closing, entryWith, afterMembers, afterRecord, afterRecords, afterLists, Allowed, OkMembers, AllowedList, OkLists}
+use Rattle.documents.specs.Value.{Member, number, type, trackList, keyOf, Value, said, constraintOf, idsOf, tracksOf, tracksFrom, constraintsIn, subnetsIn, documentOf, sixLists, Among}
+use Rattle.documents.proofs.Same.{withTracks, withMember, opening, entryWith, afterMembers, afterRecord, afterRecords, afterLists, Allowed, OkMembers, OkLists}
 
 -- ---- a document with more behind its tables
 

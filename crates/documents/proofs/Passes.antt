@@ -1,20 +1,20 @@
 -- A lawful value passes the tests of names and values one after the other, and a value that passes them is lawful. Assumes nothing.
-use Prim.Native.Nat.{ℕ, _+_}
-use mathlib.Core.Path.{_≡_, refl, sym, ap, subst, _∙_}
-use mathlib.Core.Bool.{Bool, true, false, not, cond, _&&_, _||_, true≢false}
+use Prim.Native.Nat.{ℕ}
+use mathlib.Core.Path.{_≡_, refl, sym, ap, _∙_}
+use mathlib.Core.Bool.{Bool, true, false, not, _||_, true≢false}
 use mathlib.Core.List.{List, [], _∷_, map}
 use native.Mathlib.Omega.{arith}
 use lib.Dec.{eqb}
-use lib.Bits.{bitAnd, bitOr, or-add-and, and-self, or-zero-l}
+use lib.Bits.{bitAnd, bitOr, or-add-and}
 use borrow.Author.Tests.{eqb-true}
-use Rattle.rules.specs.Lists.{any, every, only}
+use Rattle.rules.specs.Lists.{any, only}
 use Rattle.rules.specs.Constraints.{keysOf, listBit, allLists}
 use Rattle.rules.specs.Verdict.{All}
 use Rattle.rules.proofs.Truth.{by-case, all-map}
 use Rattle.laws.proofs.All.{all-only}
 use Rattle.laws.proofs.DocumentWords.{passed}
 use Rattle.documents.specs.Value.{Member, keyOf, Listed, Value, sixLists, allKeys, keysIn, Among, Once, inRange, LawfulRecord}
-use Rattle.documents.proofs.Same.{Allowed, OkMembers, AllowedList, OkLists}
+use Rattle.documents.proofs.Same.{OkMembers, OkLists}
 use Rattle.documents.proofs.Sets.{among-all, Within, Fresh, union, all-within, once-passes, passes-once}
 
 -- ---- the keys of a list are those of all keys that it carries

@@ -1,7 +1,7 @@
 -- Tokens that say the pieces of a value; what one member, record or list after the other adds to a document; and the tests that they pass in that order.
-use Prim.Native.Nat.{ℕ, _≤_}
+use Prim.Native.Nat.{ℕ}
 use mathlib.Core.Path.{_≡_}
-use mathlib.Core.Bool.{Bool, true, not, cond}
+use mathlib.Core.Bool.{true, not, cond}
 use mathlib.Core.List.{List, [], _∷_}
 use mathlib.Core.Option.{some}
 use lib.Dec.{eqb}
@@ -12,6 +12,7 @@ use Rattle.rules.specs.Tokens.{Token}
 use Rattle.rules.specs.Constraints.{Document, withSubnet, withConstraint, withId, withTrack, entered, noEntry, keysOf, listBit, allLists}
 use Rattle.rules.specs.Verdict.{All}
 use Rattle.rules.specs.declared.sizes.Constraint.{Constraint}
+use Rattle.rules.specs.declared.tokens.Class.{Class}
 use Rattle.rules.specs.declared.tokens.Class.the-variants.{OpenBrace, CloseBrace, OpenBracket, CloseBracket, Colon, Comma, Quoted, Run, End}
 use Rattle.documents.specs.Value.{Member, number, type, trackList, Listed, Value, keyOf, worth, sixLists, allKeys, Among, inRange}
 use Rattle.documents.specs.Written.{Piece, openBrace, closeBrace, openBracket, closeBracket, colon, comma, string, whole}
@@ -27,6 +28,26 @@ Says colon t = t .class ≡ Colon
 Says comma t = t .class ≡ Comma
 Says (string word) t = (t .class ≡ Quoted) × (t .word ≡ word)
 Says (whole n) t = (t .class ≡ Run) × (wholeOf (t .word) ≡ some n)
+
+abbrev pub classOf : Piece → Class
+classOf openBrace = OpenBrace
+classOf closeBrace = CloseBrace
+classOf openBracket = OpenBracket
+classOf closeBracket = CloseBracket
+classOf colon = Colon
+classOf comma = Comma
+classOf (string word) = Quoted
+classOf (whole n) = Run
+
+pub says-class : (x : Piece) (t : Token) → Says x t → t .class ≡ classOf x
+says-class openBrace t says = says
+says-class closeBrace t says = says
+says-class openBracket t says = says
+says-class closeBracket t says = says
+says-class colon t says = says
+says-class comma t says = says
+says-class (string word) t says = says .0
+says-class (whole n) t says = says .0
 
 -- the tokens say the pieces, and then the text ends
 abbrev pub Same : List Piece → List Token → Type 0

@@ -1,17 +1,17 @@
 -- A set of lists, or of keys, is one number, a bit for each: that each of the wanted is given once is what the tests of those numbers say. Assumes nothing.
 use Prim.Native.Nat.{ℕ, _+_, _*_, _/_, _%_, max}
 use mathlib.Core.Path.{_≡_, refl, sym, ap, ap₂, subst, _∙_}
-use mathlib.Core.Bool.{Bool, true, false, not, _&&_, _||_, true≢false}
+use mathlib.Core.Bool.{Bool, true, false, not, _||_, true≢false}
 use mathlib.Core.List.{List, [], _∷_}
 use native.Mathlib.Omega.{arith}
 use lib.Dec.{eqb}
-use lib.Bits.{bitAnd, bitOr, or-step, or-zero-l, or-zero-r, or-comm, or-self, or-add-and, and-comm, and-zero-l}
+use lib.Bits.{bitAnd, bitOr, or-step, or-zero-l, or-comm, or-self, or-add-and, and-comm, and-zero-l}
 use lib.Arith.{bin-ind}
 use borrow.Author.Tests.{eqb-true, eqb-false, eq-eqb, ne-eqb, not-true, not-false}
 use Rattle.rules.specs.Lists.{any, every}
 use Rattle.rules.specs.Verdict.{All}
 use Rattle.rules.proofs.Truth.{all-map}
-use Rattle.laws.specs.Lists.{Pairs, Distinct}
+use Rattle.laws.specs.Lists.{Distinct}
 use Rattle.laws.proofs.DocumentWords.{passed, or-else, or-first, or-second}
 use Rattle.laws.proofs.Keys.{has, has-other, has-now}
 use Rattle.documents.specs.Value.{Among, Once}

@@ -2,7 +2,7 @@
 use Prim.Native.Char.{code}
 use Prim.Native.Nat.{ℕ, zero, suc, _+_, _≤_}
 use mathlib.Core.Path.{_≡_, refl, sym, ap, subst, _∙_}
-use mathlib.Core.Bool.{Bool, true, false, cond, true≢false}
+use mathlib.Core.Bool.{Bool, true, false, true≢false}
 use mathlib.Core.List.{List, [], _∷_, _++_, append-assoc}
 use mathlib.Core.Option.{Option, none, some}
 use native.Mathlib.Omega.{arith}
@@ -11,8 +11,8 @@ use lib.ListN.{length, drop, length-drop}
 use lib.Seq.{drop-append-add}
 use borrow.Author.Tests.{eqb-true}
 use Rattle.rules.specs.Lists.{lead}
-use Rattle.rules.specs.Bytes.{bytes, spelled}
-use Rattle.rules.specs.Tokens.{Token, token, isWhite, quote, signOf, inRun, inString, stringToken, runToken, signToken, tokenAt, tokensFrom}
+use Rattle.rules.specs.Bytes.{bytes}
+use Rattle.rules.specs.Tokens.{Token, token, isWhite, quote, signOf, inRun, inString, stringToken, signToken, tokenAt, tokensFrom}
 use Rattle.rules.specs.declared.tokens.Class.{Class}
 use Rattle.rules.specs.declared.tokens.Class.the-variants.{OpenBrace, CloseBrace, OpenBracket, CloseBracket, Colon, Comma, Quoted, Run, End, Unclosed, Forbidden}
 use Rattle.rules.proofs.Truth.{by-case}

@@ -15,7 +15,7 @@ use Rattle.rules.specs.Tokens.{tokensOf}
 use Rattle.rules.specs.Constraints.{Document, empty, start, plainRules, run, constraintsOf}
 use Rattle.laws.specs.LawfulDocument.{LawfulDocument}
 use Rattle.laws.proofs.Documents.{good-is-lawful}
-use Rattle.documents.specs.Value.{Value, documentOf, Fits}
+use Rattle.documents.specs.Value.{documentOf, Fits}
 use Rattle.documents.specs.Written.{Writing}
 use Rattle.documents.proofs.Passes.{value-passed}
 use Rattle.documents.proofs.Means.{document-means}

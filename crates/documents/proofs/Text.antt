@@ -1,20 +1,20 @@
 -- A text that is laid out of pieces has the tokens that say them. Assumes nothing.
 use Prim.Native.Char.{code}
-use Prim.Native.Nat.{ℕ, zero, suc, _+_, _≤_, _<_}
-use mathlib.Core.Path.{_≡_, refl, sym, ap, ap₂, subst, _∙_}
-use mathlib.Core.Bool.{Bool, true, false, not, cond, _&&_, _||_, true≢false}
+use Prim.Native.Nat.{ℕ, suc, _+_, _≤_}
+use mathlib.Core.Path.{_≡_, refl, sym, ap, subst, _∙_}
+use mathlib.Core.Bool.{Bool, true, false, true≢false}
 use mathlib.Core.List.{List, [], _∷_, _++_, append-assoc}
-use mathlib.Core.Option.{none, some}
+use mathlib.Core.Option.{none}
 use native.Mathlib.Omega.{arith}
-use lib.Dec.{T, leb, eqb, leb→le}
+use lib.Dec.{T, leb, eqb}
 use lib.ListN.{length, drop, length-append}
 use lib.Seq.{drop-append-seam}
 use borrow.Author.Tests.{ne-eqb, leb-true}
 use Rattle.rules.specs.Lists.{every, lead}
-use Rattle.rules.specs.Bytes.{isDigit, digitZero, digitNine, plain, wholeOf, spelled}
+use Rattle.rules.specs.Bytes.{isDigit, digitZero, digitNine, plain, spelled}
 use Rattle.rules.specs.Tokens.{Token, token, isWhite, quote, signOf, inRun, inString, runToken, tokenAt, tokensFrom}
-use Rattle.rules.specs.declared.tokens.Class.the-variants.{Quoted, Run}
-use Rattle.rules.proofs.Truth.{and-both, is-true}
+use Rattle.rules.specs.declared.tokens.Class.the-variants.{Quoted}
+use Rattle.rules.proofs.Truth.{is-true}
 use Rattle.rules.proofs.Numbers.{whole-spelled, digits-spelled, plain-spelled}
 use Rattle.rules.proofs.TokenLaws.{white-next, token-next, quoted-token, run-token}
 use Rattle.laws.proofs.DocumentWords.{and-first, and-second}

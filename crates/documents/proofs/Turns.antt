@@ -1,32 +1,33 @@
 -- One token that passes its tests: what the automaton goes on with. Assumes nothing.
-use Prim.Native.Nat.{ℕ, _+_, _-_, _≤_, _<_}
+use Prim.Native.Nat.{ℕ, _-_, _≤_, _<_}
 use mathlib.Core.Path.{_≡_, refl, sym, ap, _∙_}
-use mathlib.Core.Bool.{Bool, true, false, not, cond, _&&_, _||_, true≢false}
+use mathlib.Core.Bool.{Bool, true, false, cond, _&&_, _||_, true≢false}
 use mathlib.Core.List.{List, [], _∷_, _++_}
-use mathlib.Core.Option.{Option, none, some, Option·getD}
+use mathlib.Core.Option.{none, some, Option·getD}
 use native.Mathlib.Omega.{arith}
-use lib.Dec.{leb, ltb, eqb}
-use lib.Bits.{bitAnd}
+use lib.Dec.{leb, eqb}
 use lib.ListN.{length, length-append}
-use borrow.Author.Tests.{lt-ltb, le-leb, eq-eqb, ne-eqb, leb-true, eqb-true}
+use borrow.Author.Tests.{lt-ltb, le-leb, eq-eqb, ne-eqb, eqb-true}
 use Rattle.rules.specs.Limits.{mostId, mostSeconds, mostConstraints, mostSubnets, mostTracks}
 use Rattle.rules.specs.Answers.{Reading}
 use Rattle.rules.specs.Lists.{any, isSome}
 use Rattle.rules.specs.Bytes.{wholeOf}
-use Rattle.rules.specs.Kinds.{unknown, subnets, firstLeg, secondLeg, subnetId, trackIds, connectionType}
+use Rattle.rules.specs.Kinds.{subnets, firstLeg, secondLeg, subnetId, trackIds, connectionType}
 use Rattle.rules.specs.Tokens.{Token}
-use Rattle.rules.specs.Constraints.{Document, Turn, on, actionOf, goes, withEntry, withId, withTrack, withSubnet, withConstraint, entered, inRecord, rowOfLeg, numberOf, isNumber, recordOpens, recordEnds, legValue, subnetValue, secondsValue, numberValue, trackNumber, act, turnOf, onward, run, keysOf}
+use Rattle.rules.specs.Constraints.{Document, Turn, on, actionOf, goes, withEntry, withId, withTrack, withSubnet, entered, inRecord, rowOfLeg, recordOpens, recordEnds, legValue, subnetValue, secondsValue, numberValue, trackNumber, act, turnOf, onward, run, keysOf}
 use Rattle.rules.specs.declared.sizes.Track.{Track}
 use Rattle.rules.specs.declared.tokens.Class.{Class}
+use Rattle.rules.specs.declared.tokens.Action.{Action}
+use Rattle.rules.specs.declared.tokens.Action.the-variants.{Goes}
+use Rattle.rules.specs.declared.tokens.Phase.{Phase}
 use Rattle.rules.specs.declared.tokens.Phase.the-variants.{AfterValue, AfterTrack, AfterRecord}
 use Rattle.rules.specs.declared.tokens.State.{State}
 use Rattle.rules.specs.Verdict.{All}
-use Rattle.rules.proofs.Truth.{by-case}
 use Rattle.laws.specs.Lists.{Pairs}
-use Rattle.laws.proofs.DocumentWords.{and-first, and-second, or-first, or-second}
-use Rattle.documents.specs.Value.{Member, number, type, trackList, worth, isLeg, inRange, Fits}
+use Rattle.laws.proofs.DocumentWords.{and-first, and-second}
+use Rattle.documents.specs.Value.{number, isLeg, inRange, Fits}
 use Rattle.documents.specs.Written.{Piece}
-use Rattle.documents.proofs.Same.{Says, Same, opening, closing, entryWith, withMember}
+use Rattle.documents.proofs.Same.{Says, Same, classOf, says-class, opening, closing, entryWith, withMember}
 
 -- an element that is like none before it
 last-differs : {A : Type 0} (R : A → A → Type 0) (p : A → Bool) (s : List A) (y : A) → ((x : A) → R x y → p x ≡ false) → Pairs R (s ++ y ∷ []) → any p s ≡ false
@@ -48,21 +49,28 @@ leg-no-id key leg = go (eqb key firstLeg) refl leg
 module _ (legs : List ℕ) (constraints tracks : ℕ) where
   -- ---- a token is read, and then the rest
 
-  abbrev pub Reads : State → Document → List Piece → Reading Document → Type 0
-  Reads st d xs r = (ts : List Token) → Same xs ts → run legs constraints tracks st d ts ≡ r
+  module _ (r : Reading Document) where
+    -- tokens that say the pieces are read as r
+    abbrev pub Reads : State → Document → List Piece → Type 0
+    Reads st d xs = (ts : List Token) → Same xs ts → run legs constraints tracks st d ts ≡ r
 
-  pub step : (x : Piece) (xs : List Piece) (st after : State) (d e : Document) (r : Reading Document)
-      → ((t : Token) → Says x t → turnOf legs constraints tracks st d t ≡ on after e) → Reads after e xs r → Reads st d (x ∷ xs) r
-  unfolding run
-  step x xs st after d e r turn rest [] h = absurd h
-  step x xs st after d e r turn rest (t ∷ ts) h =
-      ap (λ (u : Turn). onward legs constraints tracks u (λ st′ d′. run legs constraints tracks st′ d′ ts)) (turn t (h .0)) ∙ rest ts (h .1)
+    -- in phase p a token that says x does what the table says
+    pub does : (p : Phase) (x : Piece) (a : Action) → actionOf p (classOf x) ≡ a → (xs : List Piece) (st after : State) (d e : Document)
+        → ((t : Token) → Says x t → act legs constraints tracks a (goes p st) d t ≡ on after e) → Reads after e xs → Reads (goes p st) d (x ∷ xs)
+    unfolding run turnOf
+    does p x a may xs st after d e turn rest [] h = absurd h
+    does p x a may xs st after d e turn rest (t ∷ ts) h =
+        ap (λ (u : Turn). onward legs constraints tracks u (λ st′ d′. run legs constraints tracks st′ d′ ts))
+        (ap (λ (c : Class). act legs constraints tracks (actionOf p c) (goes p st) d t) (says-class x t (h .0))
+        ∙ ap (λ (b : Action). act legs constraints tracks b (goes p st) d t) may
+        ∙ turn t (h .0))
+        ∙ rest ts (h .1)
 
-  -- a token does what the table says of its class
-  pub by-class : (st : State) (d : Document) (t : Token) (c : Class) → t .class ≡ c
-      → turnOf legs constraints tracks st d t ≡ act legs constraints tracks (actionOf (st .phase) c) st d t
-  unfolding turnOf
-  by-class st d t c e = ap (λ (k : Class). act legs constraints tracks (actionOf (st .phase) k) st d t) e
+    -- a sign that only leads on
+    pub leads : (p : Phase) (x : Piece) (q : Phase) → actionOf p (classOf x) ≡ Goes q → (xs : List Piece) (st : State) (d : Document)
+        → Reads (goes q st) d xs → Reads (goes p st) d (x ∷ xs)
+    unfolding act
+    leads p x q may xs st d rest = does p x (Goes q) may xs st (goes q st) d d (λ t says. refl) rest
 
   -- ---- the tests of each action
 

@@ -8,7 +8,7 @@ use lib.ListN.{length, getD}
 use Rattle.rules.specs.Bytes.{bytes, spelled}
 use Rattle.rules.specs.Limits.{mostText}
 use Rattle.rules.specs.Tokens.{isWhite, quote}
-use Rattle.rules.specs.Kinds.{listNames, keyNames, typeNames, connectionType, trackIds}
+use Rattle.rules.specs.Kinds.{listNames, keyNames, typeNames}
 use Rattle.rules.specs.Constraints.{Document}
 use Rattle.documents.specs.Value.{Member, number, type, trackList, Listed, Value, keyOf, documentOf, Lawful}
 

@@ -36,7 +36,8 @@ complete legs constraints tracks s d w =
 
 blank-laid : (blank : List ℕ) → every isWhite blank ≡ true → {xs : List Piece} {s : List ℕ} → Laid xs s → Laid xs (blank ++ s)
 blank-laid [] all rest = rest
-blank-laid (b ∷ blank) all rest = white (and-first (isWhite b) (every isWhite blank) all) (blank-laid blank (and-second (isWhite b) (every isWhite blank) all) rest)
+blank-laid (b ∷ blank) all rest =
+    white (and-first (isWhite b) (every isWhite blank) all) (blank-laid blank (and-second (isWhite b) (every isWhite blank) all) rest)
 
 pub spread-laid : (blank : List ℕ) → every isWhite blank ≡ true → (xs : List Piece) → Laid xs (spread blank xs)
 spread-laid blank all [] = rw (← append-nil blank) (blank-laid blank all done)

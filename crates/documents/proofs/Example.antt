@@ -2,7 +2,7 @@
 use Prim.Native.Nat.{ℕ}
 use mathlib.Core.Path.{_≡_, refl}
 use mathlib.Core.Bool.{Bool, true, false, not, _&&_}
-use mathlib.Core.List.{List, [], _∷_}
+use mathlib.Core.List.{List, [], _∷_, _++_}
 use native.Mathlib.Omega.{arith}
 use lib.Dec.{T, eqb}
 use borrow.Author.Tests.{eqb-false, not-true}
@@ -30,14 +30,16 @@ tested-distinct : (ns : List ℕ) → distinctTest ns ≡ true → Distinct (λ 
 unfolding distinctTest
 tested-distinct [] h = tt
 tested-distinct (n ∷ ns) h = (
-  all-map (λ m. eqb n m ≡ false) (λ m. n ≡ m → ⊥) (λ m. eqb-false n m) ns (none-passes (eqb n) ns (not-true _ (and-first (not (any (eqb n) ns)) (distinctTest ns) h))),
+  all-map (λ m. eqb n m ≡ false) (λ m. n ≡ m → ⊥) (λ m. eqb-false n m) ns
+      (none-passes (eqb n) ns (not-true _ (and-first (not (any (eqb n) ns)) (distinctTest ns) h))),
   tested-distinct ns (and-second (not (any (eqb n) ns)) (distinctTest ns) h),
 )
 
 tested-among : (l ns : List ℕ) → every (λ n. any (eqb n) l) ns ≡ true → All (Among l) ns
 tested-among l ns h = all-map (λ n. T (any (eqb n) l)) (Among l) (λ n. is-true (any (eqb n) l)) ns (every-all (λ n. any (eqb n) l) ns (holds _ h))
 
-tested-once : (wanted given : List ℕ) → every (λ n. any (eqb n) wanted) given ≡ true → distinctTest given ≡ true → every (λ n. any (eqb n) given) wanted ≡ true → Once wanted given
+tested-once : (wanted given : List ℕ) → every (λ n. any (eqb n) wanted) given ≡ true → distinctTest given ≡ true
+    → every (λ n. any (eqb n) given) wanted ≡ true → Once wanted given
 tested-once wanted given known distinct present =
     record { known = tested-among wanted given known; distinct = tested-distinct given distinct; present = tested-among given wanted present }
 
@@ -67,7 +69,14 @@ value =
 
 -- its text, with a blank before each piece
 abbrev pub text : List ℕ
-text = bytes " { \"dwell_time_constraints\" : [ { \"first_leg_id\" : 1 , \"second_leg_id\" : 2 , \"min_dwell_time\" : 20 } , { \"second_leg_id\" : 2 , \"min_dwell_time\" : 27 , \"first_leg_id\" : 1 } ] , \"recuperation_subnets\" : [ { \"track_ids\" : [ 1 , 2 ] , \"subnet_id\" : 1 } ] , \"headway_time_constraints\" : [ { \"min_headway_time\" : 31 , \"first_leg_id\" : 1 , \"second_leg_id\" : 2 } ] , \"connection_constraints\" : [ { \"first_leg_id\" : 2 , \"second_leg_id\" : 1 , \"connection_type\" : \"arrival_to_departure\" , \"max_connection_time\" : 25 , \"min_connection_time\" : 5 } ] , \"terminal_turnaround_constraints\" : [ ] , \"single_track_headway_constraints\" : [ ] } "
+text =
+    bytes " { \"dwell_time_constraints\" : [ { \"first_leg_id\" : 1 , \"second_leg_id\" : 2 , \"min_dwell_time\" : 20 }"
+    ++ bytes " , { \"second_leg_id\" : 2 , \"min_dwell_time\" : 27 , \"first_leg_id\" : 1 } ]"
+    ++ bytes " , \"recuperation_subnets\" : [ { \"track_ids\" : [ 1 , 2 ] , \"subnet_id\" : 1 } ]"
+    ++ bytes " , \"headway_time_constraints\" : [ { \"min_headway_time\" : 31 , \"first_leg_id\" : 1 , \"second_leg_id\" : 2 } ]"
+    ++ bytes " , \"connection_constraints\" : [ { \"first_leg_id\" : 2 , \"second_leg_id\" : 1 , \"connection_type\" : \"arrival_to_departure\""
+    ++ bytes " , \"max_connection_time\" : 25 , \"min_connection_time\" : 5 } ]"
+    ++ bytes " , \"terminal_turnaround_constraints\" : [ ] , \"single_track_headway_constraints\" : [ ] } "
 
 pub its-text : spread (bytes " ") (pieces value) ≡ text
 its-text = refl

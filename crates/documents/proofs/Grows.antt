@@ -26,7 +26,8 @@ front-one : {A : Type 0} (s : List A) (x : A) → Front s (s ++ x ∷ [])
 front-one s x = record { rest = x ∷ []; whole = refl }
 
 front-trans : {A : Type 0} {s t u : List A} → Front s t → Front t u → Front s u
-front-trans {s = s} h k = record { rest = h .rest ++ k .rest; whole = k .whole ∙ ap (λ (l : List _). l ++ k .rest) (h .whole) ∙ append-assoc s (h .rest) (k .rest) }
+front-trans {s = s} h k =
+    record { rest = h .rest ++ k .rest; whole = k .whole ∙ ap (λ (l : List _). l ++ k .rest) (h .whole) ∙ append-assoc s (h .rest) (k .rest) }
 
 pub front-length : {A : Type 0} {s t : List A} → Front s t → length s ≤ length t
 front-length {s = s} h = omega (arith, ap length (h .whole), length-append s (h .rest))

@@ -1,7 +1,7 @@
 -- One token after which a document was read: the tests that it has passed, and what the automaton went on with. Assumes nothing.
 use Prim.Native.Nat.{ℕ}
 use mathlib.Core.Path.{_≡_, refl, sym, ap, subst}
-use mathlib.Core.Bool.{Bool, true, false, not, cond, _||_, true≢false}
+use mathlib.Core.Bool.{Bool, true, false, not, cond, true≢false}
 use mathlib.Core.List.{List}
 use mathlib.Core.Option.{Option, none, some, Option·getD}
 use native.Mathlib.Omega.{arith}
@@ -18,7 +18,7 @@ use Rattle.rules.specs.Tokens.{Token}
 use Rattle.rules.specs.Constraints.{Document, Turn, fault, on, goes, inList, inRecord, atKey, withEntry, withId, withTrack, withSubnet, entered, keysOf, listBit, allLists, plainRules, numberOf, isNumber, rowOfLeg, listName, documentEnds, recordOpens, keyName, recordEnds, stringValue, legValue, subnetValue, secondsValue, numberValue, tracksOpen, trackNumber, onward}
 use Rattle.rules.specs.declared.tokens.Phase.the-variants.{Done, AfterRecord, FirstTrack, AfterTrack}
 use Rattle.rules.specs.declared.tokens.State.{State}
-use Rattle.documents.specs.Value.{number, isLeg, inRange}
+use Rattle.documents.specs.Value.{number, isLeg, noNumber, inRange}
 use Rattle.documents.proofs.Same.{opening, closing, withMember, entryWith}
 use Rattle.documents.proofs.Turns.{leg-no-id}
 
@@ -48,7 +48,8 @@ module _ (legs : List ℕ) (constraints tracks : ℕ) (more : State → Document
         let b = test repeatedOrMissing (eqb (bitAnd (st .lists) (listBit list)) 0) _ (a .1) in
         (a .0, eqb-true _ 0 (b .0), b .1)
 
-    pub document-said : st .rules ≡ plainRules → Read (documentEnds legs constraints tracks st d t) → (bitAnd (st .lists) allLists ≡ allLists) × (more (goes Done st) d ≡ good D)
+    pub document-said : st .rules ≡ plainRules → Read (documentEnds legs constraints tracks st d t)
+        → (bitAnd (st .lists) allLists ≡ allLists) × (more (goes Done st) d ≡ good D)
     unfolding documentEnds
     document-said plain e =
         let a = test repeatedOrMissing (eqb (bitAnd (st .lists) (st .rules .required)) (st .rules .required)) _ e in
@@ -60,7 +61,9 @@ module _ (legs : List ℕ) (constraints tracks : ℕ) (more : State → Document
       where
         go : (b : Bool) → eqb (st .list) subnets ≡ b → Read (recordOpens legs constraints tracks st d t) → more (inRecord st) (cond b (withSubnet d) d) ≡ good D
         go true e h = test tooMany (ltb (d .opened) mostSubnets) _ (rw e at h) .1
-        go false e h = test noRoom (ltb (length (d .constraints)) constraints) _ (test tooMany (ltb (length (d .constraints)) mostConstraints) _ (rw e at h) .1) .1
+        go false e h =
+            let few = test tooMany (ltb (length (d .constraints)) mostConstraints) _ (rw e at h) in
+            test noRoom (ltb (length (d .constraints)) constraints) _ (few .1) .1
 
     pub key-said : (key : ℕ) → Read (keyName legs constraints tracks key st d t)
         → (not (eqb (bitAnd (keysOf (st .list)) key) 0) ≡ true) × (bitAnd (st .keys) key ≡ 0) × (more (atKey key st) d ≡ good D)
@@ -70,7 +73,8 @@ module _ (legs : List ℕ) (constraints tracks : ℕ) (more : State → Document
         let b = test repeatedOrMissing (eqb (bitAnd (st .keys) key) 0) _ (a .1) in
         (a .0, eqb-true _ 0 (b .0), b .1)
 
-    pub end-said : Read (recordEnds legs constraints tracks st d t) → (st .keys ≡ keysOf (st .list)) × (more (goes AfterRecord st) (closing (st .list) (st .entry) d) ≡ good D)
+    pub end-said : Read (recordEnds legs constraints tracks st d t)
+        → (st .keys ≡ keysOf (st .list)) × (more (goes AfterRecord st) (closing (st .list) (st .entry) d) ≡ good D)
     unfolding recordEnds
     end-said e =
         let a = test repeatedOrMissing (eqb (st .keys) (keysOf (st .list))) _ e in
@@ -107,7 +111,7 @@ module _ (legs : List ℕ) (constraints tracks : ℕ) (more : State → Document
         × (inRange legs (number (st .key) (numberOf t)) ≡ true)
         × (more (withEntry (entryWith legs (number (st .key) (numberOf t)) (st .entry)) st) (withMember (number (st .key) (numberOf t)) d) ≡ good D)
 
-    leg-said : eqb (st .key) connectionType || eqb (st .key) trackIds ≡ false → isLeg (st .key) ≡ true → Read (legValue legs constraints tracks st d t) → NumberSaid
+    leg-said : noNumber (st .key) ≡ false → isLeg (st .key) ≡ true → Read (legValue legs constraints tracks st d t) → NumberSaid
     unfolding legValue
     leg-said other leg e =
         let a = test badJson (isNumber t) _ e in
@@ -115,19 +119,18 @@ module _ (legs : List ℕ) (constraints tracks : ℕ) (more : State → Document
         let c = test notThere (isSome (rowOfLeg legs (numberOf t))) _ (b .1) in
         (number-is (wholeOf (t .word)) (a .0), rw (other, leg, b .0, c .0), rw (leg, leg-no-id (st .key) leg) (c .1))
 
-    id-said : eqb (st .key) connectionType || eqb (st .key) trackIds ≡ false → isLeg (st .key) ≡ false → eqb (st .key) subnetId ≡ true
+    id-said : noNumber (st .key) ≡ false → isLeg (st .key) ≡ false → eqb (st .key) subnetId ≡ true
         → Read (subnetValue legs constraints tracks st d t) → NumberSaid
     unfolding subnetValue
     id-said other no-leg id e =
         let a = test badJson (isNumber t) _ e in
         let b = test outOfRange (leb (numberOf t) mostId) _ (a .1) in
-        let c = test alreadySeen (not (any (eqb (numberOf t)) (d .ids))) _ (b .1) in (
-          number-is (wholeOf (t .word)) (a .0),
-          rw (other, no-leg, id, b .0),
-          rw (no-leg, id) (subst (λ (k : ℕ). more (withEntry (entered k (numberOf t) (st .entry)) st) (withId (numberOf t) d) ≡ good D) (sym (eqb-true (st .key) subnetId id)) (c .1)),
-        )
+        let c = test alreadySeen (not (any (eqb (numberOf t)) (d .ids))) _ (b .1) in
+        let key : subnetId ≡ st .key = sym (eqb-true (st .key) subnetId id) in
+        let entry = subst (λ (k : ℕ). more (withEntry (entered k (numberOf t) (st .entry)) st) (withId (numberOf t) d) ≡ good D) key (c .1) in
+        (number-is (wholeOf (t .word)) (a .0), rw (other, no-leg, id, b .0), rw (no-leg, id) entry)
 
-    seconds-said : eqb (st .key) connectionType || eqb (st .key) trackIds ≡ false → isLeg (st .key) ≡ false → eqb (st .key) subnetId ≡ false
+    seconds-said : noNumber (st .key) ≡ false → isLeg (st .key) ≡ false → eqb (st .key) subnetId ≡ false
         → Read (secondsValue legs constraints tracks st d t) → NumberSaid
     unfolding secondsValue
     seconds-said other no-leg no-id e =
@@ -137,18 +140,20 @@ module _ (legs : List ℕ) (constraints tracks : ℕ) (more : State → Document
 
     pub number-said : Read (numberValue legs constraints tracks st d t) → NumberSaid
     unfolding numberValue
-    number-said = other (eqb (st .key) connectionType || eqb (st .key) trackIds) refl
+    number-said = other (noNumber (st .key)) refl
       where
-        id : (b : Bool) → eqb (st .key) connectionType || eqb (st .key) trackIds ≡ false → isLeg (st .key) ≡ false → eqb (st .key) subnetId ≡ b
+        id : (b : Bool) → noNumber (st .key) ≡ false → isLeg (st .key) ≡ false → eqb (st .key) subnetId ≡ b
             → Read (cond b (subnetValue legs constraints tracks st d t) (secondsValue legs constraints tracks st d t)) → NumberSaid
         id true f g h e = id-said f g h e
         id false f g h e = seconds-said f g h e
 
-        leg : (b : Bool) → eqb (st .key) connectionType || eqb (st .key) trackIds ≡ false → isLeg (st .key) ≡ b
-            → Read (cond b (legValue legs constraints tracks st d t) (cond (eqb (st .key) subnetId) (subnetValue legs constraints tracks st d t) (secondsValue legs constraints tracks st d t))) → NumberSaid
+        leg : (b : Bool) → noNumber (st .key) ≡ false → isLeg (st .key) ≡ b
+            → Read (cond b (legValue legs constraints tracks st d t)
+            (cond (eqb (st .key) subnetId) (subnetValue legs constraints tracks st d t) (secondsValue legs constraints tracks st d t)))
+            → NumberSaid
         leg true f g e = leg-said f g e
         leg false f g e = id (eqb (st .key) subnetId) f g refl e
 
-        other : (b : Bool) → eqb (st .key) connectionType || eqb (st .key) trackIds ≡ b → Read (numberValue legs constraints tracks st d t) → NumberSaid
+        other : (b : Bool) → noNumber (st .key) ≡ b → Read (numberValue legs constraints tracks st d t) → NumberSaid
         other true f e = no-fault badJson (t .place) (rw f at e)
         other false f e = leg (isLeg (st .key)) f refl (rw f at e)

@@ -132,17 +132,20 @@ module _ (legs : List ℕ) (D : Document) where
   Left ListOpen st d = Is Records (λ r. openBracket ∷ recordsBy (items recordPieces closeBracket) r) (RecordsOk legs st) (afterThoseRecords legs st d) D
   Left FirstRecord st d = Is Records (recordsBy (items recordPieces closeBracket)) (RecordsOk legs st) (afterThoseRecords legs st d) D
   Left Record st d =
-      Is Members (λ m. recordsBy (items recordPieces closeBracket) (recordJoined m)) (λ m. RecordsOk legs st (recordJoined m)) (λ m. afterThoseRecords legs st d (recordJoined m)) D
+      Is Members (λ m. recordsBy (items recordPieces closeBracket) (recordJoined m)) (λ m. RecordsOk legs st (recordJoined m))
+      (λ m. afterThoseRecords legs st d (recordJoined m)) D
   Left AfterRecord st d = Is Records (recordsBy (more recordPieces closeBracket)) (RecordsOk legs st) (afterThoseRecords legs st d) D
   Left FirstKey st d = Is Members (membersBy (items memberPieces closeBrace)) (MembersOk legs st) (afterThoseMembers legs st (st .entry) d) D
   Left NextKey st d =
-      Is MemberThen (λ m. membersBy (items memberPieces closeBrace) (memberJoined m)) (λ m. MembersOk legs st (memberJoined m)) (λ m. afterThoseMembers legs st (st .entry) d (memberJoined m)) D
+      Is MemberThen (λ m. membersBy (items memberPieces closeBrace) (memberJoined m)) (λ m. MembersOk legs st (memberJoined m))
+      (λ m. afterThoseMembers legs st (st .entry) d (memberJoined m)) D
   Left KeyColon st d = Is MemberThen (λ m. colon ∷ valueOf m) (ValueOk legs st) (afterValue legs st d) D
   Left AtValue st d = Is MemberThen valueOf (ValueOk legs st) (afterValue legs st d) D
   Left AfterValue st d = Is Members (membersBy (more memberPieces closeBrace)) (MembersOk legs st) (afterThoseMembers legs st (st .entry) d) D
   Left FirstTrack st d = Is Tracks (tracksBy (items trackPieces closeBracket)) (TracksOk legs st) (afterTracks legs st d) D
   Left NextTrack st d =
-      Is TrackThen (λ t. tracksBy (items trackPieces closeBracket) (trackJoined t)) (λ t. TracksOk legs st (trackJoined t)) (λ t. afterTracks legs st d (trackJoined t)) D
+      Is TrackThen (λ t. tracksBy (items trackPieces closeBracket) (trackJoined t)) (λ t. TracksOk legs st (trackJoined t))
+      (λ t. afterTracks legs st d (trackJoined t)) D
   Left AfterTrack st d = Is Tracks (tracksBy (more trackPieces closeBracket)) (TracksOk legs st) (afterTracks legs st d) D
   Left Done st d = Is (Unit {0}) (λ u. []) (λ u. Unit {0}) (λ u. d) D
 

@@ -43,7 +43,8 @@ from-append : (place : ℕ) (rs more : List (List Member)) → tracksFrom place 
 from-append place [] more = rw add-zero
 from-append place (ms ∷ rs) more =
     let same : place + 1 + length rs ≡ place + suc (length rs) = omega arith in
-    rw (from-append (place + 1) rs more, same) (sym (append-assoc (tracksAt place (flat tracksOf ms)) (tracksFrom (place + 1) rs) (tracksFrom (place + suc (length rs)) more)))
+    rw (from-append (place + 1) rs more, same)
+    (sym (append-assoc (tracksAt place (flat tracksOf ms)) (tracksFrom (place + 1) rs) (tracksFrom (place + suc (length rs)) more)))
 
 flat-append : {A B : Type 0} (f : A → List B) (s t : List A) → flat f (s ++ t) ≡ flat f s ++ flat f t
 flat-append f [] t = refl
@@ -145,8 +146,8 @@ module _ (legs : List ℕ) where
           → ((e : Document) → afterLists legs e ls
           ≡ grown e (constraintsIn legs ls) (tracksFrom (e .opened) (subnetsIn ls)) (length (subnetsIn ls)) (flat (flat idsOf) (subnetsIn ls)))
           → afterLists legs (afterRecords legs (l .list) d (l .records)) ls
-          ≡ grown d (cond b [] (map (constraintOf legs (l .list)) (l .records)) ++ constraintsIn legs ls) (tracksFrom (d .opened) (cond b (l .records) [] ++ subnetsIn ls))
-          (length (cond b (l .records) [] ++ subnetsIn ls)) (flat (flat idsOf) (cond b (l .records) [] ++ subnetsIn ls))
+          ≡ grown d (cond b [] (map (constraintOf legs (l .list)) (l .records)) ++ constraintsIn legs ls)
+          (tracksFrom (d .opened) (cond b (l .records) [] ++ subnetsIn ls)) (length (cond b (l .records) [] ++ subnetsIn ls)) (flat (flat idsOf) (cond b (l .records) [] ++ subnetsIn ls))
       go true is rest =
           let now = grown d [] (tracksFrom (d .opened) (l .records)) (length (l .records)) (flat (flat idsOf) (l .records)) in
           ap (λ (e : Document). afterLists legs e ls) (subnets-add (l .list) is (l .records) d)

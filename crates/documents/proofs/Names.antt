@@ -57,7 +57,8 @@ same-list : (s t : List ℕ) → sameList s t ≡ true → s ≡ t
 same-list [] [] h = refl
 same-list [] (b ∷ t) h = absurd (true≢false (sym h))
 same-list (a ∷ s) [] h = absurd (true≢false (sym h))
-same-list (a ∷ s) (b ∷ t) h = ap₂ (λ (x : ℕ) (l : List ℕ). x ∷ l) (eqb-true a b (and-first (eqb a b) (sameList s t) h)) (same-list s t (and-second (eqb a b) (sameList s t) h))
+same-list (a ∷ s) (b ∷ t) h =
+    ap₂ (λ (x : ℕ) (l : List ℕ). x ∷ l) (eqb-true a b (and-first (eqb a b) (sameList s t) h)) (same-list s t (and-second (eqb a b) (sameList s t) h))
 
 -- what holds of all names holds of a word that is one of them
 module _ (P : List ℕ → Type 0) where

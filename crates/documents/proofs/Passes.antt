@@ -49,6 +49,9 @@ keys-known = (refl, (refl, (refl, (refl, (refl, (refl, (refl, (refl, (refl, (ref
 lists-known : All (Among sixLists) sixLists
 lists-known = (refl, (refl, (refl, (refl, (refl, (refl, tt))))))
 
+lists-within : All (λ n. Within (listBit n) allLists) sixLists
+lists-within = (refl, (refl, (refl, (refl, (refl, (refl, tt))))))
+
 keys-in-known : (list : ℕ) → All (Among allKeys) (keysIn list)
 keys-in-known list = all-only (Among allKeys) (carries list) allKeys keys-known
 
@@ -102,7 +105,8 @@ module _ (legs : List ℕ) where
       record-passed ok =
           let passed = members-passed ms 0 ok in
           record {
-            keys = passes-once allKeys (λ key. key) refl refl (keysIn list) (keys-in-known list) (map keyOf ms) (passed .known) (passed .fresh) (passed .full ∙ sym (keys-full list in-lists));
+            keys = passes-once allKeys (λ key. key) refl refl (keysIn list) (keys-in-known list) (map keyOf ms)
+                (passed .known) (passed .fresh) (passed .full ∙ sym (keys-full list in-lists));
             values = passed .values;
           }
 
@@ -137,7 +141,10 @@ module _ (legs : List ℕ) where
         fresh = (ok .0 .fresh, rest .fresh);
         full = rest .full;
         known = (ok .0 .in-lists, rest .known);
-        records = (all-map (OkMembers legs (l .list) 0) (LawfulRecord legs (l .list)) (record-passed (l .list) (ok .0 .in-lists)) (l .records) (ok .0 .records), rest .records);
+        records = (
+          all-map (OkMembers legs (l .list) 0) (LawfulRecord legs (l .list)) (record-passed (l .list) (ok .0 .in-lists)) (l .records) (ok .0 .records),
+          rest .records,
+        );
       }
 
   pub value-passes : (v : Value) → Once sixLists (map (λ l. l .list) v) → All LawfulList v → OkLists legs 0 v
@@ -155,7 +162,8 @@ module _ (legs : List ℕ) where
       let all : ℕ = union listBit 0 (map (λ l. l .list) v) in
       let within : Within all allLists =
       all-within sixLists listBit refl refl (map (λ l. l .list) v) 0 allLists refl
-      (all-map (Among sixLists) (λ n. Within (listBit n) allLists) (among-all (λ n. Within (listBit n) allLists) sixLists (refl, (refl, (refl, (refl, (refl, (refl, tt))))))) (map (λ l. l .list) v) (passed .known)) in
+      (all-map (Among sixLists) (λ n. Within (listBit n) allLists) (among-all (λ n. Within (listBit n) allLists) sixLists lists-within)
+      (map (λ l. l .list) v) (passed .known)) in
       let both = or-add-and all allLists in
       let same : all ≡ allLists = omega (arith, passed .full) in
       record {

@@ -256,9 +256,11 @@ module _ (legs : List ℕ) (constraints tracks : ℕ) (D : Document) (ts : List 
 -- ---- the whole run
 
 module _ (legs : List ℕ) (constraints tracks : ℕ) (D : Document) where
-  pub run-left : (ts : List Token) (st : State) (d : Document) → st .rules ≡ plainRules → run legs constraints tracks st d ts ≡ good D → Left legs D (st .phase) st d ts
+  pub run-left : (ts : List Token) (st : State) (d : Document) → st .rules ≡ plainRules → run legs constraints tracks st d ts ≡ good D
+      → Left legs D (st .phase) st d ts
   unfolding run turnOf actionOf
   run-left [] st d plain e = let z : _≡_ {A = ℕ} 0 1 = cc in absurd (omega arith)
   run-left (t ∷ ts) st d plain e =
       let behind : Behind legs constraints tracks D ts = run-left ts in
-      in-row legs constraints tracks D ts st d t plain behind (st .phase) (table (st .phase)) (row legs constraints tracks D ts st d t plain behind (st .phase)) e
+      in-row legs constraints tracks D ts st d t plain behind (st .phase) (table (st .phase))
+      (row legs constraints tracks D ts st d t plain behind (st .phase)) e

@@ -106,9 +106,11 @@ module _ (table : List ℕ) (bit : ℕ → ℕ)
 
   distinct-fresh : (ns : List ℕ) (seen : ℕ) → All (Among table) ns → Distinct (λ n. n) ns → All (λ n. bitAnd seen (bit n) ≡ 0) ns → Fresh bit seen ns
   distinct-fresh [] seen known distinct out = tt
-  distinct-fresh (n ∷ ns) seen known distinct out = (out .0, distinct-fresh ns (bitOr seen (bit n)) (known .1) (distinct .1) (go ns (known .1) (distinct .0) (out .1)))
+  distinct-fresh (n ∷ ns) seen known distinct out =
+      (out .0, distinct-fresh ns (bitOr seen (bit n)) (known .1) (distinct .1) (go ns (known .1) (distinct .0) (out .1)))
     where
-      go : (ms : List ℕ) → All (Among table) ms → All (λ m. n ≡ m → ⊥) ms → All (λ m. bitAnd seen (bit m) ≡ 0) ms → All (λ m. bitAnd (bitOr seen (bit n)) (bit m) ≡ 0) ms
+      go : (ms : List ℕ) → All (Among table) ms → All (λ m. n ≡ m → ⊥) ms → All (λ m. bitAnd seen (bit m) ≡ 0) ms
+          → All (λ m. bitAnd (bitOr seen (bit n)) (bit m) ≡ 0) ms
       go [] h k l = tt
       go (m ∷ ms) h k l = (still-out seen n m (known .0) (h .0) (k .0) (l .0), go ms (h .1) (k .1) (l .1))
 
@@ -138,8 +140,10 @@ module _ (table : List ℕ) (bit : ℕ → ℕ)
   among-within n [] seen there = absurd (true≢false (sym there))
   among-within n (m ∷ ns) seen there = go (eqb n m) refl there (among-within n ns (bitOr seen (bit m)))
     where
-      go : (b : Bool) → eqb n m ≡ b → b || any (eqb n) ns ≡ true → (Among ns n → Within (bit n) (union bit (bitOr seen (bit m)) ns)) → Within (bit n) (union bit (bitOr seen (bit m)) ns)
-      go true e h ih = kept (bit n) ns (bitOr seen (bit m)) (subst (λ (k : ℕ). Within (bit k) (bitOr seen (bit m))) (sym (eqb-true n m e)) (within-last seen (bit m)))
+      go : (b : Bool) → eqb n m ≡ b → b || any (eqb n) ns ≡ true
+          → (Among ns n → Within (bit n) (union bit (bitOr seen (bit m)) ns)) → Within (bit n) (union bit (bitOr seen (bit m)) ns)
+      go true e h ih =
+          kept (bit n) ns (bitOr seen (bit m)) (subst (λ (k : ℕ). Within (bit k) (bitOr seen (bit m))) (sym (eqb-true n m e)) (within-last seen (bit m)))
       go false e h ih = ih h
 
   pub all-within : (ns : List ℕ) (seen s : ℕ) → Within seen s → All (λ n. Within (bit n) s) ns → Within (union bit seen ns) s
@@ -150,7 +154,8 @@ module _ (table : List ℕ) (bit : ℕ → ℕ)
   each-within [] seen = tt
   each-within (n ∷ ns) seen = (kept (bit n) ns (bitOr seen (bit n)) (within-last seen (bit n)), each-within ns (bitOr seen (bit n)))
 
-  missing-out : (w : ℕ) → Among table w → (ns : List ℕ) (seen : ℕ) → All (Among table) ns → any (eqb w) ns ≡ false → bitAnd seen (bit w) ≡ 0 → bitAnd (union bit seen ns) (bit w) ≡ 0
+  missing-out : (w : ℕ) → Among table w → (ns : List ℕ) (seen : ℕ) → All (Among table) ns → any (eqb w) ns ≡ false
+      → bitAnd seen (bit w) ≡ 0 → bitAnd (union bit seen ns) (bit w) ≡ 0
   missing-out w in-w [] seen known away out = out
   missing-out w in-w (n ∷ ns) seen known away out =
       missing-out w in-w ns (bitOr seen (bit n)) (known .1) (or-second (eqb w n) (any (eqb w) ns) away)
@@ -163,14 +168,16 @@ module _ (table : List ℕ) (bit : ℕ → ℕ)
     pub once-passes : Once wanted ns → Fresh bit 0 ns × (union bit 0 ns ≡ union bit 0 wanted)
     once-passes once = (
       distinct-fresh ns 0 (all-map (Among wanted) (Among table) (among-all (Among table) wanted in-table) ns (once .known)) (once .distinct) (none-yet ns),
-      sym (all-within wanted 0 (union bit 0 ns) (or-zero-l (union bit 0 ns)) (all-map (Among ns) (λ n. Within (bit n) (union bit 0 ns)) (λ n there. among-within n ns 0 there) wanted (once .present)))
-          ∙ or-comm (union bit 0 wanted) (union bit 0 ns)
-          ∙ all-within ns 0 (union bit 0 wanted) (or-zero-l (union bit 0 wanted)) (all-map (Among wanted) (λ n. Within (bit n) (union bit 0 wanted)) (λ n there. among-within n wanted 0 there) ns (once .known)),
+      sym (each-in wanted ns (once .present)) ∙ or-comm (union bit 0 wanted) (union bit 0 ns) ∙ each-in ns wanted (once .known),
     )
       where
         none-yet : (ms : List ℕ) → All (λ m. bitAnd 0 (bit m) ≡ 0) ms
         none-yet [] = tt
         none-yet (m ∷ ms) = (and-zero-l (bit m), none-yet ms)
+
+        each-in : (s t : List ℕ) → All (Among t) s → Within (union bit 0 s) (union bit 0 t)
+        each-in s t h =
+            all-within s 0 (union bit 0 t) (or-zero-l (union bit 0 t)) (all-map (Among t) (λ n. Within (bit n) (union bit 0 t)) (λ n there. among-within n t 0 there) s h)
 
     -- and back
     pub passes-once : All (Among wanted) ns → Fresh bit 0 ns → union bit 0 ns ≡ union bit 0 wanted → Once wanted ns

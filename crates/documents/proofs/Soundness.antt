@@ -37,7 +37,8 @@ lawful-fits legs constraints tracks d h =
     }
 
 module _ (legs : List ℕ) (constraints tracks : ℕ) (s : List ℕ) (d : Document) where
-  run-sound : length s ≤ mostText → run legs constraints tracks (start plainRules) empty (tokensOf s) ≡ good d → Fits constraints tracks d → Writing legs constraints tracks s d
+  run-sound : length s ≤ mostText → run legs constraints tracks (start plainRules) empty (tokensOf s) ≡ good d → Fits constraints tracks d
+      → Writing legs constraints tracks s d
   unfolding tokensOf
   run-sound short e fits =
       let k = run-left legs constraints tracks d (tokensOf s) (start plainRules) empty refl e in

@@ -12,7 +12,7 @@ use Rattle.rules.specs.Limits.{mostId, mostSeconds, mostConstraints, mostSubnet
 use Rattle.rules.specs.Answers.{Reading}
 use Rattle.rules.specs.Lists.{any, isSome}
 use Rattle.rules.specs.Bytes.{wholeOf}
-use Rattle.rules.specs.Kinds.{subnets, firstLeg, secondLeg, subnetId, trackIds, connectionType}
+use Rattle.rules.specs.Kinds.{subnets, firstLeg, secondLeg, subnetId}
 use Rattle.rules.specs.Tokens.{Token}
 use Rattle.rules.specs.Constraints.{Document, Turn, on, actionOf, goes, withEntry, withId, withTrack, withSubnet, entered, inRecord, rowOfLeg, recordOpens, recordEnds, legValue, subnetValue, secondsValue, numberValue, trackNumber, act, turnOf, onward, run, keysOf}
 use Rattle.rules.specs.declared.sizes.Track.{Track}
@@ -25,12 +25,13 @@ use Rattle.rules.specs.declared.tokens.State.{State}
 use Rattle.rules.specs.Verdict.{All}
 use Rattle.laws.specs.Lists.{Pairs}
 use Rattle.laws.proofs.DocumentWords.{and-first, and-second}
-use Rattle.documents.specs.Value.{number, isLeg, inRange, Fits}
+use Rattle.documents.specs.Value.{number, isLeg, noNumber, inRange, Fits}
 use Rattle.documents.specs.Written.{Piece}
 use Rattle.documents.proofs.Same.{Says, Same, classOf, says-class, opening, closing, entryWith, withMember}
 
 -- an element that is like none before it
-last-differs : {A : Type 0} (R : A → A → Type 0) (p : A → Bool) (s : List A) (y : A) → ((x : A) → R x y → p x ≡ false) → Pairs R (s ++ y ∷ []) → any p s ≡ false
+last-differs : {A : Type 0} (R : A → A → Type 0) (p : A → Bool) (s : List A) (y : A) → ((x : A) → R x y → p x ≡ false) → Pairs R (s ++ y ∷ [])
+    → any p s ≡ false
 last-differs R p [] y differ h = refl
 last-differs {A} R p (x ∷ s) y differ h = rw (differ x (last s (h .0))) (last-differs R p s y differ (h .1))
   where
@@ -92,7 +93,8 @@ module _ (legs : List ℕ) (constraints tracks : ℕ) where
     record-ended e = rw (eq-eqb (st .keys) (keysOf (st .list)) e)
 
     module _ (n : ℕ) (says : wholeOf (t .word) ≡ some n) where
-      pub track-read : n ≤ mostId → Fits constraints tracks (withTrack n d) → trackNumber legs constraints tracks st d t ≡ on (goes AfterTrack st) (withTrack n d)
+      pub track-read : n ≤ mostId → Fits constraints tracks (withTrack n d)
+          → trackNumber legs constraints tracks st d t ≡ on (goes AfterTrack st) (withTrack n d)
       unfolding trackNumber
       track-read low fits =
           let track : Track = record { id = n; subnet = d .opened - 1 } in
@@ -121,24 +123,26 @@ module _ (legs : List ℕ) (constraints tracks : ℕ) where
       seconds-read ok = rw (says, ok)
 
       -- a number under its key
-      pub number-read : inRange legs (number (st .key) n) ≡ true → Fits constraints tracks (withMember (number (st .key) n) d)
-          → numberValue legs constraints tracks st d t ≡ on (withEntry (entryWith legs (number (st .key) n) (st .entry)) st) (withMember (number (st .key) n) d)
+      abbrev NumberRead : Type 0
+      NumberRead = numberValue legs constraints tracks st d t ≡ on (withEntry (entryWith legs (number (st .key) n) (st .entry)) st) (withMember (number (st .key) n) d)
+
+      pub number-read : inRange legs (number (st .key) n) ≡ true → Fits constraints tracks (withMember (number (st .key) n) d) → NumberRead
       unfolding numberValue
-      number-read ok fits = other (eqb (st .key) connectionType || eqb (st .key) trackIds) refl
+      number-read ok fits = other (noNumber (st .key)) refl
         where
-          seconds : (b : Bool) → eqb (st .key) connectionType || eqb (st .key) trackIds ≡ false → isLeg (st .key) ≡ false → eqb (st .key) subnetId ≡ b
-              → numberValue legs constraints tracks st d t ≡ on (withEntry (entryWith legs (number (st .key) n) (st .entry)) st) (withMember (number (st .key) n) d)
+          seconds : (b : Bool) → noNumber (st .key) ≡ false → isLeg (st .key) ≡ false → eqb (st .key) subnetId ≡ b
+              → NumberRead
           seconds true f g h =
               rw (f, g, h) (id-read (rw (f, g, h) at ok) (rw h at fits)
               ∙ ap (λ (k : ℕ). on (withEntry (entered k n (st .entry)) st) (withId n d)) (sym (eqb-true (st .key) subnetId h)))
           seconds false f g h = rw (f, g, h) (seconds-read (rw (f, g, h) at ok))
 
-          leg : (b : Bool) → eqb (st .key) connectionType || eqb (st .key) trackIds ≡ false → isLeg (st .key) ≡ b
-              → numberValue legs constraints tracks st d t ≡ on (withEntry (entryWith legs (number (st .key) n) (st .entry)) st) (withMember (number (st .key) n) d)
+          leg : (b : Bool) → noNumber (st .key) ≡ false → isLeg (st .key) ≡ b
+              → NumberRead
           leg true f g = rw (f, g, leg-no-id (st .key) g) (leg-read (rw (f, g) at ok))
           leg false f g = seconds (eqb (st .key) subnetId) f g refl
 
-          other : (b : Bool) → eqb (st .key) connectionType || eqb (st .key) trackIds ≡ b
-              → numberValue legs constraints tracks st d t ≡ on (withEntry (entryWith legs (number (st .key) n) (st .entry)) st) (withMember (number (st .key) n) d)
+          other : (b : Bool) → noNumber (st .key) ≡ b
+              → NumberRead
           other true f = absurd (true≢false (sym (rw f at ok)))
           other false f = leg (isLeg (st .key)) f refl

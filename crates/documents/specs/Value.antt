@@ -112,10 +112,14 @@ pub record Once (wanted given : List ℕ) : Type 0 where
   pub distinct : Distinct (λ n. n) given
   pub present : All (Among given) wanted
 
+-- a type and a list of tracks are no numbers
+abbrev pub noNumber : ℕ → Bool
+noNumber key = eqb key connectionType || eqb key trackIds
+
 -- a number is in its range, and a leg is a leg of the timetable
 abbrev pub inRange : (legs : List ℕ) → Member → Bool
 inRange legs (number key n) =
-    cond (eqb key connectionType || eqb key trackIds) false
+    cond (noNumber key) false
     (cond (isLeg key) (leb n mostId && isSome (rowOfLeg legs n))
     (cond (eqb key subnetId) (leb n mostId)
     (leb n mostSeconds)))

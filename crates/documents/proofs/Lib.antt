@@ -16,4 +16,5 @@ pub mod Inverse
 pub mod Left
 pub mod Rows
 pub mod Soundness
+pub mod OneValue
 pub mod Example

@@ -4,20 +4,20 @@ use mathlib.Core.Path.{_≡_, refl}
 use mathlib.Core.Bool.{Bool, true, false, not, _&&_}
 use mathlib.Core.List.{List, [], _∷_, _++_}
 use native.Mathlib.Omega.{arith}
-use lib.Dec.{T, eqb}
+use lib.Dec.{eqb}
 use borrow.Author.Tests.{eqb-false, not-true}
 use Rattle.rules.specs.Bytes.{bytes}
 use Rattle.rules.specs.Lists.{any, every}
 use Rattle.rules.specs.Answers.{good}
 use Rattle.rules.specs.Kinds.{headway, singleTrack, dwell, turnaround, connection, subnets, firstLeg, secondLeg, minHeadway, minDwell, minConnection, maxConnection, subnetId, byArrival, noType}
-use Rattle.rules.specs.Constraints.{document, plainRules, keysOf, constraintsOf}
-use Rattle.rules.specs.Verdict.{All}
-use Rattle.rules.proofs.Truth.{all-map, every-all, is-true, holds}
+use Rattle.rules.specs.Constraints.{document, plainRules, constraintsOf}
+use Rattle.rules.proofs.Truth.{all-map}
 use Rattle.laws.specs.Lists.{Distinct}
 use Rattle.laws.proofs.All.{none-passes}
 use Rattle.laws.proofs.DocumentWords.{and-first, and-second}
-use Rattle.documents.specs.Value.{number, type, trackList, Value, documentOf, Among, Once, Lawful}
+use Rattle.documents.specs.Value.{number, type, trackList, Value, documentOf, Once, Lawful}
 use Rattle.documents.specs.Written.{spread, pieces}
+use Rattle.documents.proofs.Sets.{tested-among}
 use Rattle.documents.proofs.Completeness.{spread-read}
 
 -- ---- each of the wanted once, by computing
@@ -34,9 +34,6 @@ tested-distinct (n ∷ ns) h = (
       (none-passes (eqb n) ns (not-true _ (and-first (not (any (eqb n) ns)) (distinctTest ns) h))),
   tested-distinct ns (and-second (not (any (eqb n) ns)) (distinctTest ns) h),
 )
-
-tested-among : (l ns : List ℕ) → every (λ n. any (eqb n) l) ns ≡ true → All (Among l) ns
-tested-among l ns h = all-map (λ n. T (any (eqb n) l)) (Among l) (λ n. is-true (any (eqb n) l)) ns (every-all (λ n. any (eqb n) l) ns (holds _ h))
 
 tested-once : (wanted given : List ℕ) → every (λ n. any (eqb n) wanted) given ≡ true → distinctTest given ≡ true
     → every (λ n. any (eqb n) given) wanted ≡ true → Once wanted given
@@ -95,7 +92,7 @@ its-document = refl
 
 -- with room for just its records
 lawful : Lawful legs 4 2 value
-unfolding documentOf keysOf distinctTest
+unfolding documentOf distinctTest
 lawful =
     record {
       lists = tested-once _ _ refl refl refl;

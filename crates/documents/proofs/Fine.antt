@@ -8,8 +8,8 @@ use Rattle.rules.specs.Tokens.{inString}
 use Rattle.rules.specs.Verdict.{All}
 use Rattle.laws.proofs.DocumentWords.{passed}
 use Rattle.laws.proofs.Keys.{types}
-use Rattle.documents.specs.Value.{Member, number, type, trackList, keyOf, Listed, Value, sixLists, allKeys, Among, inRange}
-use Rattle.documents.specs.Written.{Piece, closeBrace, closeBracket, more, items, Writes, trackPieces, saidPieces, memberPieces, recordPieces, listPieces, pieces, listName, keyName, typeName}
+use Rattle.documents.specs.Value.{Member, number, type, trackList, keyOf, Listed, Value, sixLists, Among, inRange}
+use Rattle.documents.specs.Written.{Piece, closeBrace, closeBracket, more, items, Writes, trackPieces, saidPieces, memberPieces, recordPieces, listPieces, pieces, listName, keyName, typeName, allKeys}
 use Rattle.documents.proofs.Same.{Allowed, OkMembers, OkLists}
 use Rattle.documents.proofs.Names.{type-in}
 use Rattle.documents.proofs.Text.{startsWhole, Fine}

@@ -11,8 +11,8 @@ use Rattle.rules.specs.Verdict.{All}
 use Rattle.rules.proofs.Truth.{by-case}
 use Rattle.laws.proofs.DocumentWords.{passed, and-first, and-second, or-else}
 use Rattle.laws.proofs.Keys.{types, key-known}
-use Rattle.documents.specs.Value.{type, inRange, sixLists, allKeys, Among}
-use Rattle.documents.specs.Written.{listName, keyName, typeName}
+use Rattle.documents.specs.Value.{type, inRange, sixLists, Among}
+use Rattle.documents.specs.Written.{listName, keyName, typeName, allKeys}
 
 -- ---- from a number to its name and back
 

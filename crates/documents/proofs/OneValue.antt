@@ -16,8 +16,8 @@ use Rattle.rules.specs.declared.tokens.Class.{Class}
 use Rattle.rules.specs.declared.tokens.Class.the-variants.{OpenBrace, CloseBrace, OpenBracket, CloseBracket, Colon, Comma, Quoted, Run, End, Unclosed, Forbidden}
 use Rattle.rules.proofs.Truth.{all-map}
 use Rattle.rules.proofs.TokenLaws.{isEnd}
-use Rattle.documents.specs.Value.{Member, number, type, trackList, keyOf, Listed, Value, sixLists, allKeys, Among, inRange}
-use Rattle.documents.specs.Written.{Piece, Writes, openBrace, closeBrace, openBracket, closeBracket, colon, comma, string, whole, more, items, trackPieces, memberPieces, recordPieces, listPieces, pieces, typeName, Writing}
+use Rattle.documents.specs.Value.{Member, number, type, trackList, keyOf, Listed, Value, sixLists, Among, inRange}
+use Rattle.documents.specs.Written.{Piece, Writes, openBrace, closeBrace, openBracket, closeBracket, colon, comma, string, whole, more, items, trackPieces, memberPieces, recordPieces, listPieces, pieces, typeName, Writing, allKeys}
 use Rattle.documents.proofs.Same.{Says, classOf, says-class, Same, OkMembers, OkLists}
 use Rattle.documents.proofs.Names.{list-named, key-named, type-named, type-in}
 use Rattle.documents.proofs.Passes.{value-passes}

@@ -1,46 +1,23 @@
 -- A lawful value passes the tests of names and values one after the other, and a value that passes them is lawful. Assumes nothing.
 use Prim.Native.Nat.{ℕ}
 use mathlib.Core.Path.{_≡_, refl, sym, ap, _∙_}
-use mathlib.Core.Bool.{Bool, true, false, not, _||_, true≢false}
+use mathlib.Core.Bool.{Bool, true, not, _||_}
 use mathlib.Core.List.{List, [], _∷_, map}
 use native.Mathlib.Omega.{arith}
 use lib.Dec.{eqb}
 use lib.Bits.{bitAnd, bitOr, or-add-and}
 use borrow.Author.Tests.{eqb-true}
-use Rattle.rules.specs.Lists.{any, only}
+use Rattle.rules.specs.Lists.{any, every}
 use Rattle.rules.specs.Constraints.{keysOf, listBit, allLists}
 use Rattle.rules.specs.Verdict.{All}
-use Rattle.rules.proofs.Truth.{by-case, all-map}
-use Rattle.laws.proofs.All.{all-only}
-use Rattle.laws.proofs.DocumentWords.{passed}
-use Rattle.documents.specs.Value.{Member, keyOf, Listed, Value, sixLists, allKeys, keysIn, Among, Once, inRange, LawfulRecord}
+use Rattle.rules.proofs.Truth.{all-map}
+use Rattle.laws.proofs.DocumentWords.{passed, or-else}
+use Rattle.documents.specs.Written.{allKeys}
+use Rattle.documents.specs.Value.{Member, keyOf, Listed, Value, sixLists, keysIn, Among, Once, inRange, LawfulRecord}
 use Rattle.documents.proofs.Same.{OkMembers, OkLists}
-use Rattle.documents.proofs.Sets.{among-all, Within, Fresh, union, all-within, once-passes, passes-once}
+use Rattle.documents.proofs.Sets.{among-all, tested-among, Within, Fresh, union, all-within, once-passes, passes-once}
 
--- ---- the keys of a list are those of all keys that it carries
-
-abbrev carries : (list key : ℕ) → Bool
-carries list key = not (eqb (bitAnd (keysOf list) key) 0)
-
-only-passes : {A : Type 0} (p : A → Bool) (l : List A) → All (λ x. p x ≡ true) (only p l)
-only-passes p [] = tt
-only-passes p (x ∷ l) =
-    by-case (All (λ y. p y ≡ true)) (p x) (x ∷ only p l) (only p l) (λ e. (e, only-passes p l)) (λ e. only-passes p l)
-
-among-only : (p : ℕ → Bool) (l : List ℕ) (n : ℕ) → Among l n → p n ≡ true → Among (only p l) n
-among-only p [] n there h = there
-among-only p (x ∷ l) n there h =
-    by-case (λ s. Among s n) (p x) (x ∷ only p l) (only p l)
-    (λ e. here (eqb n x) there (λ k. among-only p l n k h))
-    (λ e. later e (eqb n x) refl there (λ k. among-only p l n k h))
-  where
-    here : (b : Bool) → b || any (eqb n) l ≡ true → (Among l n → Among (only p l) n) → b || any (eqb n) (only p l) ≡ true
-    here true k ih = refl
-    here false k ih = ih k
-
-    later : p x ≡ false → (b : Bool) → eqb n x ≡ b → b || any (eqb n) l ≡ true → (Among l n → Among (only p l) n) → Among (only p l) n
-    later e true same k ih = absurd (true≢false (sym h ∙ ap p (eqb-true n x same) ∙ e))
-    later e false same k ih = ih k
+-- ---- the table of the keys and the sets of keys, as computed
 
 -- each key stands in the table
 keys-known : All (Among allKeys) allKeys
@@ -52,25 +29,41 @@ lists-known = (refl, (refl, (refl, (refl, (refl, (refl, tt))))))
 lists-within : All (λ n. Within (listBit n) allLists) sixLists
 lists-within = (refl, (refl, (refl, (refl, (refl, (refl, tt))))))
 
-keys-in-known : (list : ℕ) → All (Among allKeys) (keysIn list)
-keys-in-known list = all-only (Among allKeys) (carries list) allKeys keys-known
+-- a set has a key
+abbrev carries : (list key : ℕ) → Bool
+carries list key = not (eqb (bitAnd (keysOf list) key) 0)
 
--- together they are the list's set of keys
-keys-full : (list : ℕ) → Among sixLists list → union (λ key. key) 0 (keysIn list) ≡ keysOf list
-unfolding keysOf
-keys-full list known = eqb-true _ _ (passed (λ l. eqb (union (λ key. key) 0 (keysIn l)) (keysOf l)) sixLists list refl known)
+-- the keys of a list are keys; its set has them, and no other
+module _ (list : ℕ) (in-lists : Among sixLists list) where
+  keys-in-known : All (Among allKeys) (keysIn list)
+  keys-in-known = tested-among allKeys (keysIn list) (passed (λ l. every (λ key. any (eqb key) allKeys) (keysIn l)) sixLists list refl in-lists)
+
+  in-table-carried : (key : ℕ) → Among (keysIn list) key → carries list key ≡ true
+  unfolding keysOf
+  in-table-carried key there =
+      passed (carries list) (keysIn list) key (passed (λ l. every (carries l) (keysIn l)) sixLists list refl in-lists) there
+
+  carried-in-table : (key : ℕ) → Among allKeys key → carries list key ≡ true → Among (keysIn list) key
+  unfolding keysOf
+  carried-in-table key known carried =
+      let row = passed (λ l. every (λ k. not (carries l k) || any (eqb k) (keysIn l)) allKeys) sixLists list refl in-lists in
+      or-else (not (carries list key)) _ (passed (λ k. not (carries list k) || any (eqb k) (keysIn list)) allKeys key row known) (ap not carried)
+
+  keys-full : union (λ key. key) 0 (keysIn list) ≡ keysOf list
+  unfolding keysOf
+  keys-full = eqb-true _ _ (passed (λ l. eqb (union (λ key. key) 0 (keysIn l)) (keysOf l)) sixLists list refl in-lists)
 
 module _ (legs : List ℕ) where
   -- ---- a record
 
-  module _ (list : ℕ) where
+  module _ (list : ℕ) (in-lists : Among sixLists list) where
     members-pass : (ms : List Member) (seen : ℕ) → Fresh (λ key. key) seen (map keyOf ms) → union (λ key. key) seen (map keyOf ms) ≡ keysOf list
         → All (Among (keysIn list)) (map keyOf ms) → All (λ m. inRange legs m ≡ true) ms → OkMembers legs list seen ms
     members-pass [] seen fresh full known values = full
     members-pass (m ∷ ms) seen fresh full known values = (
       record {
-        in-keys = among-all (Among allKeys) (keysIn list) (keys-in-known list) (keyOf m) (known .0);
-        carried = among-all (λ key. carries list key ≡ true) (keysIn list) (only-passes (carries list) allKeys) (keyOf m) (known .0);
+        in-keys = among-all (Among allKeys) (keysIn list) (keys-in-known list in-lists) (keyOf m) (known .0);
+        carried = in-table-carried list in-lists (keyOf m) (known .0);
         fresh = fresh .0;
         value = values .0;
       },
@@ -91,21 +84,21 @@ module _ (legs : List ℕ) where
         record {
           fresh = (ok .0 .fresh, rest .fresh);
           full = rest .full;
-          known = (among-only (carries list) allKeys (keyOf m) (ok .0 .in-keys) (ok .0 .carried), rest .known);
+          known = (carried-in-table list in-lists (keyOf m) (ok .0 .in-keys) (ok .0 .carried), rest .known);
           values = (ok .0 .value, rest .values);
         }
 
-    module _ (in-lists : Among sixLists list) (ms : List Member) where
+    module _ (ms : List Member) where
       record-passes : LawfulRecord legs list ms → OkMembers legs list 0 ms
       record-passes lawful =
-          let pass = once-passes allKeys (λ key. key) refl refl (keysIn list) (keys-in-known list) (map keyOf ms) (lawful .keys) in
+          let pass = once-passes allKeys (λ key. key) refl refl (keysIn list) (keys-in-known list in-lists) (map keyOf ms) (lawful .keys) in
           members-pass ms 0 (pass .0) (pass .1 ∙ keys-full list in-lists) (lawful .keys .known) (lawful .values)
 
       record-passed : OkMembers legs list 0 ms → LawfulRecord legs list ms
       record-passed ok =
           let passed = members-passed ms 0 ok in
           record {
-            keys = passes-once allKeys (λ key. key) refl refl (keysIn list) (keys-in-known list) (map keyOf ms)
+            keys = passes-once allKeys (λ key. key) refl refl (keysIn list) (keys-in-known list in-lists) (map keyOf ms)
                 (passed .known) (passed .fresh) (passed .full ∙ sym (keys-full list in-lists));
             values = passed .values;
           }

@@ -18,8 +18,8 @@ use Rattle.rules.specs.declared.tokens.Phase.{Phase}
 use Rattle.rules.specs.declared.tokens.Phase.the-variants.{Document as Text, FirstName, Name, NameColon, ListOpen, AfterList, FirstRecord, Record, AfterRecord, FirstKey, NextKey, KeyColon, Value as AtValue, AfterValue, FirstTrack, NextTrack, AfterTrack, Done}
 use Rattle.rules.specs.declared.tokens.State.{State}
 use Rattle.laws.proofs.Keys.{list-known, type-known}
-use Rattle.documents.specs.Value.{Member, number, type, trackList, keyOf, allKeys, Among}
-use Rattle.documents.specs.Written.{openBrace, closeBrace, openBracket, closeBracket, colon, comma, more, recordPieces, keyName as nameOfKey}
+use Rattle.documents.specs.Value.{Member, number, type, trackList, keyOf, Among}
+use Rattle.documents.specs.Written.{openBrace, closeBrace, openBracket, closeBracket, colon, comma, more, recordPieces, keyName as nameOfKey, allKeys}
 use Rattle.documents.proofs.Same.{opening, closing, withMember, entryWith, OkMembers}
 use Rattle.documents.proofs.Names.{list-back, key-back, type-back, key-in, in-range}
 use Rattle.documents.proofs.Inverse.{no-fault, list-said, document-said, record-said, key-said, end-said, type-said, tracks-said, track-said, number-said}

@@ -14,8 +14,8 @@ use Rattle.rules.specs.Verdict.{All}
 use Rattle.rules.specs.declared.sizes.Constraint.{Constraint}
 use Rattle.rules.specs.declared.tokens.Class.{Class}
 use Rattle.rules.specs.declared.tokens.Class.the-variants.{OpenBrace, CloseBrace, OpenBracket, CloseBracket, Colon, Comma, Quoted, Run, End}
-use Rattle.documents.specs.Value.{Member, number, type, trackList, Listed, Value, keyOf, worth, sixLists, allKeys, Among, inRange}
-use Rattle.documents.specs.Written.{Piece, openBrace, closeBrace, openBracket, closeBracket, colon, comma, string, whole}
+use Rattle.documents.specs.Value.{Member, number, type, trackList, Listed, Value, keyOf, worth, sixLists, Among, inRange}
+use Rattle.documents.specs.Written.{Piece, openBrace, closeBrace, openBracket, closeBracket, colon, comma, string, whole, allKeys}
 
 -- ---- tokens and pieces
 

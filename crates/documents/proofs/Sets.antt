@@ -12,7 +12,7 @@ use Rattle.rules.specs.Lists.{any, every}
 use Rattle.rules.specs.Verdict.{All}
 use Rattle.rules.proofs.Truth.{all-map}
 use Rattle.laws.specs.Lists.{Distinct}
-use Rattle.laws.proofs.DocumentWords.{passed, or-else, or-first, or-second}
+use Rattle.laws.proofs.DocumentWords.{passed, and-first, and-second, or-else, or-first, or-second}
 use Rattle.laws.proofs.Keys.{has, has-other, has-now}
 use Rattle.documents.specs.Value.{Among, Once}
 
@@ -58,6 +58,11 @@ among-all P (x ∷ l) h n there = go (eqb n x) refl there (among-all P l (h .1) 
     go : (b : Bool) → eqb n x ≡ b → b || any (eqb n) l ≡ true → (Among l n → P n) → P n
     go true e k ih = subst P (sym (eqb-true n x e)) (h .0)
     go false e k ih = ih k
+
+-- and each that is tested is among them
+pub tested-among : (l ns : List ℕ) → every (λ n. any (eqb n) l) ns ≡ true → All (Among l) ns
+tested-among l [] h = tt
+tested-among l (n ∷ ns) h = (and-first (any (eqb n) l) _ h, tested-among l ns (and-second (any (eqb n) l) _ h))
 
 -- ---- a set of things that have a bit each
 

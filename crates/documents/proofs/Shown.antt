@@ -18,7 +18,7 @@ use Rattle.rules.specs.declared.tokens.Class.the-variants.{OpenBrace, CloseBrac
 use Rattle.rules.proofs.Truth.{by-case}
 use Rattle.rules.proofs.Numbers.{spelled-whole}
 use Rattle.rules.proofs.TokenLaws.{isEnd, white-next, token-next, token-sound}
-use Rattle.documents.specs.Written.{Piece, openBrace, closeBrace, openBracket, closeBracket, colon, comma, string, whole, inked, Laid, done, white, next}
+use Rattle.documents.specs.Written.{Piece, openBrace, closeBrace, openBracket, closeBracket, colon, comma, string, whole, bytesOf, Laid, done, white, next}
 use Rattle.documents.proofs.Same.{Says, Same}
 
 -- ---- the bytes of a token
@@ -100,7 +100,7 @@ token-shown place b s =
         at-place Forbidden h = h
 
 -- a piece that a token says has the token's bytes
-said-bytes : (all : List ℕ) (t : Token) (x : Piece) → Shown all t (t .class) → Says x t → inked x ++ drop (t .size) all ≡ all
+said-bytes : (all : List ℕ) (t : Token) (x : Piece) → Shown all t (t .class) → Says x t → bytesOf x ++ drop (t .size) all ≡ all
 said-bytes all t openBrace h says = subst (Shown all t) says h
 said-bytes all t closeBrace h says = subst (Shown all t) says h
 said-bytes all t openBracket h says = subst (Shown all t) says h

@@ -18,7 +18,7 @@ use Rattle.rules.proofs.Truth.{is-true}
 use Rattle.rules.proofs.Numbers.{whole-spelled, digits-spelled, plain-spelled}
 use Rattle.rules.proofs.TokenLaws.{white-next, token-next, quoted-token, run-token}
 use Rattle.laws.proofs.DocumentWords.{and-first, and-second}
-use Rattle.documents.specs.Written.{Piece, openBrace, closeBrace, openBracket, closeBracket, colon, comma, string, whole, inked, Laid, done, white, next}
+use Rattle.documents.specs.Written.{Piece, openBrace, closeBrace, openBracket, closeBracket, colon, comma, string, whole, bytesOf, Laid, done, white, next}
 use Rattle.documents.proofs.Same.{Same}
 
 -- ---- pieces that no reader can take for others: strings are clean, and no two numbers stand side by side
@@ -84,7 +84,7 @@ token-of place b w s t black is size =
     ∙ ap (λ (l : List ℕ). t ∷ tokensFrom 0 (place + suc (length w)) l) (drop-append-seam w s)
 
 string-tokens : (place : ℕ) (w s : List ℕ) → every inString w ≡ true
-    → tokensFrom 0 place (inked (string w) ++ s) ≡ token Quoted w place (length w + 2) ∷ tokensFrom 0 (place + suc (length (w ++ quote ∷ []))) s
+    → tokensFrom 0 place (bytesOf (string w) ++ s) ≡ token Quoted w place (length w + 2) ∷ tokensFrom 0 (place + suc (length (w ++ quote ∷ []))) s
 string-tokens place w s clean =
     let whole-word = lead-stops inString w (quote ∷ s) clean refl in
     let same = append-assoc w (quote ∷ []) s in

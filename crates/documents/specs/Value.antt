@@ -1,17 +1,16 @@
 -- A document of constraints as a plain value: its lists in any order, each record with its keys in any order; which tables it means, and when it is
 -- lawful (document 01, "constraints.json", "Sizes").
-use Prim.Native.Nat.{ℕ, _+_, _≤_}
+use Prim.Native.Nat.{ℕ, _+_, _-_, _≤_}
 use mathlib.Core.Path.{_≡_}
-use mathlib.Core.Bool.{Bool, true, false, not, cond, _&&_, _||_}
+use mathlib.Core.Bool.{Bool, true, false, cond, _&&_, _||_}
 use mathlib.Core.List.{List, [], _∷_, _++_, map}
 use mathlib.Core.Option.{Option·getD}
 use lib.Dec.{leb, eqb}
-use lib.Bits.{bitAnd}
-use lib.ListN.{length}
+use lib.ListN.{length, getD}
 use Rattle.rules.specs.Limits.{mostId, mostSeconds, mostConstraints, mostSubnets, mostTracks}
-use Rattle.rules.specs.Lists.{any, every, only, flat, isSome}
+use Rattle.rules.specs.Lists.{any, every, flat, isSome}
 use Rattle.rules.specs.Kinds.{headway, singleTrack, dwell, turnaround, connection, subnets, firstLeg, secondLeg, minHeadway, minDwell, minTurnaround, minConnection, maxConnection, connectionType, subnetId, trackIds, byArrival, byDeparture, noType}
-use Rattle.rules.specs.Constraints.{Document, document, keysOf, isLow, rowOfLeg}
+use Rattle.rules.specs.Constraints.{Document, document, isLow, rowOfLeg}
 use Rattle.rules.specs.Verdict.{All}
 use Rattle.rules.specs.declared.sizes.Constraint.{Constraint}
 use Rattle.rules.specs.declared.sizes.Track.{Track}
@@ -95,13 +94,19 @@ documentOf legs v = document (constraintsIn legs v) (tracksFrom 0 (subnetsIn v))
 abbrev pub sixLists : List ℕ
 sixLists = headway ∷ singleTrack ∷ dwell ∷ turnaround ∷ connection ∷ subnets ∷ []
 
-abbrev pub allKeys : List ℕ
-allKeys =
-    firstLeg ∷ secondLeg ∷ minHeadway ∷ minDwell ∷ minTurnaround ∷ minConnection ∷ maxConnection ∷ connectionType ∷ subnetId ∷ trackIds ∷ []
+-- THE TABLE: the keys that a record of a list must carry, list by list
+abbrev pub keyTable : List (List ℕ)
+keyTable =
+    (firstLeg ∷ secondLeg ∷ minHeadway ∷ [])
+    ∷ (firstLeg ∷ secondLeg ∷ [])
+    ∷ (firstLeg ∷ secondLeg ∷ minDwell ∷ [])
+    ∷ (firstLeg ∷ secondLeg ∷ minTurnaround ∷ [])
+    ∷ (firstLeg ∷ secondLeg ∷ minConnection ∷ maxConnection ∷ connectionType ∷ [])
+    ∷ (subnetId ∷ trackIds ∷ [])
+    ∷ []
 
--- the keys that a record of a list must carry, by the table of the kinds
 abbrev pub keysIn : (list : ℕ) → List ℕ
-keysIn list = only (λ key. not (eqb (bitAnd (keysOf list) key) 0)) allKeys
+keysIn list = getD keyTable (list - 1) []
 
 abbrev pub Among : List ℕ → ℕ → Type 0
 Among l n = any (eqb n) l ≡ true

@@ -1,14 +1,16 @@
 -- How a value is written: its pieces one after the other, with any white space between them (RFC 8259, narrowed by document 01).
-use Prim.Native.Nat.{ℕ, _+_, _-_, _≤_}
+use Prim.Native.Nat.{ℕ, _-_, _≤_}
 use mathlib.Core.Path.{_≡_}
-use mathlib.Core.Bool.{true, cond}
+use mathlib.Core.Bool.{true}
 use mathlib.Core.List.{List, [], _∷_, _++_}
+use mathlib.Core.Option.{Option·getD}
 use lib.Dec.{eqb}
 use lib.ListN.{length, getD}
 use Rattle.rules.specs.Bytes.{bytes, spelled}
 use Rattle.rules.specs.Limits.{mostText}
 use Rattle.rules.specs.Tokens.{isWhite, quote}
-use Rattle.rules.specs.Kinds.{listNames, keyNames, typeNames}
+use Rattle.rules.specs.Lists.{firstPlace}
+use Rattle.rules.specs.Kinds.{listNames, keyNames, typeNames, firstLeg, secondLeg, minHeadway, minDwell, minTurnaround, minConnection, maxConnection, connectionType, subnetId, trackIds}
 use Rattle.rules.specs.Constraints.{Document}
 use Rattle.documents.specs.Value.{Member, number, type, trackList, Listed, Value, keyOf, documentOf, Lawful}
 
@@ -20,13 +22,13 @@ listName list = getD listNames (list - 1) []
 abbrev pub typeName : (type : ℕ) → List ℕ
 typeName t = getD typeNames (t - 1) []
 
--- keys are bits: the names from bit b on
-abbrev pub nameAt : (b : ℕ) → List (List ℕ) → (key : ℕ) → List ℕ
-nameAt b [] key = []
-nameAt b (name ∷ names) key = cond (eqb key b) name (nameAt (b + b) names key)
+-- in the order of their names
+abbrev pub allKeys : List ℕ
+allKeys =
+    firstLeg ∷ secondLeg ∷ minHeadway ∷ minDwell ∷ minTurnaround ∷ minConnection ∷ maxConnection ∷ connectionType ∷ subnetId ∷ trackIds ∷ []
 
 abbrev pub keyName : (key : ℕ) → List ℕ
-keyName key = nameAt 1 keyNames key
+keyName key = getD keyNames (Option·getD (firstPlace (eqb key) allKeys) (length allKeys)) []
 
 -- ---- pieces
 
@@ -36,15 +38,15 @@ pub data Piece : Type 0 where
   whole : (n : ℕ) → Piece
 
 -- a piece, as bytes
-abbrev pub inked : Piece → List ℕ
-inked openBrace = bytes "{"
-inked closeBrace = bytes "}"
-inked openBracket = bytes "["
-inked closeBracket = bytes "]"
-inked colon = bytes ":"
-inked comma = bytes ","
-inked (string word) = quote ∷ word ++ quote ∷ []
-inked (whole n) = spelled n
+abbrev pub bytesOf : Piece → List ℕ
+bytesOf openBrace = bytes "{"
+bytesOf closeBrace = bytes "}"
+bytesOf openBracket = bytes "["
+bytesOf closeBracket = bytes "]"
+bytesOf colon = bytes ":"
+bytesOf comma = bytes ","
+bytesOf (string word) = quote ∷ word ++ quote ∷ []
+bytesOf (whole n) = spelled n
 
 -- each function below writes a thing in front of the pieces that follow it
 abbrev pub Writes : Type 0 → Type 0
@@ -80,17 +82,17 @@ listPieces l rest = string (listName (l .list)) ∷ colon ∷ openBracket ∷ it
 abbrev pub pieces : Value → List Piece
 pieces v = openBrace ∷ items listPieces closeBrace v []
 
--- ---- a text: the pieces in order, with any white bytes before, between and after them
+-- ---- a text: the pieces in order, with any white bytes before, between and after them. None need stand there: no two numbers of a value stand side by side
 
 pub data Laid : List Piece → List ℕ → Type 0 where
   done : Laid [] []
   white : {xs : List Piece} {s : List ℕ} {b : ℕ} → isWhite b ≡ true → Laid xs s → Laid xs (b ∷ s)
-  next : {xs : List Piece} {s : List ℕ} (x : Piece) → Laid xs s → Laid (x ∷ xs) (inked x ++ s)
+  next : {xs : List Piece} {s : List ℕ} (x : Piece) → Laid xs s → Laid (x ∷ xs) (bytesOf x ++ s)
 
 -- for one: the same white bytes before each piece and at the end
 abbrev pub spread : (blank : List ℕ) → List Piece → List ℕ
 spread blank [] = blank
-spread blank (x ∷ xs) = blank ++ (inked x ++ spread blank xs)
+spread blank (x ∷ xs) = blank ++ (bytesOf x ++ spread blank xs)
 
 -- THE STATEMENT: a text writes a lawful value, and d is the value's document
 pub record Writing (legs : List ℕ) (constraints tracks : ℕ) (s : List ℕ) (d : Document) : Type 0 where

@@ -18,6 +18,7 @@ use Rattle.rules.specs.Tokens.{Token}
 use Rattle.rules.specs.Constraints.{Document, Turn, fault, on, goes, inList, inRecord, atKey, withEntry, withId, withTrack, withSubnet, entered, keysOf, listBit, allLists, plainRules, numberOf, isNumber, rowOfLeg, listName, documentEnds, recordOpens, keyName, recordEnds, stringValue, legValue, subnetValue, secondsValue, numberValue, tracksOpen, trackNumber, onward}
 use Rattle.rules.specs.declared.tokens.Phase.the-variants.{Done, AfterRecord, FirstTrack, AfterTrack}
 use Rattle.rules.specs.declared.tokens.State.{State}
+use Rattle.laws.proofs.Keys.{has}
 use Rattle.documents.specs.Value.{number, isLeg, noNumber, inRange}
 use Rattle.documents.proofs.Same.{opening, closing, withMember, entryWith}
 use Rattle.documents.proofs.Turns.{leg-no-id}
@@ -66,10 +67,10 @@ module _ (legs : List ℕ) (constraints tracks : ℕ) (more : State → Document
             test noRoom (ltb (length (d .constraints)) constraints) _ (few .1) .1
 
     pub key-said : (key : ℕ) → Read (keyName legs constraints tracks key st d t)
-        → (not (eqb (bitAnd (keysOf (st .list)) key) 0) ≡ true) × (bitAnd (st .keys) key ≡ 0) × (more (atKey key st) d ≡ good D)
+        → (has (keysOf (st .list)) key ≡ true) × (bitAnd (st .keys) key ≡ 0) × (more (atKey key st) d ≡ good D)
     unfolding keyName
     key-said key e =
-        let a = test unknownName (not (eqb (bitAnd (keysOf (st .list)) key) 0)) _ e in
+        let a = test unknownName (has (keysOf (st .list)) key) _ e in
         let b = test repeatedOrMissing (eqb (bitAnd (st .keys) key) 0) _ (a .1) in
         (a .0, eqb-true _ 0 (b .0), b .1)
 

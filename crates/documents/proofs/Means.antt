@@ -1,12 +1,12 @@
 -- What a value adds to a document, list by list and member by member, is the document that it means. Assumes nothing.
 use Prim.Native.Nat.{ℕ, suc, _+_, _-_}
 use mathlib.Core.Path.{_≡_, refl, sym, ap, subst, _∙_}
-use mathlib.Core.Bool.{Bool, true, false, not, cond}
+use mathlib.Core.Bool.{Bool, true, false, cond}
 use mathlib.Core.List.{List, [], _∷_, _++_, map, append-nil, append-assoc}
 use native.Mathlib.Omega.{arith}
 use native.Mathlib.Nat.{add-zero, zero-add, add-assoc}
 use lib.Dec.{eqb}
-use lib.Bits.{bitAnd, bitOr}
+use lib.Bits.{bitOr}
 use lib.ListN.{length, length-append}
 use borrow.Author.Tests.{eqb-true, eqb-false}
 use Rattle.rules.specs.Lists.{flat}
@@ -16,7 +16,7 @@ use Rattle.rules.specs.Verdict.{All}
 use Rattle.rules.specs.declared.sizes.Constraint.{Constraint}
 use Rattle.rules.specs.declared.sizes.Track.{Track}
 use Rattle.laws.proofs.DocumentWords.{is-false}
-use Rattle.laws.proofs.Keys.{id-of-subnet, tracks-of-subnet}
+use Rattle.laws.proofs.Keys.{has, id-of-subnet, tracks-of-subnet}
 use Rattle.documents.specs.Value.{Member, number, type, trackList, keyOf, Value, said, constraintOf, idsOf, tracksOf, tracksFrom, constraintsIn, subnetsIn, documentOf, sixLists, Among}
 use Rattle.documents.proofs.Same.{withTracks, withMember, opening, entryWith, afterMembers, afterRecord, afterRecords, afterLists, Allowed, OkMembers, OkLists}
 
@@ -94,7 +94,7 @@ module _ (legs : List ℕ) where
   no-subnet list seen known kind (number key n) allowed d =
       let other : eqb key subnetId ≡ false =
       is-false (eqb key subnetId) (λ e. eqb-false list subnets kind
-      (id-of-subnet list known (subst (λ (k : ℕ). not (eqb (bitAnd (keysOf list) k) 0) ≡ true) (eqb-true key subnetId e) (allowed .carried)))) in
+      (id-of-subnet list known (subst (λ (k : ℕ). has (keysOf list) k ≡ true) (eqb-true key subnetId e) (allowed .carried)))) in
       rw other
   no-subnet list seen known kind (type t) allowed d = refl
   no-subnet list seen known kind (trackList ids) allowed d = absurd (eqb-false list subnets kind (tracks-of-subnet list known (allowed .carried)))

@@ -1,7 +1,7 @@
 -- A lawful value passes the tests of names and values one after the other, and a value that passes them is lawful. Assumes nothing.
 use Prim.Native.Nat.{ℕ}
 use mathlib.Core.Path.{_≡_, refl, sym, ap, _∙_}
-use mathlib.Core.Bool.{Bool, true, not, _||_}
+use mathlib.Core.Bool.{true, not, _||_}
 use mathlib.Core.List.{List, [], _∷_, map}
 use native.Mathlib.Omega.{arith}
 use lib.Dec.{eqb}
@@ -11,6 +11,7 @@ use Rattle.rules.specs.Lists.{any, every}
 use Rattle.rules.specs.Constraints.{keysOf, listBit, allLists}
 use Rattle.rules.specs.Verdict.{All}
 use Rattle.rules.proofs.Truth.{all-map}
+use Rattle.laws.proofs.Keys.{has}
 use Rattle.laws.proofs.DocumentWords.{passed, or-else}
 use Rattle.documents.specs.Written.{allKeys}
 use Rattle.documents.specs.Value.{Member, keyOf, Listed, Value, sixLists, keysIn, Among, Once, inRange, LawfulRecord}
@@ -19,35 +20,27 @@ use Rattle.documents.proofs.Sets.{among-all, tested-among, Within, Fres
 
 -- ---- the table of the keys and the sets of keys, as computed
 
--- each key stands in the table
-keys-known : All (Among allKeys) allKeys
-keys-known = (refl, (refl, (refl, (refl, (refl, (refl, (refl, (refl, (refl, (refl, tt))))))))))
-
 lists-known : All (Among sixLists) sixLists
 lists-known = (refl, (refl, (refl, (refl, (refl, (refl, tt))))))
 
 lists-within : All (λ n. Within (listBit n) allLists) sixLists
 lists-within = (refl, (refl, (refl, (refl, (refl, (refl, tt))))))
 
--- a set has a key
-abbrev carries : (list key : ℕ) → Bool
-carries list key = not (eqb (bitAnd (keysOf list) key) 0)
-
 -- the keys of a list are keys; its set has them, and no other
 module _ (list : ℕ) (in-lists : Among sixLists list) where
   keys-in-known : All (Among allKeys) (keysIn list)
   keys-in-known = tested-among allKeys (keysIn list) (passed (λ l. every (λ key. any (eqb key) allKeys) (keysIn l)) sixLists list refl in-lists)
 
-  in-table-carried : (key : ℕ) → Among (keysIn list) key → carries list key ≡ true
+  in-table-carried : (key : ℕ) → Among (keysIn list) key → has (keysOf list) key ≡ true
   unfolding keysOf
   in-table-carried key there =
-      passed (carries list) (keysIn list) key (passed (λ l. every (carries l) (keysIn l)) sixLists list refl in-lists) there
+      passed (has (keysOf list)) (keysIn list) key (passed (λ l. every (has (keysOf l)) (keysIn l)) sixLists list refl in-lists) there
 
-  carried-in-table : (key : ℕ) → Among allKeys key → carries list key ≡ true → Among (keysIn list) key
+  carried-in-table : (key : ℕ) → Among allKeys key → has (keysOf list) key ≡ true → Among (keysIn list) key
   unfolding keysOf
   carried-in-table key known carried =
-      let row = passed (λ l. every (λ k. not (carries l k) || any (eqb k) (keysIn l)) allKeys) sixLists list refl in-lists in
-      or-else (not (carries list key)) _ (passed (λ k. not (carries list k) || any (eqb k) (keysIn list)) allKeys key row known) (ap not carried)
+      let row = passed (λ l. every (λ k. not (has (keysOf l) k) || any (eqb k) (keysIn l)) allKeys) sixLists list refl in-lists in
+      or-else (not (has (keysOf list) key)) _ (passed (λ k. not (has (keysOf list) k) || any (eqb k) (keysIn list)) allKeys key row known) (ap not carried)
 
   keys-full : union (λ key. key) 0 (keysIn list) ≡ keysOf list
   unfolding keysOf

@@ -17,7 +17,7 @@ use Rattle.rules.specs.declared.tokens.Class.the-variants.{OpenBrace, CloseBrac
 use Rattle.rules.specs.declared.tokens.Phase.{Phase}
 use Rattle.rules.specs.declared.tokens.Phase.the-variants.{Document as Text, FirstName, Name, NameColon, ListOpen, AfterList, FirstRecord, Record, AfterRecord, FirstKey, NextKey, KeyColon, Value as AtValue, AfterValue, FirstTrack, NextTrack, AfterTrack, Done}
 use Rattle.rules.specs.declared.tokens.State.{State}
-use Rattle.laws.proofs.Keys.{list-known, type-known}
+use Rattle.laws.proofs.Keys.{has, list-known, type-known}
 use Rattle.documents.specs.Value.{Member, number, type, trackList, keyOf, Among}
 use Rattle.documents.specs.Written.{openBrace, closeBrace, openBracket, closeBracket, colon, comma, more, recordPieces, keyName as nameOfKey, allKeys}
 use Rattle.documents.proofs.Same.{opening, closing, withMember, entryWith, OkMembers}
@@ -116,7 +116,7 @@ module _ (legs : List ℕ) (constraints tracks : ℕ) (D : Document) (ts : List 
             (
               record {
                 in-keys = subst (Among allKeys) is-key (key-in (t .word) known);
-                carried = subst (λ (n : ℕ). not (eqb (bitAnd (keysOf (st .list)) n) 0) ≡ true) is-key (said .0);
+                carried = subst (λ (n : ℕ). has (keysOf (st .list)) n ≡ true) is-key (said .0);
                 fresh = subst (λ (n : ℕ). bitAnd (st .keys) n ≡ 0) is-key (said .1);
                 value = k .ok .1;
               },

@@ -1,7 +1,7 @@
 -- Tokens that say the pieces of a value; what one member, record or list after the other adds to a document; and the tests that they pass in that order.
 use Prim.Native.Nat.{ℕ}
 use mathlib.Core.Path.{_≡_}
-use mathlib.Core.Bool.{true, not, cond}
+use mathlib.Core.Bool.{true, cond}
 use mathlib.Core.List.{List, [], _∷_}
 use mathlib.Core.Option.{some}
 use lib.Dec.{eqb}
@@ -14,6 +14,7 @@ use Rattle.rules.specs.Verdict.{All}
 use Rattle.rules.specs.declared.sizes.Constraint.{Constraint}
 use Rattle.rules.specs.declared.tokens.Class.{Class}
 use Rattle.rules.specs.declared.tokens.Class.the-variants.{OpenBrace, CloseBrace, OpenBracket, CloseBracket, Colon, Comma, Quoted, Run, End}
+use Rattle.laws.proofs.Keys.{has}
 use Rattle.documents.specs.Value.{Member, number, type, trackList, Listed, Value, keyOf, worth, sixLists, Among, inRange}
 use Rattle.documents.specs.Written.{Piece, openBrace, closeBrace, openBracket, closeBracket, colon, comma, string, whole, allKeys}
 
@@ -96,7 +97,7 @@ module _ (legs : List ℕ) where
 
   pub record Allowed (list seen : ℕ) (m : Member) : Type 0 where
     pub in-keys : Among allKeys (keyOf m)
-    pub carried : not (eqb (bitAnd (keysOf list) (keyOf m)) 0) ≡ true
+    pub carried : has (keysOf list) (keyOf m) ≡ true
     pub fresh : bitAnd seen (keyOf m) ≡ 0
     pub value : inRange legs m ≡ true
 

@@ -25,19 +25,19 @@ use Rattle.documents.proofs.Names.{list-back, key-back, type-back, key-
 use Rattle.documents.proofs.Inverse.{no-fault, list-said, document-said, record-said, key-said, end-said, type-said, tracks-said, track-said, number-said}
 use Rattle.documents.proofs.Left.{Records, listJoined, recordJoined, memberJoined, trackJoined, noRecords, noMembers, noTracks, recordsBy, RecordsOk, afterThoseRecords, Is, Left, behind-sign, renamed}
 
--- two classes with the same number are the same
+-- the class that has a number
 classAt : ℕ → Class
 classAt n =
-    cond (eqb n 0) OpenBrace
-    (cond (eqb n 1) CloseBrace
-    (cond (eqb n 2) OpenBracket
-    (cond (eqb n 3) CloseBracket
-    (cond (eqb n 4) Colon
-    (cond (eqb n 5) Comma
-    (cond (eqb n 6) Quoted
-    (cond (eqb n 7) Run
-    (cond (eqb n 8) End
-    (cond (eqb n 9) Unclosed
+    cond (eqb n (classNumber OpenBrace)) OpenBrace
+    (cond (eqb n (classNumber CloseBrace)) CloseBrace
+    (cond (eqb n (classNumber OpenBracket)) OpenBracket
+    (cond (eqb n (classNumber CloseBracket)) CloseBracket
+    (cond (eqb n (classNumber Colon)) Colon
+    (cond (eqb n (classNumber Comma)) Comma
+    (cond (eqb n (classNumber Quoted)) Quoted
+    (cond (eqb n (classNumber Run)) Run
+    (cond (eqb n (classNumber End)) End
+    (cond (eqb n (classNumber Unclosed)) Unclosed
     Forbidden)))))))))
 
 class-at : (c : Class) → classAt (classNumber c) ≡ c
@@ -54,6 +54,7 @@ class-at End = refl
 class-at Unclosed = refl
 class-at Forbidden = refl
 
+-- two classes with the same number are the same
 same-class : (a b : Class) → eqb (classNumber a) (classNumber b) ≡ true → b ≡ a
 same-class a b e = sym (class-at b) ∙ ap classAt (sym (eqb-true (classNumber a) (classNumber b) e)) ∙ class-at a
 

@@ -13,6 +13,7 @@ use Rattle.rules.specs.Limits.{mostText}
 use Rattle.rules.specs.Answers.{refusal, tooLong, constraintsFile, refused, good}
 use Rattle.rules.specs.Tokens.{tokensOf}
 use Rattle.rules.specs.Constraints.{Document, empty, start, plainRules, run, constraintsOf}
+use Rattle.rules.specs.declared.answers.Refusal.{Refusal}
 use Rattle.laws.specs.LawfulDocument.{LawfulDocument}
 use Rattle.laws.proofs.Documents.{good-is-lawful}
 use Rattle.documents.specs.Value.{documentOf, Fits}
@@ -66,3 +67,10 @@ module _ (legs : List ℕ) (constraints tracks : ℕ) (s : List ℕ) (d : Docume
   -- THE THEOREM: the automaton reads a text as d exactly where the text writes a lawful value whose document is d
   pub reads-what-is-written : constraintsOf legs constraints tracks plainRules s ≡ good d ↔ Writing legs constraints tracks s d
   reads-what-is-written = (sound, complete legs constraints tracks s d)
+
+  -- and it refuses no text that writes one
+  pub refused-otherwise : (r : Refusal) → constraintsOf legs constraints tracks plainRules s ≡ refused r → Writing legs constraints tracks s d → ⊥
+  refused-otherwise r e w =
+      let read = complete legs constraints tracks s d w in
+      let z : _≡_ {A = ℕ} 0 1 = cc in
+      omega arith

@@ -147,7 +147,8 @@ module _ (legs : List ℕ) where
           ≡ grown e (constraintsIn legs ls) (tracksFrom (e .opened) (subnetsIn ls)) (length (subnetsIn ls)) (flat (flat idsOf) (subnetsIn ls)))
           → afterLists legs (afterRecords legs (l .list) d (l .records)) ls
           ≡ grown d (cond b [] (map (constraintOf legs (l .list)) (l .records)) ++ constraintsIn legs ls)
-          (tracksFrom (d .opened) (cond b (l .records) [] ++ subnetsIn ls)) (length (cond b (l .records) [] ++ subnetsIn ls)) (flat (flat idsOf) (cond b (l .records) [] ++ subnetsIn ls))
+          (tracksFrom (d .opened) (cond b (l .records) [] ++ subnetsIn ls)) (length (cond b (l .records) [] ++ subnetsIn ls))
+          (flat (flat idsOf) (cond b (l .records) [] ++ subnetsIn ls))
       go true is rest =
           let now = grown d [] (tracksFrom (d .opened) (l .records)) (length (l .records)) (flat (flat idsOf) (l .records)) in
           ap (λ (e : Document). afterLists legs e ls) (subnets-add (l .list) is (l .records) d)

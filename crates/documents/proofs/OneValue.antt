@@ -152,7 +152,8 @@ module _ (legs : List ℕ) where
       (ap₂ number keys numbers, ap (drop 1) said)
   member-apart (type a) (type b) h k r s e =
       let said : string (typeName a) ∷ r ≡ string (typeName b) ∷ s = ap (drop 2) e in
-      let types : a ≡ b = sym (type-named a (type-in legs a (h .1))) ∙ ap (λ (xs : List Piece). typeNamed (firstWord xs)) said ∙ type-named b (type-in legs b (k .1)) in
+      let names : typeNamed (typeName a) ≡ typeNamed (typeName b) = ap (λ (xs : List Piece). typeNamed (firstWord xs)) said in
+      let types : a ≡ b = sym (type-named a (type-in legs a (h .1))) ∙ names ∙ type-named b (type-in legs b (k .1)) in
       (ap type types, ap (drop 1) said)
   member-apart (trackList a) (trackList b) h k r s e =
       let both = tracks-apart a b (any-tracks a) (any-tracks b) r s (ap (drop 3) e) in

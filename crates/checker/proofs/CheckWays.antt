@@ -1,7 +1,7 @@
 -- A check that refuses fills everything, and one that does not leaves what it read. Assumes nothing.
 use Prim.Native.Nat.{ℕ}
 use mathlib.Core.Path.{_≡_, refl, sym, ap, _∙_}
-use mathlib.Core.Bool.{Bool, true, false}
+use mathlib.Core.Bool.{true, false}
 use mathlib.Core.List.{List}
 use native.Mathlib.Omega.{arith}
 use lib.ListN.{length, replicate}
@@ -9,8 +9,7 @@ use Rattle.rules.specs.Limits.{unsignedFill, signedFill}
 use Rattle.rules.specs.Answers.{isRefusal, solutionFile, Reading, refused, good}
 use Rattle.rules.specs.Reading.{Texts}
 use Rattle.rules.specs.Verdict.{Verdict, accepted, violated, answerOf}
-use Rattle.rules.specs.Entries.{Tables, Whole, roomsOf, filled, filledTables, writtenTables, writtenChoices, verdictOf, allRead, checkedFrom, checked}
-use Rattle.rules.specs.declared.answers.Answer.{Answer}
+use Rattle.rules.specs.Entries.{Tables, Whole, roomsOf, filled, filledTables, verdictOf, allRead, checkedFrom, checked}
 use Rattle.tails.specs.declared.Judged.{Judged}
 use Rattle.tails.specs.Promise.{ReadAndJudged}
 use Rattle.checker.specs.Checks.{Checks}

@@ -1,6 +1,6 @@
 -- Every input has one outcome: any two that keep an entry's promise coincide. Assumes nothing.
 use Prim.Native.Nat.{ℕ}
-use mathlib.Core.Path.{_≡_, sym, ap, _∙_}
+use mathlib.Core.Path.{_≡_, sym, _∙_}
 use mathlib.Core.List.{List}
 use Rattle.rules.specs.Reading.{Texts}
 use Rattle.rules.specs.Entries.{Tables}

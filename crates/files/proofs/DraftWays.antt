@@ -1,10 +1,10 @@
 -- Each way out of reading the draft. Assumes nothing.
-use Prim.Native.Nat.{ℕ, _/_, _≤_}
+use Prim.Native.Nat.{ℕ, _/_}
 use mathlib.Core.Path.{_≡_, refl, sym, ap, _∙_}
 use mathlib.Core.Bool.{Bool, true, false}
 use mathlib.Core.List.{List}
 use native.Mathlib.Omega.{arith}
-use lib.Dec.{leb, ltb}
+use lib.Dec.{ltb}
 use lib.ListN.{length}
 use borrow.Author.Tests.{ltb-true, ltb-false, lt-leb, le-leb}
 use Rattle.rules.specs.Limits.{leastHorizon, mostHorizon, legWidth, configurationWidth}
@@ -16,14 +16,14 @@ use Rattle.rules.specs.declared.sizes.Horizon.{Horizon}
 use Rattle.rules.specs.declared.sizes.HorizonMade.{HorizonMade}
 use Rattle.rules.specs.declared.sizes.HorizonMade.the-variants.{Within, OutOfRange}
 use Rattle.rules.specs.declared.answers.Refusal.{Refusal}
-use Rattle.laws.proofs.FileRefusals.{Refuses, refuses, reads, timetable-refuses}
+use Rattle.laws.proofs.FileRefusals.{Refuses, refuses, timetable-refuses}
 use Rattle.timetable.specs.declared.reader.Rows.{Rows}
 use Rattle.timetable.specs.declared.reader.Rows.the-variants.{Fault, Read}
 use Rattle.timetable.specs.Held.{tables}
 use Rattle.timetable.specs.Promise.{answerOf, ReadAs, Tabled}
 use Rattle.files.specs.declared.Filed.the-variants.{Whole, Refused}
-use Rattle.files.specs.Parts.{draftOf, withRows, DraftRead}
-use Rattle.files.proofs.Parted.{part-refused, part-good}
+use Rattle.files.specs.Parts.{draftOf, DraftRead}
+use Rattle.files.proofs.Parted.{same-refusal, part-refused, part-good}
 
 -- ---- H
 
@@ -46,16 +46,8 @@ in-range H w = go (ltb H leastHorizon) refl (ltb mostHorizon H) refl
 -- ---- the timetable's refusals lie in the timetable
 
 own-file : (o : Reading (List Row)) → Refuses (λ r. r .file ≡ timetableFile) o → (number place : ℕ) → Fault number place ≡ answerOf o → o ≡ refused (refusal number timetableFile place)
-own-file (refused r) (refuses f) number place e =
-    let parts : r ≡ record { number = r .number; file = r .file; place = r .place } = refl in
-    let n : number ≡ r .number = cc in
-    let p : place ≡ r .place = cc in
-    cc
+own-file (refused r) (refuses f) number place e = same-refusal r (cc) f (cc)
 own-file (good rows) q number place e = let z : _≡_ {A = ℕ} 0 1 = cc in absurd (omega arith)
-
-was-read : (o : Reading (List Row)) (n m : ℕ) → Read n m ≡ answerOf o → (rows : List Row) × (o ≡ good rows)
-was-read (refused r) n m e = let z : _≡_ {A = ℕ} 0 1 = cc in absurd (omega arith)
-was-read (good rows) n m e = (rows, refl)
 
 -- ---- the ways out
 

@@ -7,7 +7,7 @@ use lib.IntN.{ℤ}
 use Rattle.rules.specs.Limits.{legWidth, configurationWidth}
 use Rattle.rules.specs.Lists.{flat, over}
 use Rattle.rules.specs.Answers.{Reading, refused, good, _>>=_}
-use Rattle.rules.specs.Timetable.{Row, draftFits, legsOf, legNumbers, configurationsOf, configurationNumbers, timetableOf}
+use Rattle.rules.specs.Timetable.{Row, legsOf, legNumbers, configurationsOf, configurationNumbers}
 use Rattle.rules.specs.Profiles.{Curve, profilesFrom, profileNumbers, sampleTable}
 use Rattle.rules.specs.Constraints.{Document, ordered, constraintNumbers, trackNumbers}
 use Rattle.rules.specs.Reading.{Texts, Files, Rooms, horizonOf, filesOf}
@@ -20,7 +20,7 @@ use Rattle.laws.proofs.LawfulRows.{legs-most}
 use Rattle.files.specs.declared.Counts.{Counts}
 use Rattle.files.specs.declared.Filed.{Filed}
 use Rattle.files.specs.declared.Filed.the-variants.{Whole, Refused}
-use Rattle.files.specs.Promise.{texts, tables, filedBy, filedOf, countsOf, FilesRead}
+use Rattle.files.specs.Promise.{texts, tables, filedBy, filedOf, FilesRead}
 use Rattle.files.specs.Parts.{draftOf, powersOf, rulesOf, withRows, withCurves, withDocument, Draft, Lists, Drafted, Listed, Part, DraftRead, PowersRead, RulesRead}
 use Rattle.files.proofs.Parted.{WasGood, whole-good, refused-refused}
 use Rattle.files.proofs.Fronts.{front-held}

@@ -1,8 +1,8 @@
 -- A part that is refused, and one that is read. Assumes nothing.
 use Prim.Native.Nat.{ℕ}
-use mathlib.Core.Path.{_≡_, refl, sym, ap, _∙_}
+use mathlib.Core.Path.{_≡_, refl, sym, _∙_}
 use native.Mathlib.Omega.{arith}
-use Rattle.rules.specs.Answers.{Reading, refused, good}
+use Rattle.rules.specs.Answers.{refusal, Reading, refused, good}
 use Rattle.rules.specs.declared.answers.Refusal.{Refusal}
 use Rattle.laws.proofs.GoodText.{never-good}
 use Rattle.files.specs.declared.Counts.{Counts}
@@ -10,6 +10,11 @@ use Rattle.files.specs.declared.Filed.{Filed}
 use Rattle.files.specs.declared.Filed.the-variants.{Whole, Refused}
 use Rattle.files.specs.Promise.{filedBy}
 use Rattle.files.specs.Parts.{Part}
+
+-- a refusal by its three numbers
+pub same-refusal : {A : Type 0} (r : Refusal) {number file place : ℕ} → number ≡ r .number → r .file ≡ file → place ≡ r .place
+    → _≡_ {A = Reading A} (refused r) (refused (refusal number file place))
+same-refusal r n f p i = refused (record { number = sym n i; file = f i; place = sym p i })
 
 -- what was read, by the answer
 pub record WasGood {A : Type 0} (read : Reading A) (counts : A → Counts) (Written : A → Type 0) (k : Counts) : Type 0 where

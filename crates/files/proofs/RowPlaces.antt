@@ -8,7 +8,7 @@ use native.Mathlib.Numerals.{add-one}
 use lib.Dec.{eqb}
 use lib.ListN.{length, getD, drop, drop-of-length-le}
 use lib.Seq.{drop-cons}
-use borrow.Author.Tests.{eq-eqb, ne-eqb}
+use borrow.Author.Tests.{ne-eqb}
 use Rattle.rules.specs.Bytes.{lineFeed, onto, splitOn, startOf}
 use Rattle.rules.specs.Rows.{placeOfRow}
 use Rattle.rules.proofs.Pieces.{split-cons}

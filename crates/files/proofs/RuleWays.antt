@@ -2,7 +2,6 @@
 use Prim.Native.Nat.{ℕ, _/_, _≤_}
 use mathlib.Core.Path.{_≡_, refl, sym, ap, ap₂, _∙_}
 use mathlib.Core.List.{List}
-use mathlib.Core.Option.{Option, none, some}
 use native.Mathlib.Omega.{arith}
 use lib.ListN.{length}
 use Rattle.rules.specs.Limits.{mostLegs, legWidth, trackWidth, constraintWidth}
@@ -13,28 +12,24 @@ use Rattle.rules.specs.Timetable.{Row}
 use Rattle.rules.specs.Constraints.{Document, plainRules, constraintsOf, subnetFault, trackNumbers}
 use Rattle.rules.specs.Reading.{legIds}
 use Rattle.rules.specs.declared.answers.Refusal.{Refusal}
-use Rattle.laws.proofs.FileRefusals.{Refuses, refuses, reads, constraints-refuse}
+use Rattle.laws.proofs.FileRefusals.{Refuses, refuses, constraints-refuse}
 use Rattle.ids.specs.declared.Found.{Found}
 use Rattle.ids.specs.declared.Found.the-variants.{At, Nothing}
 use Rattle.ids.specs.Column.{Records, column}
 use Rattle.constraints.specs.declared.Read.{Read}
 use Rattle.constraints.specs.declared.Read.the-variants.{Whole as WholeText, Refused as NotRead}
 use Rattle.constraints.specs.Tables.{readOf, reading, Reads}
-use Rattle.rows.specs.Subnets.{faultAt, Hold, Fifteen}
+use Rattle.rows.specs.Subnets.{faultAt, Fifteen}
 use Rattle.constraints.proofs.Filling.{tracks-held}
 use Rattle.files.specs.declared.Counts.{Counts}
 use Rattle.files.specs.declared.Filed.the-variants.{Whole, Refused}
 use Rattle.files.specs.Parts.{rulesOf, Draft, Drafted, RulesRead}
-use Rattle.files.proofs.Parted.{part-refused, part-good}
+use Rattle.files.proofs.Parted.{same-refusal, part-refused, part-good}
 use Rattle.files.proofs.Fronts.{front-records, legs-records, legs-ids, legs-tracks}
 
 -- the constraints' refusals lie in the constraints
 own-file : (o : Reading Document) → Refuses (λ r. r .file ≡ constraintsFile) o → (number place : ℕ) → NotRead number place ≡ readOf o → o ≡ refused (refusal number constraintsFile place)
-own-file (refused r) (refuses f) number place e =
-    let parts : r ≡ record { number = r .number; file = r .file; place = r .place } = refl in
-    let n : number ≡ r .number = cc in
-    let p : place ≡ r .place = cc in
-    cc
+own-file (refused r) (refuses f) number place e = same-refusal r (cc) f (cc)
 own-file (good d) q number place e = let z : _≡_ {A = ℕ} 0 1 = cc in absurd (omega arith)
 
 record WasRead (o : Reading Document) (k m opened : ℕ) : Type 0 where

@@ -20,7 +20,7 @@ use Rattle.files.specs.Promise.{countsOf, filedOf, FilesRead}
 use Rattle.tails.specs.declared.Judged.{Judged}
 use Rattle.tails.specs.declared.Chosen.{Chosen}
 use Rattle.tails.specs.declared.Chosen.the-variants as Choosings
-use Rattle.tails.specs.Left.{Left, Choosable, Judgeable, Ready, chosenOf, Chooses, Judges}
+use Rattle.tails.specs.Left.{Left, Choosable, Ready, chosenOf, Chooses, Judges}
 use Rattle.tails.specs.Promise.{ReadAndJudged}
 
 -- ---- what was read, by the answers

@@ -7,7 +7,7 @@ use lib.ListN.{length}
 use Rattle.rules.specs.Lists.{flat}
 use Rattle.rules.specs.Answers.{refusal, Reading, refused, good}
 use Rattle.rules.specs.Timetable.{legsOf, legNumbers}
-use Rattle.rules.specs.Reading.{Files, choicesRead}
+use Rattle.rules.specs.Reading.{choicesRead}
 use Rattle.rules.specs.Entries.{roomsOf, writtenChoices}
 use Rattle.rules.specs.declared.sizes.Configuration.{Configuration}
 use Rattle.rules.specs.declared.answers.Refusal.{Refusal}
@@ -17,6 +17,7 @@ use Rattle.solution.specs.declared.reader.Choices.{Choices}
 use Rattle.solution.specs.declared.reader.Choices.the-variants.{Fault, Read}
 use Rattle.solution.specs.Promise.{Able, HoldsRows, choicesAnswer, ChoicesRead}
 use Rattle.files.specs.declared.Counts.{Counts}
+use Rattle.files.proofs.Parted.{same-refusal}
 use Rattle.files.proofs.Fronts.{front-held, legs-records}
 use Rattle.tails.specs.declared.Chosen.the-variants.{Whole, Refused}
 use Rattle.tails.specs.Left.{Choosable, Chooses, chosenOf}
@@ -39,11 +40,7 @@ module _ {H : ℕ} {counts : Counts} {legs : List ℕ} (k : Choosable H counts l
 -- a solution's refusals lie in its file
 own-file : (file : ℕ) (o : Reading (List Configuration)) → Refuses (λ r. r .file ≡ file) o → (number place : ℕ) → Fault number place ≡ choicesAnswer o
     → o ≡ refused (refusal number file place)
-own-file file (refused r) (refuses f) number place e =
-    let parts : r ≡ record { number = r .number; file = r .file; place = r .place } = refl in
-    let n : number ≡ r .number = cc in
-    let p : place ≡ r .place = cc in
-    cc
+own-file file (refused r) (refuses f) number place e = same-refusal r (cc) f (cc)
 own-file file (good cs) q number place e = let z : _≡_ {A = ℕ} 0 1 = cc in absurd (omega arith)
 
 was-read : (o : Reading (List Configuration)) (n : ℕ) → Read n ≡ choicesAnswer o → Whole ≡ chosenOf o

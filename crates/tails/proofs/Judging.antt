@@ -4,7 +4,7 @@ use mathlib.Core.Path.{_≡_, sym, ap, _∙_, subst}
 use mathlib.Core.List.{List}
 use lib.ListN.{length}
 use Rattle.rules.specs.Verdict.{verdict, answerOf}
-use Rattle.rules.specs.Entries.{Tables, roomsOf, writtenTables, writtenChoices, verdictOf}
+use Rattle.rules.specs.Entries.{Tables, roomsOf, writtenTables, verdictOf}
 use Rattle.rules.specs.declared.answers.Answer.{Answer}
 use Rattle.tables.specs.View.{offersIn, constraintsIn, configurationsIn}
 use Rattle.verdict.specs.Within.{Within}

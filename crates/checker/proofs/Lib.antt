@@ -1,3 +1,4 @@
 pub mod Shown
 pub mod CheckWays
 pub mod Unique
+pub mod DemandThree

@@ -4,7 +4,7 @@ use mathlib.Core.Path.{_≡_, refl, sym, ap, _∙_}
 use mathlib.Core.Bool.{true, false}
 use mathlib.Core.List.{List}
 use native.Mathlib.Omega.{arith}
-use lib.ListN.{length, replicate}
+use lib.ListN.{length}
 use Rattle.rules.specs.Limits.{unsignedFill}
 use Rattle.rules.specs.Answers.{isRefusal, solutionFile, Reading, refused, good}
 use Rattle.rules.specs.Reading.{Texts}
@@ -12,8 +12,8 @@ use Rattle.rules.specs.Verdict.{Verdict, accepted, violated, answerOf}
 use Rattle.rules.specs.Entries.{Tables, Whole, roomsOf, filled, filledTables, verdictOf, allRead, checkedFrom, checked}
 use Rattle.tails.specs.declared.Judged.{Judged}
 use Rattle.tails.specs.Promise.{ReadAndJudged}
+use Rattle.tails.proofs.Filled.{SameLengths, filled-alike, tables-filled-alike}
 use Rattle.checker.specs.Checks.{Checks}
-use Rattle.checker.proofs.Filling.{SameLengths, filled-alike}
 
 -- a verdict is no refusal
 verdict-kept : (file : ℕ) (v : Verdict) → isRefusal (answerOf file v) ≡ false
@@ -33,8 +33,8 @@ module _ (H : ℕ) (x : Texts) (s : List ℕ) (t : Tables) (c : List ℕ) {j : J
       go (refused r) e =
           record {
             answer = read .answers;
-            tables = tables ∙ filled-alike t′ t same ∙ rw e;
-            choices = choices ∙ ap (λ n. replicate n unsignedFill) many ∙ rw e;
+            tables = tables ∙ tables-filled-alike t′ t same ∙ rw e;
+            choices = choices ∙ filled-alike unsignedFill c′ c many ∙ rw e;
           }
       go (good w) e =
           let kept : isRefusal (checkedFrom all t c .answer) ≡ false = rw e (verdict-kept solutionFile (verdictOf (w .files) (w .choices))) in

@@ -5,7 +5,7 @@ use mathlib.Core.Bool.{Bool, true, false}
 use mathlib.Core.List.{List}
 use native.Mathlib.Omega.{arith}
 use lib.Dec.{leb}
-use lib.ListN.{length, replicate}
+use lib.ListN.{length}
 use lib.IntN.{ℤ}
 use Rattle.rules.specs.Limits.{unsignedFill, signedFill}
 use Rattle.rules.specs.Answers.{isRefusal, isAccepted, Reading, refused, good}
@@ -18,8 +18,8 @@ use Rattle.laws.specs.Demands.{IsRefused}
 use Rattle.laws.proofs.DemandOne.{report-demand-one}
 use Rattle.reports.specs.declared.Report.{Report}
 use Rattle.reports.specs.Promise.{ReportRead}
+use Rattle.tails.proofs.Filled.{SameLengths, filled-alike, tables-filled-alike}
 use Rattle.checker.specs.Reports.{Reports}
-use Rattle.checker.proofs.Filling.{SameLengths, filled-alike}
 
 accepted-stands : (a : Answer) → isAccepted a ≡ true → isRefusal a ≡ false
 accepted-stands Accepted e = refl
@@ -68,7 +68,7 @@ module _ {H : ℕ} {x : Texts} {s : List ℕ} {t : Tables} {c : List ℕ} {p : L
   -- the curves are filled
   module _ (g : b ≡ false) (long : length p′ ≡ length p) {p″ : List ℤ} (fill : p″ ≡ filled signedFill p′) {d : Bool} (e : d ≡ isRefusal (r .answer)) where
     laid : p″ ≡ reported H x s t c p .curves
-    laid = fill ∙ ap (λ n. replicate n signedFill) long ∙ sym (curves-filled H x s t c p (ap isAccepted (sym (read .answers)) ∙ sym q ∙ g))
+    laid = fill ∙ filled-alike signedFill p′ p long ∙ sym (curves-filled H x s t c p (ap isAccepted (sym (read .answers)) ∙ sym q ∙ g))
 
     pub report-violated : d ≡ false → Reports H x s t c p r t′ c′ p″
     report-violated k =
@@ -83,7 +83,7 @@ module _ {H : ℕ} {x : Texts} {s : List ℕ} {t : Tables} {c : List ℕ} {p : L
           answer = read .answers;
           figures = read .figures-are;
           desk = read .desk-is;
-          tables = tables ∙ filled-alike t′ t same ∙ sym (empty .tables);
-          choices = choices ∙ ap (λ n. replicate n unsignedFill) many ∙ sym (empty .choices);
+          tables = tables ∙ tables-filled-alike t′ t same ∙ sym (empty .tables);
+          choices = choices ∙ filled-alike unsignedFill c′ c many ∙ sym (empty .choices);
           curves = laid;
         }

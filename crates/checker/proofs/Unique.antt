@@ -5,6 +5,9 @@ use mathlib.Core.List.{List}
 use lib.IntN.{ℤ}
 use Rattle.rules.specs.Reading.{Texts}
 use Rattle.rules.specs.Entries.{Tables}
+use Rattle.rules.specs.declared.sizes.Configuration.{Configuration}
+use Rattle.merging.specs.declared.Merged.{Merged}
+use Rattle.merging.specs.Promise.{Merges}
 use Rattle.checker.specs.declared.verdicts.Checked.{Checked}
 use Rattle.reports.specs.declared.Report.{Report}
 use Rattle.checker.specs.Checks.{Checks}
@@ -27,4 +30,16 @@ module _ (H : ℕ) (x : Texts) (s : List ℕ) (t : Tables) (c : List ℕ) where
     p .tables ∙ sym (q .tables),
     p .choices ∙ sym (q .choices),
     p .curves ∙ sym (q .curves),
+  )
+
+-- a merge too, by whatever rule it chooses
+module _ (merge : List Configuration → List Configuration → List Configuration) (H : ℕ) (x : Texts) (a b : List ℕ) (t : Tables) (c d text : List ℕ) where
+  pub merge-unique : {r₁ r₂ : Merged} {t₁ t₂ : Tables} {c₁ c₂ d₁ d₂ text₁ text₂ : List ℕ} → Merges merge H x a b t c d text r₁ t₁ c₁ d₁ text₁
+      → Merges merge H x a b t c d text r₂ t₂ c₂ d₂ text₂ → (r₁ ≡ r₂) × (t₁ ≡ t₂) × (c₁ ≡ c₂) × (d₁ ≡ d₂) × (text₁ ≡ text₂)
+  merge-unique p q = (
+    λ j. record { answer = (p .answer-is ∙ sym (q .answer-is)) j; length = (p .length-is ∙ sym (q .length-is)) j },
+    p .tables-are ∙ sym (q .tables-are),
+    p .choices-are ∙ sym (q .choices-are),
+    p .second-are ∙ sym (q .second-are),
+    p .text-is ∙ sym (q .text-is),
   )

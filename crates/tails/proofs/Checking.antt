@@ -26,24 +26,24 @@ use Rattle.tails.specs.Promise.{ReadAndJudged}
 -- ---- what was read, by the answers
 
 -- the files, and that the counts are theirs
-record WasFiled (o : Reading Files) (k : Counts) : Type 0 where
-  files : Files
-  was : o ≡ good files
-  counted : k ≡ countsOf files
+pub record WasFiled (o : Reading Files) (k : Counts) : Type 0 where
+  pub files : Files
+  pub was : o ≡ good files
+  pub counted : k ≡ countsOf files
 
-was-filed : (o : Reading Files) (k : Counts) → Filings.Whole k ≡ filedOf o → WasFiled o k
+pub was-filed : (o : Reading Files) (k : Counts) → Filings.Whole k ≡ filedOf o → WasFiled o k
 was-filed (refused r) k e = let z : _≡_ {A = ℕ} 0 1 = cc in absurd (omega arith)
 was-filed (good f) k e = record { files = f; was = refl; counted = cc }
 
-not-filed : (o : Reading Files) (r : Refusal) → Filings.Refused r ≡ filedOf o → o ≡ refused r
+pub not-filed : (o : Reading Files) (r : Refusal) → Filings.Refused r ≡ filedOf o → o ≡ refused r
 not-filed (refused s) r e = cc
 not-filed (good f) r e = let z : _≡_ {A = ℕ} 0 1 = cc in absurd (omega arith)
 
-was-chosen : (o : Reading (List Configuration)) → Choosings.Whole ≡ chosenOf o → (cs : List Configuration) × (o ≡ good cs)
+pub was-chosen : (o : Reading (List Configuration)) → Choosings.Whole ≡ chosenOf o → (cs : List Configuration) × (o ≡ good cs)
 was-chosen (refused r) e = let z : _≡_ {A = ℕ} 0 1 = cc in absurd (omega arith)
 was-chosen (good cs) e = (cs, refl)
 
-not-chosen : (o : Reading (List Configuration)) (r : Refusal) → Choosings.Refused r ≡ chosenOf o → o ≡ refused r
+pub not-chosen : (o : Reading (List Configuration)) (r : Refusal) → Choosings.Refused r ≡ chosenOf o → o ≡ refused r
 not-chosen (refused s) r e = cc
 not-chosen (good cs) r e = let z : _≡_ {A = ℕ} 0 1 = cc in absurd (omega arith)
 

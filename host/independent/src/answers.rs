@@ -51,6 +51,23 @@ impl Rooms {
             self.text,
         ]
     }
+
+    /// One of the ten numbers, by its place in that order.
+    pub fn number_mut(&mut self, place: usize) -> &mut usize {
+        let rooms = [
+            &mut self.legs,
+            &mut self.configurations,
+            &mut self.profiles,
+            &mut self.samples,
+            &mut self.constraints,
+            &mut self.tracks,
+            &mut self.choices,
+            &mut self.second_choices,
+            &mut self.curves,
+            &mut self.text,
+        ];
+        rooms.into_iter().nth(place).expect("there are ten rooms")
+    }
 }
 
 /// "A refusal carries number, file (1 timetable, 2 profiles, 3 constraints, 4 solution, 5 second
@@ -94,24 +111,6 @@ impl From<Refusal> for Answer {
 }
 
 impl Answer {
-    /// The answer as a list of numbers: 0; 1 and the violation; 2 and the refusal.
-    pub fn numbers(&self) -> Vec<i64> {
-        match *self {
-            Answer::Accepted => vec![0],
-            Answer::Violated { kind, position, inequality, shortfall, file } => vec![
-                1,
-                i64::from(kind),
-                position as i64,
-                i64::from(inequality),
-                shortfall,
-                i64::from(file),
-            ],
-            Answer::Refused { number, file, place } => {
-                vec![2, i64::from(number), i64::from(file), place as i64]
-            }
-        }
-    }
-
     /// The answer as one line of words.
     pub fn line(&self) -> String {
         match *self {

@@ -1,134 +1,12 @@
-//! The damages: changes of a plan before it is written, and changes of the texts, the room or H.
+//! Changes of a plan before it is written.
 
-use super::plan::{record, Plan, PlanLeg, Record, LIST_NAMES};
-use super::random::Random;
-use super::{Case, Target};
+use crate::plan::{constraint_record, record, slack, Numbers, Plan, PlanLeg, Record, LIST_NAMES};
+use crate::random::Random;
 
-/// A change of a plan.
-pub type OfPlan = fn(&mut Plan, &mut Random);
-/// A change of the texts, the room or H.
-pub type OfTexts = fn(&mut Case, &mut Random);
-
-/// One damage.
-#[derive(Clone, Copy)]
-pub enum Damage {
-    OfPlan(OfPlan),
-    OfTexts(OfTexts),
-}
-
-use Damage::{OfPlan as P, OfTexts as T};
-
-/// A damage, more often one that may give the target.
-pub fn draw(random: &mut Random, target: Target, merging: bool) -> Damage {
-    if !random.one_in(4) {
-        let likely = likely(target);
-        if !likely.is_empty() {
-            return *random.pick(&likely);
-        }
-    }
-    if merging && random.one_in(2) {
-        return *random.pick(&[P(second_of_other_travel), P(choice_redrawn), T(room_smaller)]);
-    }
-    *random.pick(&any())
-}
-
-/// Every damage.
-fn any() -> Vec<Damage> {
-    vec![
-        P(unknown_profile),
-        P(sample_count_changed),
-        P(leg_id_repeated),
-        P(profile_id_repeated),
-        P(track_repeated),
-        P(subnet_id_repeated),
-        P(nominal_not_listed),
-        P(choice_not_offered),
-        P(choice_redrawn),
-        P(column_changed),
-        P(rows_changed),
-        P(track_unlisted),
-        P(list_dropped),
-        P(list_repeated),
-        P(list_renamed),
-        P(lists_in_another_order),
-        P(key_dropped),
-        P(key_repeated),
-        P(key_renamed),
-        P(value_changed),
-        P(connection_type_changed),
-        P(subnets_added),
-        P(leg_id_unknown),
-        P(seconds_changed),
-        P(csv_number_changed),
-        P(second_of_other_travel),
-        T(byte_deleted),
-        T(byte_inserted),
-        T(byte_replaced),
-        T(bytes_swapped),
-        T(truncated),
-        T(line_duplicated),
-        T(line_end_changed),
-        T(header_changed),
-        T(white_space_changed),
-        T(string_spoiled),
-        T(digits_changed),
-        T(room_smaller),
-        T(horizon_changed),
-    ]
-}
-
-/// The damages that may give a target.
-fn likely(target: Target) -> Vec<Damage> {
-    match target {
-        Target::Accepted => vec![P(choice_redrawn), P(lists_in_another_order), T(white_space_changed), T(byte_replaced)],
-        Target::Violated { kind: 0, .. } => vec![P(choice_not_offered)],
-        Target::Violated { .. } => vec![P(seconds_changed), P(choice_redrawn)],
-        Target::Refused { number, .. } => match number {
-            1 => vec![T(horizon_changed)],
-            3 => vec![T(header_changed), T(truncated), T(line_end_changed)],
-            4 => vec![
-                T(byte_deleted),
-                T(byte_inserted),
-                T(byte_replaced),
-                T(bytes_swapped),
-                T(truncated),
-                T(line_end_changed),
-                T(digits_changed),
-                P(csv_number_changed),
-            ],
-            5 => vec![P(csv_number_changed), P(seconds_changed), T(digits_changed), T(horizon_changed), P(value_changed)],
-            6 => vec![P(subnets_added)],
-            7 => vec![
-                P(leg_id_repeated),
-                P(profile_id_repeated),
-                P(track_repeated),
-                P(subnet_id_repeated),
-                T(line_duplicated),
-            ],
-            8 => vec![P(nominal_not_listed), T(digits_changed)],
-            9 => vec![
-                T(byte_deleted),
-                T(byte_inserted),
-                T(byte_replaced),
-                T(bytes_swapped),
-                T(truncated),
-                T(white_space_changed),
-                T(string_spoiled),
-                P(value_changed),
-            ],
-            10 => vec![P(list_renamed), P(key_renamed), P(connection_type_changed), T(byte_replaced)],
-            11 => vec![P(list_dropped), P(list_repeated), P(key_dropped), P(key_repeated)],
-            12 => vec![P(unknown_profile), P(leg_id_unknown), P(value_changed)],
-            13 => vec![P(sample_count_changed), P(csv_number_changed)],
-            14 => vec![P(column_changed), P(rows_changed)],
-            15 => vec![P(track_unlisted)],
-            16 => vec![T(room_smaller)],
-            _ => vec![P(second_of_other_travel)],
-        },
-    }
-}
-
-// Changes of a plan.
+/// How many pairs of legs are tried for a constraint.
+const PAIRS_TRIED: usize = 8;
+/// "Constraint seconds 0..86,400."
+const MOST_SECONDS: i64 = 86_400;
 
 /// One of the timetable files of the plan.
 fn some_file<'a>(plan: &'a mut Plan, random: &mut Random) -> &'a mut Vec<PlanLeg> {
@@ -198,7 +76,7 @@ fn replace_entry(leg: &mut PlanLeg, random: &mut Random, change: &dyn Fn(&mut Ve
     }
 }
 
-fn unknown_profile(plan: &mut Plan, random: &mut Random) {
+pub fn unknown_profile(plan: &mut Plan, random: &mut Random) {
     if let Some(leg) = some_leg(&mut plan.draft, random) {
         replace_entry(leg, random, &|numbers, random| {
             numbers[2] = random.pick(&["1", "99", "999999999"]).to_string();
@@ -206,7 +84,7 @@ fn unknown_profile(plan: &mut Plan, random: &mut Random) {
     }
 }
 
-fn sample_count_changed(plan: &mut Plan, random: &mut Random) {
+pub fn sample_count_changed(plan: &mut Plan, random: &mut Random) {
     let place = random.below(plan.profiles.len());
     if let Some(profile) = plan.profiles.get_mut(place) {
         if random.one_in(2) {
@@ -217,7 +95,7 @@ fn sample_count_changed(plan: &mut Plan, random: &mut Random) {
     }
 }
 
-fn leg_id_repeated(plan: &mut Plan, random: &mut Random) {
+pub fn leg_id_repeated(plan: &mut Plan, random: &mut Random) {
     let legs = some_file(plan, random);
     if legs.len() > 1 {
         let from = random.below(legs.len());
@@ -228,7 +106,7 @@ fn leg_id_repeated(plan: &mut Plan, random: &mut Random) {
     }
 }
 
-fn profile_id_repeated(plan: &mut Plan, random: &mut Random) {
+pub fn profile_id_repeated(plan: &mut Plan, random: &mut Random) {
     let from = random.below(plan.profiles.len());
     let to = random.below(plan.profiles.len() + 1);
     let Some(profile) = plan.profiles.get(from).cloned() else { return };
@@ -238,7 +116,7 @@ fn profile_id_repeated(plan: &mut Plan, random: &mut Random) {
     }
 }
 
-fn track_repeated(plan: &mut Plan, random: &mut Random) {
+pub fn track_repeated(plan: &mut Plan, random: &mut Random) {
     let known: Vec<String> = plan.draft.iter().map(|leg| leg.ids[2].clone()).collect();
     if known.is_empty() {
         return;
@@ -252,7 +130,7 @@ fn track_repeated(plan: &mut Plan, random: &mut Random) {
     }
 }
 
-fn subnet_id_repeated(plan: &mut Plan, random: &mut Random) {
+pub fn subnet_id_repeated(plan: &mut Plan, random: &mut Random) {
     let Some(id) = some_record_with(plan, "subnet_id", random).and_then(|r| value_of(r, "subnet_id")).cloned()
     else {
         return;
@@ -268,7 +146,7 @@ fn subnet_id_repeated(plan: &mut Plan, random: &mut Random) {
     }
 }
 
-fn nominal_not_listed(plan: &mut Plan, random: &mut Random) {
+pub fn nominal_not_listed(plan: &mut Plan, random: &mut Random) {
     let legs = some_file(plan, random);
     if let Some(leg) = some_leg(legs, random) {
         if random.one_in(2) && leg.list.len() > 1 {
@@ -283,7 +161,7 @@ fn nominal_not_listed(plan: &mut Plan, random: &mut Random) {
     }
 }
 
-fn choice_not_offered(plan: &mut Plan, random: &mut Random) {
+pub fn choice_not_offered(plan: &mut Plan, random: &mut Random) {
     let legs = if random.one_in(3) { &mut plan.second } else { &mut plan.solution };
     if let Some(leg) = some_leg(legs, random) {
         let mut numbers = parts(&leg.nominal);
@@ -294,7 +172,7 @@ fn choice_not_offered(plan: &mut Plan, random: &mut Random) {
     }
 }
 
-fn choice_redrawn(plan: &mut Plan, random: &mut Random) {
+pub fn choice_redrawn(plan: &mut Plan, random: &mut Random) {
     let place = random.below(plan.draft.len());
     let Some(draft) = plan.draft.get(place).cloned() else { return };
     if draft.list.is_empty() {
@@ -307,7 +185,7 @@ fn choice_redrawn(plan: &mut Plan, random: &mut Random) {
     }
 }
 
-fn column_changed(plan: &mut Plan, random: &mut Random) {
+pub fn column_changed(plan: &mut Plan, random: &mut Random) {
     let legs = if random.one_in(3) { &mut plan.second } else { &mut plan.solution };
     if let Some(leg) = some_leg(legs, random) {
         let column = random.below(5);
@@ -315,7 +193,7 @@ fn column_changed(plan: &mut Plan, random: &mut Random) {
     }
 }
 
-fn rows_changed(plan: &mut Plan, random: &mut Random) {
+pub fn rows_changed(plan: &mut Plan, random: &mut Random) {
     let legs = if random.one_in(3) { &mut plan.second } else { &mut plan.solution };
     let place = random.below(legs.len());
     match random.below(3) {
@@ -336,7 +214,7 @@ fn rows_changed(plan: &mut Plan, random: &mut Random) {
     }
 }
 
-fn track_unlisted(plan: &mut Plan, random: &mut Random) {
+pub fn track_unlisted(plan: &mut Plan, random: &mut Random) {
     if random.one_in(2) {
         let place = random.below(plan.draft.len());
         for legs in [&mut plan.draft, &mut plan.solution, &mut plan.second] {
@@ -351,14 +229,14 @@ fn track_unlisted(plan: &mut Plan, random: &mut Random) {
     }
 }
 
-fn list_dropped(plan: &mut Plan, random: &mut Random) {
+pub fn list_dropped(plan: &mut Plan, random: &mut Random) {
     let place = random.below(plan.lists.len());
     if place < plan.lists.len() {
         plan.lists.remove(place);
     }
 }
 
-fn list_repeated(plan: &mut Plan, random: &mut Random) {
+pub fn list_repeated(plan: &mut Plan, random: &mut Random) {
     let place = random.below(plan.lists.len());
     if let Some(mut list) = plan.lists.get(place).cloned() {
         if random.one_in(2) {
@@ -369,7 +247,7 @@ fn list_repeated(plan: &mut Plan, random: &mut Random) {
     }
 }
 
-fn list_renamed(plan: &mut Plan, random: &mut Random) {
+pub fn list_renamed(plan: &mut Plan, random: &mut Random) {
     let place = random.below(plan.lists.len());
     if let Some(list) = plan.lists.get_mut(place) {
         list.name = match random.below(4) {
@@ -381,7 +259,7 @@ fn list_renamed(plan: &mut Plan, random: &mut Random) {
     }
 }
 
-fn lists_in_another_order(plan: &mut Plan, random: &mut Random) {
+pub fn lists_in_another_order(plan: &mut Plan, random: &mut Random) {
     random.shuffle(&mut plan.lists);
     for list in &mut plan.lists {
         for record in &mut list.records {
@@ -390,7 +268,7 @@ fn lists_in_another_order(plan: &mut Plan, random: &mut Random) {
     }
 }
 
-fn key_dropped(plan: &mut Plan, random: &mut Random) {
+pub fn key_dropped(plan: &mut Plan, random: &mut Random) {
     if let Some(record) = some_record(plan, random) {
         let place = random.below(record.len());
         if place < record.len() {
@@ -399,7 +277,7 @@ fn key_dropped(plan: &mut Plan, random: &mut Random) {
     }
 }
 
-fn key_repeated(plan: &mut Plan, random: &mut Random) {
+pub fn key_repeated(plan: &mut Plan, random: &mut Random) {
     if let Some(record) = some_record(plan, random) {
         let place = random.below(record.len());
         if let Some(member) = record.get(place).cloned() {
@@ -409,7 +287,7 @@ fn key_repeated(plan: &mut Plan, random: &mut Random) {
     }
 }
 
-fn key_renamed(plan: &mut Plan, random: &mut Random) {
+pub fn key_renamed(plan: &mut Plan, random: &mut Random) {
     const NAMES: [&str; 12] = [
         "first_leg_id",
         "second_leg_id",
@@ -432,7 +310,7 @@ fn key_renamed(plan: &mut Plan, random: &mut Random) {
     }
 }
 
-fn value_changed(plan: &mut Plan, random: &mut Random) {
+pub fn value_changed(plan: &mut Plan, random: &mut Random) {
     const VALUES: [&str; 24] = [
         "0",
         "1",
@@ -467,7 +345,7 @@ fn value_changed(plan: &mut Plan, random: &mut Random) {
     }
 }
 
-fn connection_type_changed(plan: &mut Plan, random: &mut Random) {
+pub fn connection_type_changed(plan: &mut Plan, random: &mut Random) {
     let types = [
         "\"arrival_to_arrival\"",
         "\"\"",
@@ -485,7 +363,7 @@ fn connection_type_changed(plan: &mut Plan, random: &mut Random) {
     }
 }
 
-fn subnets_added(plan: &mut Plan, random: &mut Random) {
+pub fn subnets_added(plan: &mut Plan, random: &mut Random) {
     if let Some(list) = plan.lists.iter_mut().find(|list| list.name == LIST_NAMES[5]) {
         let wanted = random.between(8, 10);
         let mut id = 40;
@@ -497,14 +375,14 @@ fn subnets_added(plan: &mut Plan, random: &mut Random) {
     }
 }
 
-fn leg_id_unknown(plan: &mut Plan, random: &mut Random) {
+pub fn leg_id_unknown(plan: &mut Plan, random: &mut Random) {
     let key = if random.one_in(2) { "first_leg_id" } else { "second_leg_id" };
     if let Some(value) = some_record_with(plan, key, random).and_then(|r| value_of(r, key)) {
         *value = random.pick(&["0", "6", "77", "999999999", "1000000000"]).to_string();
     }
 }
 
-fn seconds_changed(plan: &mut Plan, random: &mut Random) {
+pub fn seconds_changed(plan: &mut Plan, random: &mut Random) {
     let keys = [
         "min_headway_time",
         "min_dwell_time",
@@ -525,7 +403,7 @@ fn seconds_changed(plan: &mut Plan, random: &mut Random) {
     }
 }
 
-fn csv_number_changed(plan: &mut Plan, random: &mut Random) {
+pub fn csv_number_changed(plan: &mut Plan, random: &mut Random) {
     const NUMBERS: [&str; 9] = [
         "0",
         "1",
@@ -569,7 +447,7 @@ fn csv_number_changed(plan: &mut Plan, random: &mut Random) {
     }
 }
 
-fn second_of_other_travel(plan: &mut Plan, random: &mut Random) {
+pub fn second_of_other_travel(plan: &mut Plan, random: &mut Random) {
     let place = random.below(plan.draft.len());
     let Some(draft) = plan.draft.get(place).cloned() else { return };
     let travel = |entry: &str| parts(entry).get(1).cloned();
@@ -584,205 +462,81 @@ fn second_of_other_travel(plan: &mut Plan, random: &mut Random) {
     }
 }
 
-// Changes of the texts, the room or H.
-
-/// One of the five texts.
-fn some_text<'a>(case: &'a mut Case, random: &mut Random) -> &'a mut Vec<u8> {
-    let place = *random.pick(&[0, 1, 2, 2, 3, 4]);
-    &mut case.texts[place]
-}
-
-/// A place in a text, mostly below its header.
-fn some_place(text: &[u8], random: &mut Random) -> usize {
-    let header = match text.iter().position(|byte| *byte == b'\n') {
-        Some(end) if text[0] != b'{' && end + 1 < text.len() => end + 1,
-        _ => 0,
-    };
-    if random.one_in(12) {
-        random.below(text.len())
-    } else {
-        header + random.below(text.len() - header)
-    }
-}
-
-/// A byte that has a meaning somewhere, or any byte.
-fn some_byte(random: &mut Random) -> u8 {
-    if random.one_in(6) {
-        return random.below(256) as u8;
-    }
-    *random.pick(b"0123456789,,__ ..--\n\r\t\"\"{}[]::,,\\a~")
-}
-
-fn byte_deleted(case: &mut Case, random: &mut Random) {
-    let text = some_text(case, random);
-    if !text.is_empty() {
-        let place = some_place(text, random);
-        text.remove(place);
-    }
-}
-
-fn byte_inserted(case: &mut Case, random: &mut Random) {
-    let text = some_text(case, random);
-    let place = if text.is_empty() { 0 } else { some_place(text, random) + random.below(2) };
-    text.insert(place, some_byte(random));
-}
-
-fn byte_replaced(case: &mut Case, random: &mut Random) {
-    let text = some_text(case, random);
-    if !text.is_empty() {
-        let place = some_place(text, random);
-        text[place] = some_byte(random);
-    }
-}
-
-fn bytes_swapped(case: &mut Case, random: &mut Random) {
-    let text = some_text(case, random);
-    if text.len() > 1 {
-        let place = some_place(text, random).min(text.len() - 2);
-        text.swap(place, place + 1);
-    }
-}
-
-fn truncated(case: &mut Case, random: &mut Random) {
-    let text = some_text(case, random);
-    let length = match random.below(4) {
-        0 => random.below(text.len() + 1),
-        1 => text.len().saturating_sub(1),
-        _ if text.is_empty() => 0,
-        _ => some_place(text, random),
-    };
-    text.truncate(length);
-}
-
-fn line_duplicated(case: &mut Case, random: &mut Random) {
-    let text = some_text(case, random);
-    let lines: Vec<Vec<u8>> = text.split_inclusive(|byte| *byte == b'\n').map(<[u8]>::to_vec).collect();
-    if lines.is_empty() {
-        return;
-    }
-    let place = random.below(lines.len());
-    let at = random.below(lines.len() + 1);
-    let mut copies = lines.clone();
-    copies.insert(at, lines[place].clone());
-    *text = copies.concat();
-}
-
-fn line_end_changed(case: &mut Case, random: &mut Random) {
-    let text = some_text(case, random);
-    let ends: Vec<usize> = (0..text.len()).filter(|place| text[*place] == b'\n').collect();
-    if ends.is_empty() {
-        return;
-    }
-    let end = *random.pick(&ends);
-    match random.below(4) {
-        0 => text.insert(end, b'\r'),
-        1 => text.insert(end, b'\n'),
-        2 => text.push(b'\n'),
-        _ => {
-            text.remove(end);
+/// A list of 63 to 66 entries: 64 are the most.
+pub fn list_lengthened(plan: &mut Plan, random: &mut Random) {
+    let wanted = random.between(63, 66);
+    let legs = some_file(plan, random);
+    if let Some(leg) = some_leg(legs, random) {
+        let entries = leg.list.clone();
+        while !entries.is_empty() && leg.list.len() < wanted {
+            leg.list.push(random.pick(&entries).clone());
         }
     }
 }
 
-fn header_changed(case: &mut Case, random: &mut Random) {
-    let place = *random.pick(&[0, 1, 3, 4]);
-    let text = &mut case.texts[place];
-    if text.is_empty() {
-        return;
-    }
-    let end = text.iter().position(|byte| *byte == b'\n').unwrap_or(text.len() - 1);
-    let place = random.below(end + 1);
-    match random.below(5) {
-        0 => text[place] = some_byte(random),
-        1 => {
-            text.remove(place);
-        }
-        2 => text.insert(place, some_byte(random)),
-        3 => text.splice(0..0, *b"\xef\xbb\xbf").for_each(drop),
-        _ => text.truncate(random.below(end + 1)),
+/// A row of 3,599 to 3,602 samples: 3,600 are the most.
+pub fn samples_lengthened(plan: &mut Plan, random: &mut Random) {
+    let wanted = random.between(3_599, 3_602);
+    let place = random.below(plan.profiles.len());
+    if let Some(profile) = plan.profiles.get_mut(place) {
+        profile.samples.resize(wanted, String::from("0.0"));
     }
 }
 
-fn white_space_changed(case: &mut Case, random: &mut Random) {
-    let text = &mut case.texts[2];
-    for _ in 0..random.between(1, 4) {
-        let places: Vec<usize> =
-            (0..text.len()).filter(|place| b"{}[]:,".contains(&text[*place])).collect();
-        let place = if places.is_empty() || random.one_in(6) {
-            random.below(text.len() + 1)
-        } else {
-            *random.pick(&places) + random.below(2)
+/// A constraint of the kind that one of the solutions keeps with nothing to spare, and the other misses by the inequality where it leaves less.
+pub fn constraint_between(plan: &mut Plan, random: &mut Random, kind: usize, inequality: u32) {
+    let arrival = random.one_in(2);
+    for _ in 0..PAIRS_TRIED {
+        let [a, b] = [0; 2].map(|_| random.below(plan.draft.len()));
+        let left: Vec<i64> = [&plan.solution, &plan.second]
+            .into_iter()
+            .filter_map(|rows| Some(slack(kind, inequality, arrival, Numbers::of(rows.get(a)?)?, Numbers::of(rows.get(b)?)?)))
+            .collect();
+        let [first, second] = left[..] else { return };
+        let (low, high) = match (kind, inequality) {
+            (5, 2) => (0, first.min(second) - i64::from(first == second)),
+            _ => (first.max(second) + i64::from(first == second), MOST_SECONDS),
         };
-        text.insert(place, *random.pick(b"  \t\n\r\x0b\x0c"));
-    }
-}
-
-fn string_spoiled(case: &mut Case, random: &mut Random) {
-    let text = &mut case.texts[2];
-    let quotes: Vec<usize> = (0..text.len()).filter(|place| text[*place] == b'"').collect();
-    if quotes.is_empty() {
-        return;
-    }
-    let quote = *random.pick(&quotes);
-    match random.below(4) {
-        0 => text.insert(quote + 1, *random.pick(b"\\\x1f\x7f\x80\n\t")),
-        1 => text.truncate((quote + 1 + random.below(6)).min(text.len())),
-        2 => {
-            text.truncate((quote + 1 + random.below(6)).min(text.len()));
-            text.push(*random.pick(b"\\\x00\xff\n"));
-        }
-        _ => {
-            text.remove(quote);
-        }
-    }
-}
-
-fn digits_changed(case: &mut Case, random: &mut Random) {
-    let text = some_text(case, random);
-    let starts: Vec<usize> = (0..text.len())
-        .filter(|p| text[*p].is_ascii_digit() && (*p == 0 || !text[*p - 1].is_ascii_digit()))
-        .collect();
-    if starts.is_empty() {
-        return;
-    }
-    let start = *random.pick(&starts);
-    let mut end = start;
-    while end < text.len() && text[end].is_ascii_digit() {
-        end += 1;
-    }
-    match random.below(5) {
-        0 => text.insert(start, b'0'),
-        1 => text.splice(end..end, b"0".repeat(random.between(1, 24))).for_each(drop),
-        2 => text.splice(start..end, b"4294967296".to_vec()).for_each(drop),
-        3 => text.splice(start..end, b"18446744073709551617".to_vec()).for_each(drop),
-        _ => text[start] = b'0' + random.below(10) as u8,
-    }
-}
-
-fn room_smaller(case: &mut Case, random: &mut Random) {
-    let [t, ..] = &case.texts;
-    let text_room = t.len();
-    let rooms = &mut case.rooms;
-    let less = random.between(1, 9);
-    let room = match random.below(12) {
-        0 => &mut rooms.legs,
-        1 => &mut rooms.configurations,
-        2 => &mut rooms.profiles,
-        3 => &mut rooms.samples,
-        4 => &mut rooms.constraints,
-        5 => &mut rooms.tracks,
-        6 => &mut rooms.choices,
-        7 | 8 => &mut rooms.second_choices,
-        9 => &mut rooms.curves,
-        _ => {
-            rooms.text = text_room.saturating_sub(random.below(4));
+        if low >= 0 && high >= 0 {
+            let ids = (plan.draft[a].ids[0].clone(), plan.draft[b].ids[0].clone());
+            let added = constraint_record(kind, arrival, (&ids.0, &ids.1), low, high);
+            if let Some(list) = plan.lists.iter_mut().find(|list| list.name == LIST_NAMES[kind - 1]) {
+                list.records.push(added);
+            }
             return;
         }
-    };
-    *room = if random.one_in(8) { 0 } else { room.saturating_sub(less) };
+    }
 }
 
-fn horizon_changed(case: &mut Case, random: &mut Random) {
-    let shorter = case.h.saturating_sub(random.below(90) as u32);
-    case.h = *random.pick(&[0, 176_401, 4_294_967_295, 0, 200_000, shorter, shorter, 176_400, 1]);
+pub fn one_leg_twice(plan: &mut Plan, random: &mut Random) {
+    if let Some(record) = some_record_with(plan, "second_leg_id", random) {
+        let first = value_of(record, "first_leg_id").cloned();
+        if let (Some(first), Some(second)) = (first, value_of(record, "second_leg_id")) {
+            *second = first;
+        }
+    }
+}
+
+/// "a may exceed b".
+pub fn bounds_exchanged(plan: &mut Plan, random: &mut Random) {
+    if let Some(record) = some_record_with(plan, "max_connection_time", random) {
+        let least = value_of(record, "min_connection_time").cloned();
+        let most = value_of(record, "max_connection_time").cloned();
+        if let (Some(least), Some(most)) = (least, most) {
+            value_of(record, "min_connection_time").into_iter().for_each(|value| *value = most.clone());
+            value_of(record, "max_connection_time").into_iter().for_each(|value| *value = least.clone());
+        }
+    }
+}
+
+/// H at the last arrival, or a second before or after it.
+pub fn horizon_at_an_arrival(plan: &mut Plan, random: &mut Random) {
+    let arrival = |entry: &String| {
+        let numbers: Vec<u32> = entry.split('_').filter_map(|number| number.parse().ok()).collect();
+        numbers.iter().take(2).fold(0u32, |sum, number| sum.saturating_add(*number))
+    };
+    let last = plan.draft.iter().flat_map(|leg| leg.list.iter().map(arrival)).max();
+    if let Some(last) = last {
+        plan.h = last.saturating_add(random.below(3) as u32).saturating_sub(1);
+    }
 }

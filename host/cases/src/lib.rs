@@ -179,7 +179,10 @@ mod tests {
             let earlier = case.merge(Direction::Earlier);
             let later = case.merge(Direction::Later);
             assert_eq!(earlier.answer, later.answer);
-            let (Some(earlier), Some(later)) = (earlier.text, later.text) else { continue };
+            let (earlier, later) = match (earlier.text, later.text) {
+                (Some(earlier), Some(later)) => (earlier, later),
+                _ => continue,
+            };
             seen += 1;
             let curves = |solution: &[u8]| {
                 let mut one = case.clone();

@@ -82,11 +82,11 @@ pub fn read(mut input: &[u8]) -> Vec<Read> {
 }
 
 fn read_one(input: &[u8]) -> Option<(Read, &[u8])> {
-    let (block, mut rest) = input.split_at_checked(BLOCK)?;
+    let (block, mut rest) = cut(input, BLOCK)?;
     let numbers = numbers_of(block)?;
     let mut texts = Vec::new();
     for length in &numbers[4..9] {
-        let (text, after) = rest.split_at_checked(*length as usize)?;
+        let (text, after) = cut(rest, *length as usize)?;
         texts.push(text.to_vec());
         rest = after;
     }
@@ -100,6 +100,11 @@ fn read_one(input: &[u8]) -> Option<(Read, &[u8])> {
         Call { entry, case: Case { h: numbers[1], texts, rooms }, file: numbers[2], place: numbers[3] }
     });
     Some((call.filter(fits).map_or(Read::Skipped, Read::Call), rest))
+}
+
+/// The first bytes and the rest, if there are so many.
+fn cut(input: &[u8], length: usize) -> Option<(&[u8], &[u8])> {
+    (length <= input.len()).then(|| input.split_at(length))
 }
 
 /// The numbers of a block, if it is one.

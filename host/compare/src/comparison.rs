@@ -47,11 +47,12 @@ pub fn compare(executor: &dyn Executor, plan: &Plan) -> Result<Outcome, String> 
     let workers = std::thread::available_parallelism().map_or(1, usize::from);
     std::thread::scope(|scope| {
         for _ in 0..workers {
-            scope.spawn(|| loop {
-                let Some(batch) = batch(plan, next.fetch_add(1, Ordering::Relaxed)) else { return };
-                if let Err(message) = compare_batch(executor, &batch, plan, &outcome) {
-                    failed.lock().expect("no worker panics").get_or_insert(message);
-                    return;
+            scope.spawn(|| {
+                while let Some(batch) = batch(plan, next.fetch_add(1, Ordering::Relaxed)) {
+                    if let Err(message) = compare_batch(executor, &batch, plan, &outcome) {
+                        failed.lock().expect("no worker panics").get_or_insert(message);
+                        return;
+                    }
                 }
             });
         }

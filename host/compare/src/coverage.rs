@@ -66,14 +66,17 @@ impl Coverage {
 
     /// 16 counts for each room that gives it though the others are ample.
     fn count_room(&mut self, call: &Call, answer: Answer) {
-        let Answer::Refused { number: 16, file, .. } = answer else { return };
+        let file = match answer {
+            Answer::Refused { number: 16, file, .. } => file as usize,
+            _ => return,
+        };
         if file == 0 {
             self.rooms[if is_merge(call.entry) { 9 } else { 8 }] += 1;
             return;
         }
-        for room in ROOMS_OF[file as usize] {
+        for room in ROOMS_OF[file] {
             let mut alone = call.case.clone();
-            for other in ROOMS_OF[file as usize].iter().filter(|other| *other != room) {
+            for other in ROOMS_OF[file].iter().filter(|other| *other != room) {
                 *alone.rooms.number_mut(*other) = AMPLE;
             }
             let again = if file == 5 { answer } else { alone.check().answer };
@@ -84,11 +87,11 @@ impl Coverage {
     }
 
     fn count_connection(&mut self, case: &Case, answer: Answer) {
-        let Answer::Violated { kind: 5, position, inequality, .. } = answer else { return };
-        let Some(tables) = case.check().tables else { return };
-        let connection = tables.constraints.chunks(6).filter(|entry| entry[0] == 5).nth(position);
-        if let Some(entry) = connection {
-            *self.connections.entry((inequality, entry[5])).or_default() += 1;
+        if let (Answer::Violated { kind: 5, position, inequality, .. }, Some(tables)) = (answer, case.check().tables) {
+            let connection = tables.constraints.chunks(6).filter(|entry| entry[0] == 5).nth(position);
+            if let Some(entry) = connection {
+                *self.connections.entry((inequality, entry[5])).or_default() += 1;
+            }
         }
     }
 

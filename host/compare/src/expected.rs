@@ -15,12 +15,12 @@ const BEFORE: u8 = 7;
 /// What is said of input that is no call.
 pub const BAD: &str = "replay: bad case";
 
-/// The whole output for an input, by the independent program.
-pub fn output(input: &[u8]) -> String {
+/// The whole output for an input, where these entries are offered.
+pub fn output(input: &[u8], offered: &[Entry]) -> String {
     let mut output = format!("{LABEL}\n");
     for read in block::read(input) {
         match read {
-            Read::Call(call) => output.push_str(&full_line(&call).1),
+            Read::Call(call) => output.push_str(&line(&call, offered)),
             Read::Skipped => output.push_str(SKIPPED),
             Read::Bad => output.push_str(BAD),
         }

@@ -69,11 +69,8 @@ fn listed(folder: &Path) -> Result<Vec<PathBuf>, String> {
 }
 
 fn calls(instance: &Path, h: u32) -> Result<Vec<(String, Call)>, String> {
-    let mut texts = Vec::new();
-    for name in FILES {
-        texts.push(read(&instance.join(name))?);
-    }
-    let [timetable, profiles, constraints] = texts.try_into().expect("there are three files");
+    let [timetable, profiles, constraints] = FILES.map(|name| read(&instance.join(name)));
+    let (timetable, profiles, constraints) = (timetable?, profiles?, constraints?);
     let mut solutions = vec![(String::from("the draft"), timetable.clone())];
     for path in listed(instance)? {
         let name = path.file_name().unwrap_or_default().to_string_lossy().to_string();

@@ -11,7 +11,7 @@ use std::process::ExitCode;
 const USAGE: &str = "compare replay SEED COUNT [ENTRIES] -- PROGRAM...   seeded calls through the program replay
 compare cover SEED COUNT [ENTRIES]                  the same calls through no program: their coverage alone
 compare stored DIR [ENTRIES]                        writes the stored run of replay
-compare answers                                     standard input as replay reads it, answered by the independent program
+compare answers [ENTRIES]                           standard input as replay reads it, answered by the independent program
 compare folder DIR HORIZON -- PROGRAM...            instances in the published layout
 ENTRIES are numbers of entries, as 1,5; all of them where they are not given.";
 
@@ -43,16 +43,16 @@ fn run(words: &[String]) -> Result<String, String> {
         }
         ["cover", seed, count, ref rest @ ..] => compared(&Nobody, &plan(seed, count, rest)?),
         ["stored", dir, ref rest @ ..] => stored::write(Path::new(dir), &entries(rest)?),
-        ["answers"] => answers(),
+        ["answers", ref rest @ ..] => answers(&entries(rest)?),
         ["folder", dir, horizon] => folder::compare(Path::new(dir), number(horizon)? as u32, &replay),
         _ => Err(String::from(USAGE)),
     }
 }
 
-fn answers() -> Result<String, String> {
+fn answers(offered: &[Entry]) -> Result<String, String> {
     let mut input = Vec::new();
     std::io::stdin().read_to_end(&mut input).map_err(|e| e.to_string())?;
-    Ok(expected::output(&input))
+    Ok(expected::output(&input, offered))
 }
 
 fn compared(executor: &dyn Executor, plan: &Plan) -> Result<String, String> {
@@ -78,16 +78,17 @@ fn plan(seed: &str, count: &str, rest: &[&str]) -> Result<Plan, String> {
 }
 
 fn entries(rest: &[&str]) -> Result<Vec<Entry>, String> {
-    let [list] = rest else {
-        return if rest.is_empty() { Ok(Entry::ALL.to_vec()) } else { Err(String::from(USAGE)) };
-    };
-    list.split(',')
-        .map(|word| {
-            let number = number(word)?;
-            let found = Entry::ALL.into_iter().find(|entry| compare::block::number_of(*entry) == number);
-            found.ok_or_else(|| format!("no entry has the number {number}"))
-        })
-        .collect()
+    match rest {
+        [] => Ok(Entry::ALL.to_vec()),
+        [list] => list.split(',').map(entry).collect(),
+        _ => Err(String::from(USAGE)),
+    }
+}
+
+fn entry(word: &str) -> Result<Entry, String> {
+    let number = number(word)?;
+    let found = Entry::ALL.into_iter().find(|entry| compare::block::number_of(*entry) == number);
+    found.ok_or_else(|| format!("no entry has the number {number}"))
 }
 
 fn number(word: &str) -> Result<u64, String> {

@@ -2,7 +2,7 @@
 //! calls that are skipped. The lines are the independent program's.
 
 use crate::block::{block, numbers, written, NUMBERS};
-use crate::expected::{line, LABEL, SKIPPED};
+use crate::expected::output;
 use cases::draw::for_target;
 use cases::random::Random;
 use cases::target::{targets, Target};
@@ -20,21 +20,11 @@ const TOO_MANY: u64 = 64 * 1024 + 1;
 /// Writes `stdin` and `stdout` to the folder. Calls of entries that are not offered are skipped.
 pub fn write(folder: &Path, offered: &[Entry]) -> Result<String, String> {
     let calls = calls();
-    let mut input = Vec::new();
-    let mut output = format!("{LABEL}\n");
-    for call in &calls {
-        input.extend(written(call));
-        output.push_str(&format!("{}\n", line(call, offered)));
-    }
     let skipped = skipped(&calls[0]);
-    for bytes in &skipped {
-        input.extend(bytes);
-        output.push_str(&format!("{SKIPPED}\n"));
-    }
+    let mut input: Vec<u8> = calls.iter().flat_map(written).chain(skipped.concat()).collect();
     // The last call shows that what was skipped was read past.
     input.extend(written(&calls[0]));
-    output.push_str(&format!("{}\n", line(&calls[0], offered)));
-    for (name, bytes) in [("stdin", &input), ("stdout", &output.into_bytes())] {
+    for (name, bytes) in [("stdin", &input), ("stdout", &output(&input, offered).into_bytes())] {
         std::fs::write(folder.join(name), bytes).map_err(|e| format!("{name}: {e}"))?;
     }
     Ok(format!("{} calls, {} of them skipped\n", calls.len() + skipped.len() + 1, skipped.len()))
@@ -91,12 +81,15 @@ fn skipped(call: &Call) -> Vec<Vec<u8>> {
 #[cfg(test)]
 mod tests {
     use super::*;
+    use crate::block::{read, Read};
+    use crate::expected::{line, SKIPPED};
 
     #[test]
     fn every_target_of_the_spread_is_there() {
         let calls = calls();
         assert_eq!(calls.len(), cases::examples::worked().len() + spread().len() + ROWS);
         assert!(calls.iter().all(|call| line(call, &Entry::ALL) != SKIPPED));
+        assert!(read(&skipped(&calls[0]).concat()).iter().all(|read| matches!(read, Read::Skipped)));
         assert!(crate::comparison::fixed(&Entry::ALL).len() > 400);
     }
 }

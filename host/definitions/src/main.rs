@@ -35,8 +35,9 @@ fn main() -> ExitCode {
 }
 
 fn run(words: &[String]) -> Result<String, String> {
-    let [seed, count, dir] = words else {
-        return Err("definitions SEED COUNT DIR".into());
+    let (seed, count, dir) = match words {
+        [seed, count, dir] => (seed, count, dir),
+        _ => return Err("definitions SEED COUNT DIR".into()),
     };
     let seed = seed.parse().map_err(|_| format!("no seed: {seed}"))?;
     let count = count.parse().map_err(|_| format!("no count: {count}"))?;
@@ -78,9 +79,10 @@ fn drawn(seed: u64, number: usize) -> (Entry, Case) {
 
 /// The statements of one case; how many there are.
 fn state(entry: Entry, case: &Case, number: usize, text: &mut String) -> usize {
-    let [timetable, profiles, constraints, solution, second] = case.texts.each_ref().map(|text| bytes(text));
+    let [timetable, profiles, constraints, solution, second] = &case.texts;
+    let (solution, second) = (bytes(solution), bytes(second));
+    let texts = format!("(texts {} {} {})", bytes(timetable), bytes(profiles), bytes(constraints));
     let rooms = case.rooms;
-    let texts = format!("(texts {timetable} {profiles} {constraints})");
     let six: Vec<String> = rooms.numbers()[..6].iter().map(usize::to_string).collect();
     let input = format!("{} {texts} {solution}", case.h);
     let lent = format!("(lent {}) (nines {})", six.join(" "), rooms.choices);

@@ -3,7 +3,7 @@
 mod common;
 
 use common::*;
-use independent::{Call, Case, Entry, Lent, Rooms, Said};
+use independent::{Answer, Call, Case, Entry, Lent, Rooms, Said};
 
 const BEFORE: u8 = 9;
 
@@ -68,7 +68,8 @@ fn curves_and_texts_are_written_at_the_front() {
     assert_eq!(lent.curves[9..15], [0, 500, 1_000, 250, -400, 0]);
     assert_eq!(lent.curves[99..102], [0, 9, 9]);
     let (said, lent) = run(&example(), Entry::MergeEarlier);
-    let Said::Merged(_, length) = said else { panic!("{said:?}") };
+    let length = example().timetable.len();
+    assert_eq!(said, Said::Merged(Answer::Accepted, length));
     assert_eq!(lent.text[..length], example().timetable[..]);
     assert_eq!(lent.text[length..], vec![9; 300 - length]);
 }

@@ -109,10 +109,11 @@ pub fn leg_id_repeated(plan: &mut Plan, random: &mut Random) {
 pub fn profile_id_repeated(plan: &mut Plan, random: &mut Random) {
     let from = random.below(plan.profiles.len());
     let to = random.below(plan.profiles.len() + 1);
-    let Some(profile) = plan.profiles.get(from).cloned() else { return };
-    match plan.profiles.get_mut(to) {
-        Some(other) => other.id = profile.id,
-        None => plan.profiles.push(profile),
+    if let Some(profile) = plan.profiles.get(from).cloned() {
+        match plan.profiles.get_mut(to) {
+            Some(other) => other.id = profile.id,
+            None => plan.profiles.push(profile),
+        }
     }
 }
 
@@ -131,9 +132,9 @@ pub fn track_repeated(plan: &mut Plan, random: &mut Random) {
 }
 
 pub fn subnet_id_repeated(plan: &mut Plan, random: &mut Random) {
-    let Some(id) = some_record_with(plan, "subnet_id", random).and_then(|r| value_of(r, "subnet_id")).cloned()
-    else {
-        return;
+    let id = match some_record_with(plan, "subnet_id", random).and_then(|r| value_of(r, "subnet_id")) {
+        Some(id) => id.clone(),
+        None => return,
     };
     if random.one_in(2) {
         if let Some(list) = plan.lists.iter_mut().find(|list| list.name == LIST_NAMES[5]) {
@@ -174,7 +175,10 @@ pub fn choice_not_offered(plan: &mut Plan, random: &mut Random) {
 
 pub fn choice_redrawn(plan: &mut Plan, random: &mut Random) {
     let place = random.below(plan.draft.len());
-    let Some(draft) = plan.draft.get(place).cloned() else { return };
+    let draft = match plan.draft.get(place) {
+        Some(draft) => draft.clone(),
+        None => return,
+    };
     if draft.list.is_empty() {
         return;
     }
@@ -449,7 +453,10 @@ pub fn csv_number_changed(plan: &mut Plan, random: &mut Random) {
 
 pub fn second_of_other_travel(plan: &mut Plan, random: &mut Random) {
     let place = random.below(plan.draft.len());
-    let Some(draft) = plan.draft.get(place).cloned() else { return };
+    let draft = match plan.draft.get(place) {
+        Some(draft) => draft.clone(),
+        None => return,
+    };
     let travel = |entry: &str| parts(entry).get(1).cloned();
     let first = plan.solution.get(place).and_then(|leg| travel(&leg.nominal));
     let others: Vec<&String> = draft.list.iter().filter(|entry| travel(entry) != first).collect();
@@ -488,23 +495,27 @@ pub fn constraint_between(plan: &mut Plan, random: &mut Random, kind: usize, ine
     let arrival = random.one_in(2);
     for _ in 0..PAIRS_TRIED {
         let [a, b] = [0; 2].map(|_| random.below(plan.draft.len()));
-        let left: Vec<i64> = [&plan.solution, &plan.second]
-            .into_iter()
-            .filter_map(|rows| Some(slack(kind, inequality, arrival, Numbers::of(rows.get(a)?)?, Numbers::of(rows.get(b)?)?)))
-            .collect();
-        let [first, second] = left[..] else { return };
+        let left = |rows: &[PlanLeg]| {
+            Some(slack(kind, inequality, arrival, Numbers::of(rows.get(a)?)?, Numbers::of(rows.get(b)?)?))
+        };
+        let (first, second) = match (left(&plan.solution), left(&plan.second)) {
+            (Some(first), Some(second)) => (first, second),
+            _ => return,
+        };
         let (low, high) = match (kind, inequality) {
             (5, 2) => (0, first.min(second) - i64::from(first == second)),
             _ => (first.max(second) + i64::from(first == second), MOST_SECONDS),
         };
         if low >= 0 && high >= 0 {
-            let ids = (plan.draft[a].ids[0].clone(), plan.draft[b].ids[0].clone());
-            let added = constraint_record(kind, arrival, (&ids.0, &ids.1), low, high);
-            if let Some(list) = plan.lists.iter_mut().find(|list| list.name == LIST_NAMES[kind - 1]) {
-                list.records.push(added);
-            }
+            add_constraint(plan, kind, constraint_record(kind, arrival, (&plan.draft[a].ids[0], &plan.draft[b].ids[0]), low, high));
             return;
         }
+    }
+}
+
+fn add_constraint(plan: &mut Plan, kind: usize, added: Record) {
+    if let Some(list) = plan.lists.iter_mut().find(|list| list.name == LIST_NAMES[kind - 1]) {
+        list.records.push(added);
     }
 }
 

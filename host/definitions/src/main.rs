@@ -8,7 +8,7 @@ use cases::draw::for_target;
 use cases::random::Random;
 use cases::target::{targets, Target};
 use cases::Scale;
-use independent::{Answer, Case, Direction, Entry};
+use independent::{Answer, Call, Case, Entry, Lent, Said};
 use std::fmt::Write as _;
 use std::path::Path;
 use std::process::ExitCode;
@@ -17,6 +17,9 @@ const CASES_A_MODULE: usize = 10;
 
 /// Statements over longer horizons take the prover too long.
 const LONGEST_HORIZON: u32 = 2_000;
+
+/// Longer curves are too long to be written out.
+const LONGEST_CURVE: u32 = 100;
 
 const HEAD: &str = include_str!("head.txt");
 
@@ -77,7 +80,7 @@ fn drawn(seed: u64, number: usize) -> (Entry, Case) {
     }
 }
 
-/// The statements of one case; how many there are.
+/// The statements of one case; how many there are. Each says the answer and every lent room, whole.
 fn state(entry: Entry, case: &Case, number: usize, text: &mut String) -> usize {
     let [timetable, profiles, constraints, solution, second] = &case.texts;
     let (solution, second) = (bytes(solution), bytes(second));
@@ -92,24 +95,66 @@ fn state(entry: Entry, case: &Case, number: usize, text: &mut String) -> usize {
         let _ = write!(text, "{name}{number} : {left} ≡ {right}\nunfolding computed\n{name}{number} = refl\n\n");
         count += 1;
     };
-    claim("check", format!("checkSays (checked {input} {lent})"), numbers(case.check().answer));
+    let (said, left) = answered(Entry::Check, case);
+    claim("check", format!("checkSays (checked {input} {lent})"), [said, tables(&left)].concat());
     if entry != Entry::Check && case.h <= LONGEST_HORIZON {
-        let report = case.energy();
-        let f = report.figures;
-        let figures = vec![f.before, f.drawn, f.lost, f.fluctuation, f.peak_before, f.peak_drawn];
-        let left = format!("energySays (reported {input} {lent} (signedNines {}))", rooms.curves);
-        claim("energy", left, [numbers(report.answer), figures].concat());
+        let (said, left) = answered(Entry::Energy, case);
+        let report = format!("(reported {input} {lent} (signedNines {}))", rooms.curves);
+        claim("energy", format!("energySays {report}"), [said, tables(&left)].concat());
+        if case.h <= LONGEST_CURVE {
+            claim("curves", format!("curvesSay {report}"), left.curves.iter().map(|power| unsigned(*power)).collect());
+        }
     }
     if entry == Entry::MergeEarlier {
-        for (name, direction) in [("earlier", Direction::Earlier), ("later", Direction::Later)] {
-            let merged = case.merge(direction);
+        for (name, merge) in [("earlier", Entry::MergeEarlier), ("later", Entry::MergeLater)] {
+            let (said, left) = answered(merge, case);
             let rest = format!("(nines {}) (nines {})", rooms.second_choices, rooms.text);
-            let left = format!("mergeSays (merged {name} {input} {second} {lent} {rest})");
-            let written = merged.text.unwrap_or_default().into_iter().map(i64::from).collect();
-            claim(name, left, [numbers(merged.answer), written].concat());
+            let second_choices = left.second_choices.iter().map(|number| i64::from(*number)).collect();
+            let written = left.text.iter().map(|byte| i64::from(*byte)).collect();
+            let expected = [said, tables(&left), second_choices, written].concat();
+            claim(name, format!("mergeSays (merged {name} {input} {second} {lent} {rest})"), expected);
         }
     }
     count
+}
+
+/// What the independent program answers, and what it leaves in rooms full of nines.
+fn answered(entry: Entry, case: &Case) -> (Vec<i64>, Lent) {
+    let mut lent = Lent::full_of(9, &case.rooms);
+    let said = match Call::of(entry, case.clone()).run(&mut lent) {
+        Said::Checked(answer) | Said::Merged(answer, _) => numbers(answer),
+        Said::Reported(answer, f, _) => {
+            [numbers(answer), vec![f.before, f.drawn, f.lost, f.fluctuation, f.peak_before, f.peak_drawn]].concat()
+        }
+        Said::Row(..) => Vec::new(),
+    };
+    (said, lent)
+}
+
+/// The tables and the choices, one behind the other.
+fn tables(lent: &Lent) -> Vec<i64> {
+    let plain = |table: &[u32]| table.iter().map(|number| i64::from(*number)).collect::<Vec<i64>>();
+    let samples = lent.samples.iter().map(|sample| unsigned(*sample)).collect();
+    [
+        plain(&lent.legs),
+        plain(&lent.configurations),
+        plain(&lent.profiles),
+        samples,
+        plain(&lent.constraints),
+        plain(&lent.tracks),
+        plain(&lent.choices),
+    ]
+    .concat()
+}
+
+/// A signed number as `head.txt` says it.
+fn unsigned(number: i32) -> i64 {
+    let number = i64::from(number);
+    if number < 0 {
+        1_000_000_000_000 - 1 - number
+    } else {
+        number
+    }
 }
 
 /// The answer as `head.txt` says it: 0; 1 and the violation; 2 and the refusal.

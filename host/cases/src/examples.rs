@@ -53,10 +53,8 @@ fn verdicts() -> Vec<Named> {
 fn energies() -> Vec<Named> {
     let at_13 = offered_at_13();
     let mut two_subnets = at_13.clone();
-    two_subnets.lists[5].records = vec![
-        record(&[("subnet_id", "1"), ("track_ids", "[1]")]),
-        record(&[("subnet_id", "2"), ("track_ids", "[2]")]),
-    ];
+    two_subnets.lists[5].records =
+        vec![record(&[("subnet_id", "1"), ("track_ids", "[1]")]), record(&[("subnet_id", "2"), ("track_ids", "[2]")])];
     vec![
         named("nominal, its energies", Entry::Energy, &Plan::example()),
         named("no dwell, leg 2 offered at 13", Entry::Energy, &at_13),

@@ -122,8 +122,7 @@ mod tests {
 
     #[test]
     fn edges_lie_on_both_sides() {
-        let answers: Vec<Target> =
-            edges::edges().iter().map(|edge| Target::of(edge.call.case.check().answer)).collect();
+        let answers: Vec<Target> = edges::edges().iter().map(|edge| Target::of(edge.call.case.check().answer)).collect();
         assert!(answers.iter().filter(|answer| **answer == Target::Accepted).count() > 50);
         for number in [1, 5, 6, 16] {
             assert!(answers.iter().any(|answer| matches!(answer, Target::Refused { number: n, .. } if *n == number)));
@@ -191,13 +190,8 @@ mod tests {
                 assert_eq!(report.answer, Answer::Accepted);
                 report.curves.unwrap()
             };
-            let sums = |a: Vec<i32>, b: Vec<i32>| -> Vec<i32> {
-                a.iter().zip(&b).map(|(a, b)| a + b).collect()
-            };
-            assert_eq!(
-                sums(curves(&earlier), curves(&later)),
-                sums(curves(&case.texts[3]), curves(&case.texts[4]))
-            );
+            let sums = |a: Vec<i32>, b: Vec<i32>| -> Vec<i32> { a.iter().zip(&b).map(|(a, b)| a + b).collect() };
+            assert_eq!(sums(curves(&earlier), curves(&later)), sums(curves(&case.texts[3]), curves(&case.texts[4])));
             let mut absorbed = case.clone();
             absorbed.texts[4] = later;
             let again = absorbed.merge(Direction::Earlier);

@@ -109,20 +109,10 @@ impl Plan {
             nominal: nominal.to_string(),
             list: vec![nominal.to_string(), other.to_string()],
         };
-        let draft = vec![
-            row(["1", "1", "1", "1", "2"], "10_4_7", "15_4_7"),
-            row(["2", "1", "2", "2", "3"], "40_3_8", "45_3_8"),
-        ];
-        let profile = |id: &str, samples: &str| PlanProfile {
-            id: id.to_string(),
-            samples: samples.split(' ').map(String::from).collect(),
-        };
+        let draft = vec![row(["1", "1", "1", "1", "2"], "10_4_7", "15_4_7"), row(["2", "1", "2", "2", "3"], "40_3_8", "45_3_8")];
+        let profile = |id: &str, samples: &str| PlanProfile { id: id.to_string(), samples: samples.split(' ').map(String::from).collect() };
         let mut lists = empty_lists();
-        lists[2].records.push(record(&[
-            ("first_leg_id", "1"),
-            ("second_leg_id", "2"),
-            ("min_dwell_time", "20"),
-        ]));
+        lists[2].records.push(record(&[("first_leg_id", "1"), ("second_leg_id", "2"), ("min_dwell_time", "20")]));
         lists[5].records.push(record(&[("subnet_id", "1"), ("track_ids", "[1,2]")]));
         Plan {
             h: 100,
@@ -144,10 +134,8 @@ impl Plan {
         for arrival in [true, false] {
             plan.lists[4].records.push(constraint_record(5, arrival, ids, 20, 40));
         }
-        plan.lists[5].records = vec![
-            record(&[("subnet_id", "1"), ("track_ids", "[1]")]),
-            record(&[("subnet_id", "2"), ("track_ids", "[2,30]")]),
-        ];
+        plan.lists[5].records =
+            vec![record(&[("subnet_id", "1"), ("track_ids", "[1]")]), record(&[("subnet_id", "2"), ("track_ids", "[2,30]")])];
         plan
     }
 
@@ -204,8 +192,7 @@ impl Plan {
     fn rooms(&self, text: usize, more: usize, random: &mut Random) -> Rooms {
         let entries: usize = self.draft.iter().map(|leg| leg.list.len()).sum();
         let samples: usize = self.profiles.iter().map(|profile| profile.samples.len()).sum();
-        let constraints: usize =
-            self.lists.iter().filter(|list| list.name != LIST_NAMES[5]).map(|list| list.records.len()).sum();
+        let constraints: usize = self.lists.iter().filter(|list| list.name != LIST_NAMES[5]).map(|list| list.records.len()).sum();
         let mut more = || random.below(more + 1);
         Rooms {
             legs: 8 * self.draft.len() + more(),
@@ -228,10 +215,7 @@ impl Plan {
     /// How many tracks the subnets list.
     fn tracks(&self) -> usize {
         let values = self.lists.iter().flat_map(|list| list.records.iter().flatten());
-        values
-            .filter(|(name, value)| name == "track_ids" && value != "[]")
-            .map(|(_, value)| value.split(',').count())
-            .sum()
+        values.filter(|(name, value)| name == "track_ids" && value != "[]").map(|(_, value)| value.split(',').count()).sum()
     }
 
     fn profiles_text(&self) -> String {
@@ -267,8 +251,7 @@ pub fn record(members: &[(&str, &str)]) -> Record {
 }
 
 fn record_text(record: &Record) -> String {
-    let members: Vec<String> =
-        record.iter().map(|(name, value)| format!("\"{name}\":{value}")).collect();
+    let members: Vec<String> = record.iter().map(|(name, value)| format!("\"{name}\":{value}")).collect();
     format!("{{{}}}", members.join(","))
 }
 
@@ -311,8 +294,7 @@ fn drawn_plan(random: &mut Random, scale: Scale) -> Plan {
         base += random.below(12);
         let offer = drawn_offer(random, base, h, &profiles);
         draft.push(PlanLeg {
-            ids: [*id, random.between(1, 3), random.between(1, 3), random.below(4), random.below(4)]
-                .map(|number| number.to_string()),
+            ids: [*id, random.between(1, 3), random.between(1, 3), random.below(4), random.below(4)].map(|number| number.to_string()),
             nominal: random.pick(&offer).text(),
             list: offer.iter().map(|entry| entry.text()).collect(),
         });
@@ -331,14 +313,7 @@ fn drawn_plan(random: &mut Random, scale: Scale) -> Plan {
             random.shuffle(record);
         }
     }
-    Plan {
-        h,
-        solution: solution_of(random, &draft, &first),
-        second: solution_of(random, &draft, &second),
-        draft,
-        profiles,
-        lists,
-    }
+    Plan { h, solution: solution_of(random, &draft, &first), second: solution_of(random, &draft, &second), draft, profiles, lists }
 }
 
 /// Distinct leg ids in any order, now and then the greatest among them.
@@ -383,8 +358,7 @@ fn drawn_profiles(random: &mut Random) -> Vec<PlanProfile> {
     let mut ids = vec![0, 3, 7, 8, 12];
     random.shuffle(&mut ids);
     let values = [
-        "0.5", "1.0", "0.25", "-0.4", "0.3", "0.0", "-0.2", "-0.0", "2.5", "-1.25", "20.0", "-20.000", "0.001",
-        "19.999", "-0.05", "3.141",
+        "0.5", "1.0", "0.25", "-0.4", "0.3", "0.0", "-0.2", "-0.0", "2.5", "-1.25", "20.0", "-20.000", "0.001", "19.999", "-0.05", "3.141",
     ];
     let count = random.between(1, 4);
     ids.iter()
@@ -411,13 +385,7 @@ fn drawn_offer(random: &mut Random, base: usize, h: u32, profiles: &[PlanProfile
 }
 
 /// Up to four constraints of any kind, near the seconds that the choices leave.
-fn add_constraints(
-    random: &mut Random,
-    lists: &mut [PlanList],
-    draft: &[PlanLeg],
-    first: &[Numbers],
-    second: &[Numbers],
-) {
+fn add_constraints(random: &mut Random, lists: &mut [PlanList], draft: &[PlanLeg], first: &[Numbers], second: &[Numbers]) {
     if draft.is_empty() {
         return;
     }
@@ -493,11 +461,5 @@ fn drawn_subnets(random: &mut Random, draft: &[PlanLeg]) -> Vec<Record> {
     }
     let mut ids = vec!["1", "2", "0", "30"];
     random.shuffle(&mut ids);
-    subnets
-        .iter()
-        .zip(ids)
-        .map(|(tracks, id)| {
-            record(&[("subnet_id", id), ("track_ids", &format!("[{}]", tracks.join(",")))])
-        })
-        .collect()
+    subnets.iter().zip(ids).map(|(tracks, id)| record(&[("subnet_id", id), ("track_ids", &format!("[{}]", tracks.join(",")))])).collect()
 }

@@ -14,7 +14,7 @@ pub fn draw(random: &mut Random) -> Call {
     if random.one_in(2) {
         empty_line(&mut case, random);
     }
-    let file = *random.pick(&[1, 1, 1, 1, 1, 4, 4, 4, 4, 4, 0, 2, 3, 5, 6, 255]);
+    let file = *random.pick(&[1, 1, 1, 1, 1, 4, 4, 4, 4, 4, 0, 2, 3, 5, 255, 257, 260]);
     let text = if file == 4 { &case.texts[3] } else { &case.texts[0] };
     let place = place_near_a_row(random, text);
     Call { entry: Entry::Row, case, file, place }

@@ -11,8 +11,7 @@ pub enum Target {
 }
 
 /// Each kind with its inequalities; kind 0, a choice not offered, has inequality 0.
-pub const INEQUALITIES: [(u32, &[u32]); 6] =
-    [(0, &[0]), (1, &[1, 2]), (2, &[1]), (3, &[1]), (4, &[1]), (5, &[1, 2])];
+pub const INEQUALITIES: [(u32, &[u32]); 6] = [(0, &[0]), (1, &[1, 2]), (2, &[1]), (3, &[1]), (4, &[1]), (5, &[1, 2])];
 
 /// Each refusal number with the files that can give it in texts of up to 16 KiB. 2 is not among them.
 pub const FILES: [(u32, &[u32]); 16] = [

@@ -56,7 +56,7 @@ pub fn block(numbers: &[u64]) -> Vec<u8> {
 
 /// What stands where a call should.
 pub enum Read {
-    Call(Call),
+    Call(Box<Call>),
     /// A call that is read past.
     Skipped,
     /// No call: no block, or too few bytes behind it.
@@ -97,9 +97,9 @@ fn read_one(input: &[u8]) -> Option<(Read, &[u8])> {
             *rooms.number_mut(room) = *number as usize;
         }
         let texts = texts.try_into().expect("five lengths give five texts");
-        Call { entry, case: Case { h: numbers[1], texts, rooms }, file: numbers[2], place: numbers[3] }
+        Box::new(Call { entry, case: Case { h: numbers[1], texts, rooms }, file: numbers[2], place: numbers[3] })
     });
-    Some((call.filter(fits).map_or(Read::Skipped, Read::Call), rest))
+    Some((call.filter(|call| fits(call)).map_or(Read::Skipped, Read::Call), rest))
 }
 
 /// The first bytes and the rest, if there are so many.
@@ -136,7 +136,7 @@ mod tests {
         let read: Vec<Call> = read(&input)
             .into_iter()
             .map(|read| match read {
-                Read::Call(call) => call,
+                Read::Call(call) => *call,
                 _ => panic!("a call that was written is not read"),
             })
             .collect();

@@ -81,12 +81,7 @@ pub fn fixed(entries: &[Entry]) -> Vec<Named> {
     calls
 }
 
-fn compare_batch(
-    executor: &dyn Executor,
-    batch: &[Named],
-    plan: &Plan,
-    outcome: &Mutex<Outcome>,
-) -> Result<(), String> {
+fn compare_batch(executor: &dyn Executor, batch: &[Named], plan: &Plan, outcome: &Mutex<Outcome>) -> Result<(), String> {
     let calls: Vec<&Call> = batch.iter().map(|named| &named.call).collect();
     let mut coverage = Coverage::default();
     let mut expected = Vec::new();

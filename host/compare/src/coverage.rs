@@ -232,7 +232,8 @@ fn why_empty(number: u32, file: u32) -> Option<Why> {
 }
 
 /// Limits that small texts do not reach, within cells that other inputs fill.
-const LARGER: &str = "6 past 32,768 legs, 1,048,576 configurations or samples, 16,384 profiles, 65,536 constraints, 4,096 tracks wants texts past 16 KiB: \
+const LARGER: &str =
+    "6 past 32,768 legs, 1,048,576 configurations or samples, 16,384 profiles, 65,536 constraints, 4,096 tracks wants texts past 16 KiB: \
 host/independent's tests";
 
 impl fmt::Display for Coverage {

@@ -69,12 +69,7 @@ fn compared(executor: &dyn Executor, plan: &Plan) -> Result<String, String> {
 }
 
 fn plan(seed: &str, count: &str, rest: &[&str]) -> Result<Plan, String> {
-    Ok(Plan {
-        seed: number(seed)?,
-        count: number(count)? as usize,
-        entries: entries(rest)?,
-        folder: PathBuf::from("target/differences"),
-    })
+    Ok(Plan { seed: number(seed)?, count: number(count)? as usize, entries: entries(rest)?, folder: PathBuf::from("target/differences") })
 }
 
 fn entries(rest: &[&str]) -> Result<Vec<Entry>, String> {

@@ -18,8 +18,7 @@ pub enum Entry {
 }
 
 impl Entry {
-    pub const ALL: [Entry; 5] =
-        [Entry::Check, Entry::Energy, Entry::MergeEarlier, Entry::MergeLater, Entry::Row];
+    pub const ALL: [Entry; 5] = [Entry::Check, Entry::Energy, Entry::MergeEarlier, Entry::MergeLater, Entry::Row];
 
     pub fn name(self) -> &'static str {
         match self {

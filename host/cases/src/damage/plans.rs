@@ -25,8 +25,7 @@ fn some_leg<'a>(legs: &'a mut [PlanLeg], random: &mut Random) -> Option<&'a mut 
 
 /// One of the records of `constraints.json`, if there are any.
 fn some_record<'a>(plan: &'a mut Plan, random: &mut Random) -> Option<&'a mut Record> {
-    let mut records: Vec<&mut Record> =
-        plan.lists.iter_mut().flat_map(|list| list.records.iter_mut()).collect();
+    let mut records: Vec<&mut Record> = plan.lists.iter_mut().flat_map(|list| list.records.iter_mut()).collect();
     if records.is_empty() {
         return None;
     }
@@ -140,9 +139,7 @@ pub fn subnet_id_repeated(plan: &mut Plan, random: &mut Random) {
         if let Some(list) = plan.lists.iter_mut().find(|list| list.name == LIST_NAMES[5]) {
             list.records.push(record(&[("subnet_id", &id), ("track_ids", "[]")]));
         }
-    } else if let Some(value) =
-        some_record_with(plan, "subnet_id", random).and_then(|r| value_of(r, "subnet_id"))
-    {
+    } else if let Some(value) = some_record_with(plan, "subnet_id", random).and_then(|r| value_of(r, "subnet_id")) {
         *value = id;
     }
 }
@@ -226,9 +223,7 @@ pub fn track_unlisted(plan: &mut Plan, random: &mut Random) {
                 leg.ids[2] = String::from("6");
             }
         }
-    } else if let Some(value) =
-        some_record_with(plan, "track_ids", random).and_then(|r| value_of(r, "track_ids"))
-    {
+    } else if let Some(value) = some_record_with(plan, "track_ids", random).and_then(|r| value_of(r, "track_ids")) {
         *value = random.pick(&["[]", "[4]", "[1]", "[0,4]"]).to_string();
     }
 }
@@ -360,9 +355,7 @@ pub fn connection_type_changed(plan: &mut Plan, random: &mut Random) {
         "arrival_to_departure",
         "1",
     ];
-    if let Some(value) =
-        some_record_with(plan, "connection_type", random).and_then(|r| value_of(r, "connection_type"))
-    {
+    if let Some(value) = some_record_with(plan, "connection_type", random).and_then(|r| value_of(r, "connection_type")) {
         *value = random.pick(&types).to_string();
     }
 }
@@ -387,13 +380,7 @@ pub fn leg_id_unknown(plan: &mut Plan, random: &mut Random) {
 }
 
 pub fn seconds_changed(plan: &mut Plan, random: &mut Random) {
-    let keys = [
-        "min_headway_time",
-        "min_dwell_time",
-        "min_turnaround_time",
-        "min_connection_time",
-        "max_connection_time",
-    ];
+    let keys = ["min_headway_time", "min_dwell_time", "min_turnaround_time", "min_connection_time", "max_connection_time"];
     let key = *random.pick(&keys);
     if let Some(value) = some_record_with(plan, key, random).and_then(|r| value_of(r, key)) {
         let old: i64 = value.parse().unwrap_or(0);
@@ -408,21 +395,9 @@ pub fn seconds_changed(plan: &mut Plan, random: &mut Random) {
 }
 
 pub fn csv_number_changed(plan: &mut Plan, random: &mut Random) {
-    const NUMBERS: [&str; 9] = [
-        "0",
-        "1",
-        "00",
-        "01",
-        "3600",
-        "3601",
-        "999999999",
-        "1000000000",
-        "184467440737095516160",
-    ];
-    const SAMPLES: [&str; 14] = [
-        "20.000", "20.001", "-20.001", "-20.0", "0.5000", "5", ".5", "5.", "+1.0", "00.5", "1e3", "100000000000000.0",
-        "-0.0", "--1.0",
-    ];
+    const NUMBERS: [&str; 9] = ["0", "1", "00", "01", "3600", "3601", "999999999", "1000000000", "184467440737095516160"];
+    const SAMPLES: [&str; 14] =
+        ["20.000", "20.001", "-20.001", "-20.0", "0.5000", "5", ".5", "5.", "+1.0", "00.5", "1e3", "100000000000000.0", "-0.0", "--1.0"];
     if random.one_in(4) {
         let place = random.below(plan.profiles.len());
         if let Some(profile) = plan.profiles.get_mut(place) {
@@ -444,8 +419,7 @@ pub fn csv_number_changed(plan: &mut Plan, random: &mut Random) {
         } else {
             replace_entry(leg, random, &|numbers, random| {
                 let place = random.below(3);
-                numbers[place] =
-                    if random.one_in(3) { h.clone() } else { random.pick(&NUMBERS).to_string() };
+                numbers[place] = if random.one_in(3) { h.clone() } else { random.pick(&NUMBERS).to_string() };
             });
         }
     }
@@ -495,9 +469,7 @@ pub fn constraint_between(plan: &mut Plan, random: &mut Random, kind: usize, ine
     let arrival = random.one_in(2);
     for _ in 0..PAIRS_TRIED {
         let [a, b] = [0; 2].map(|_| random.below(plan.draft.len()));
-        let left = |rows: &[PlanLeg]| {
-            Some(slack(kind, inequality, arrival, Numbers::of(rows.get(a)?)?, Numbers::of(rows.get(b)?)?))
-        };
+        let left = |rows: &[PlanLeg]| Some(slack(kind, inequality, arrival, Numbers::of(rows.get(a)?)?, Numbers::of(rows.get(b)?)?));
         let (first, second) = match (left(&plan.solution), left(&plan.second)) {
             (Some(first), Some(second)) => (first, second),
             _ => return,

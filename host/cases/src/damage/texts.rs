@@ -127,13 +127,9 @@ pub fn header_changed(case: &mut Case, random: &mut Random) {
 pub fn white_space_changed(case: &mut Case, random: &mut Random) {
     let text = &mut case.texts[2];
     for _ in 0..random.between(1, 4) {
-        let places: Vec<usize> =
-            (0..text.len()).filter(|place| b"{}[]:,".contains(&text[*place])).collect();
-        let place = if places.is_empty() || random.one_in(6) {
-            random.below(text.len() + 1)
-        } else {
-            *random.pick(&places) + random.below(2)
-        };
+        let places: Vec<usize> = (0..text.len()).filter(|place| b"{}[]:,".contains(&text[*place])).collect();
+        let place =
+            if places.is_empty() || random.one_in(6) { random.below(text.len() + 1) } else { *random.pick(&places) + random.below(2) };
         text.insert(place, *random.pick(b"  \t\n\r\x0b\x0c"));
     }
 }
@@ -160,9 +156,7 @@ pub fn string_spoiled(case: &mut Case, random: &mut Random) {
 
 pub fn digits_changed(case: &mut Case, random: &mut Random) {
     let text = some_text(case, random);
-    let starts: Vec<usize> = (0..text.len())
-        .filter(|p| text[*p].is_ascii_digit() && (*p == 0 || !text[*p - 1].is_ascii_digit()))
-        .collect();
+    let starts: Vec<usize> = (0..text.len()).filter(|p| text[*p].is_ascii_digit() && (*p == 0 || !text[*p - 1].is_ascii_digit())).collect();
     if starts.is_empty() {
         return;
     }

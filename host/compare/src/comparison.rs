@@ -97,8 +97,7 @@ fn compare_batch(executor: &dyn Executor, batch: &[Named], plan: &Plan, outcome:
     outcome.coverage.add(&coverage);
     for difference in differences {
         let number = outcome.differences.len();
-        let told = told(&difference, plan, number)?;
-        outcome.differences.push(told);
+        outcome.differences.push(in_words(&difference, plan, number)?);
     }
     Ok(())
 }
@@ -116,7 +115,7 @@ fn differences(batch: &[Named], expected: Vec<String>, given: Vec<String>) -> Ve
 }
 
 /// The difference in words; the first ones are saved.
-fn told(difference: &Difference, plan: &Plan, number: usize) -> Result<String, String> {
+fn in_words(difference: &Difference, plan: &Plan, number: usize) -> Result<String, String> {
     let Difference { named, expected, given } = difference;
     let mut told = format!("{}, {}\n  expected {expected}\n  given    {given}", named.call.entry.name(), named.name);
     if number < MOST_TOLD {
@@ -127,8 +126,17 @@ fn told(difference: &Difference, plan: &Plan, number: usize) -> Result<String, S
     Ok(told)
 }
 
-/// The first differences in words, and how many there are.
-pub fn summary(differences: &[String]) -> String {
-    let told: Vec<&str> = differences.iter().take(MOST_TOLD).map(String::as_str).collect();
-    format!("{}\n{} lines differ", told.join("\n"), differences.len())
+/// The comparison in words: how often each answer was met, and that nothing differs and no cell is empty; else what is wrong.
+pub fn told(executor: &dyn Executor, plan: &Plan) -> Result<String, String> {
+    let outcome = compare(executor, plan)?;
+    let told = format!("{}{} calls compared", outcome.coverage, outcome.calls);
+    let empty = outcome.coverage.empty_cells(&plan.entries);
+    if !outcome.differences.is_empty() {
+        let first: Vec<&str> = outcome.differences.iter().take(MOST_TOLD).map(String::as_str).collect();
+        return Err(format!("{told}\n{}\n{} lines differ", first.join("\n"), outcome.differences.len()));
+    }
+    if !empty.is_empty() {
+        return Err(format!("{told}\nno call met: {}", empty.join("; ")));
+    }
+    Ok(format!("{told}, no difference, no empty cell\n"))
 }

@@ -1,7 +1,8 @@
 //! What runs calls: the program `replay`, or anything else that answers a call by a line.
 
 use crate::block::written;
-use crate::expected::{full_line, LABEL};
+use crate::expected::full_line;
+use crate::lines::LABEL;
 use independent::Call;
 use std::io::Write;
 use std::process::{Command, Stdio};

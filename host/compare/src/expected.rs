@@ -1,19 +1,8 @@
 //! The line that a call is expected to give, from the independent program alone.
 
 use crate::block::{self, Read};
-use independent::{Answer, Call, Desk, Entry, Figures, Lent, Said};
-
-/// The first line of every run.
-pub const LABEL: &str = "no violation shown is not no violation";
-
-/// The line of a call that is not run.
-pub const SKIPPED: &str = "skipped";
-
-/// Every lent room is full of this number before a call.
-const BEFORE: u8 = 7;
-
-/// What is said of input that is no call.
-pub const BAD: &str = "replay: bad case";
+use crate::lines::{self, BAD, BEFORE, LABEL, SKIPPED};
+use independent::{Call, Entry, Lent, Said};
 
 /// The whole output for an input, where these entries are offered.
 pub fn output(input: &[u8], offered: &[Entry]) -> String {
@@ -42,48 +31,8 @@ pub fn line(call: &Call, offered: &[Entry]) -> String {
 pub fn full_line(call: &Call) -> (Said, String) {
     let mut lent = Lent::full_of(BEFORE, &call.case.rooms);
     let said = call.run(&mut lent);
-    let digests: Vec<String> = digests(&lent).iter().map(u32::to_string).collect();
-    (said, format!("{} | {}", words(call, &said), digests.join(" ")))
-}
-
-fn words(call: &Call, said: &Said) -> String {
-    match said {
-        Said::Checked(answer) => answer.line(),
-        Said::Reported(Answer::Accepted, figures, desk) => format!("accepted {}", reported(figures, desk)),
-        Said::Merged(Answer::Accepted, length) => format!("accepted {length}"),
-        Said::Reported(answer, ..) | Said::Merged(answer, _) => answer.line(),
-        Said::Row(_, length) => format!("row {length} {}", digest(call.row_bytes().iter().map(|byte| u32::from(*byte)))),
-    }
-}
-
-/// The six figures, and the bits of the four doubles.
-fn reported(figures: &Figures, desk: &Desk) -> String {
-    let Figures { before, drawn, lost, fluctuation, peak_before, peak_drawn } = figures;
-    let doubles = [desk.before, desk.drawn, desk.lost, desk.peak].map(|double| format!("{:016x}", double.to_bits()));
-    format!("{before} {drawn} {lost} {fluctuation} {peak_before} {peak_drawn} {}", doubles.join(" "))
-}
-
-/// The digests of the ten rooms in their order.
-fn digests(lent: &Lent) -> [u32; 10] {
-    let unsigned = |room: &[u32]| digest(room.iter().copied());
-    let signed = |room: &[i32]| digest(room.iter().map(|number| *number as u32));
-    [
-        unsigned(&lent.legs),
-        unsigned(&lent.configurations),
-        unsigned(&lent.profiles),
-        signed(&lent.samples),
-        unsigned(&lent.constraints),
-        unsigned(&lent.tracks),
-        unsigned(&lent.choices),
-        unsigned(&lent.second_choices),
-        signed(&lent.curves),
-        digest(lent.text.iter().map(|byte| u32::from(*byte))),
-    ]
-}
-
-/// d = 0, then d = (d × 31 + the number) mod 2^32.
-fn digest(numbers: impl Iterator<Item = u32>) -> u32 {
-    numbers.fold(0, |digest: u32, number| digest.wrapping_mul(31).wrapping_add(number))
+    let row = if call.entry == Entry::Row { call.row_bytes() } else { &[] };
+    (said, lines::line(&said, row, &lent))
 }
 
 #[cfg(test)]
@@ -98,13 +47,6 @@ mod tests {
 
     fn answer_of(name: &str) -> String {
         line_of(name).split(" | ").next().unwrap_or_default().to_string()
-    }
-
-    #[test]
-    fn a_digest_by_hand() {
-        assert_eq!(digest([].into_iter()), 0);
-        assert_eq!(digest([1, 2].into_iter()), 33);
-        assert_eq!(digest([u32::MAX, 1].into_iter()), 4_294_967_266);
     }
 
     #[test]
@@ -126,15 +68,5 @@ mod tests {
         assert_eq!(answer_of("track 2 in no subnet"), "refused 15 1 145");
         assert!(answer_of("the row of that refusal").starts_with("row 30 "));
         assert_eq!(answer_of("headers with no rows"), "accepted");
-    }
-
-    #[test]
-    fn rooms_that_an_entry_is_not_given_stay_as_they_were() {
-        let named = worked().remove(0);
-        let before = digests(&Lent::full_of(BEFORE, &named.call.case.rooms));
-        let mut lent = Lent::full_of(BEFORE, &named.call.case.rooms);
-        named.call.run(&mut lent);
-        assert_eq!(digests(&lent)[7..], before[7..]);
-        assert!(digests(&lent)[..7].iter().zip(&before[..7]).all(|(after, before)| after != before));
     }
 }

@@ -2,7 +2,8 @@
 //! timetable files. Each solution, and the draft as one, is checked and its energies reckoned; each is merged with the one before it.
 
 use crate::executor::Executor;
-use crate::expected::{full_line, SKIPPED};
+use crate::expected::full_line;
+use crate::lines::SKIPPED;
 use independent::{Call, Case, Direction, Entry, Rooms};
 use std::path::{Path, PathBuf};
 

@@ -2,7 +2,8 @@
 
 use crate::block::{block, written, NUMBERS};
 use crate::executor::Replay;
-use crate::expected::{line, BAD, LABEL};
+use crate::expected::line;
+use crate::lines::{BAD, LABEL};
 use independent::{Call, Entry};
 
 /// Each way to spoil the second of two calls must give the first call's line, then that it is bad.

@@ -7,5 +7,6 @@ pub mod executor;
 pub mod expected;
 pub mod folder;
 pub mod input;
+pub mod lines;
 pub mod saved;
 pub mod stored;

@@ -1,7 +1,7 @@
 //! The comparison of the proved programs with the independent one.
 
 use compare::comparison::{self, Plan};
-use compare::executor::{Executor, Nobody, Replay};
+use compare::executor::{Nobody, Replay};
 use compare::{expected, folder, input, stored};
 use independent::Entry;
 use std::io::Read;
@@ -37,11 +37,11 @@ fn run(words: &[String]) -> Result<String, String> {
     match words[..] {
         ["replay", seed, count, ref rest @ ..] => {
             let plan = plan(seed, count, rest)?;
-            let told = compared(&replay, &plan)?;
+            let told = comparison::told(&replay, &plan)?;
             input::compare(&replay)?;
             Ok(told)
         }
-        ["cover", seed, count, ref rest @ ..] => compared(&Nobody, &plan(seed, count, rest)?),
+        ["cover", seed, count, ref rest @ ..] => comparison::told(&Nobody, &plan(seed, count, rest)?),
         ["stored", dir, ref rest @ ..] => stored::write(Path::new(dir), &entries(rest)?),
         ["answers", ref rest @ ..] => answers(&entries(rest)?),
         ["folder", dir, horizon] => folder::compare(Path::new(dir), number(horizon)? as u32, &replay),
@@ -53,19 +53,6 @@ fn answers(offered: &[Entry]) -> Result<String, String> {
     let mut input = Vec::new();
     std::io::stdin().read_to_end(&mut input).map_err(|e| e.to_string())?;
     Ok(expected::output(&input, offered))
-}
-
-fn compared(executor: &dyn Executor, plan: &Plan) -> Result<String, String> {
-    let outcome = comparison::compare(executor, plan)?;
-    let told = format!("{}{} calls compared", outcome.coverage, outcome.calls);
-    let empty = outcome.coverage.empty_cells(&plan.entries);
-    if !outcome.differences.is_empty() {
-        return Err(format!("{told}\n{}", comparison::summary(&outcome.differences)));
-    }
-    if !empty.is_empty() {
-        return Err(format!("{told}\nno call met: {}", empty.join("; ")));
-    }
-    Ok(format!("{told}, no difference, no empty cell\n"))
 }
 
 fn plan(seed: &str, count: &str, rest: &[&str]) -> Result<Plan, String> {

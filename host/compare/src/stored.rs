@@ -82,7 +82,8 @@ fn skipped(call: &Call) -> Vec<Vec<u8>> {
 mod tests {
     use super::*;
     use crate::block::{read, Read};
-    use crate::expected::{line, SKIPPED};
+    use crate::expected::line;
+    use crate::lines::SKIPPED;
 
     #[test]
     fn every_target_of_the_spread_is_there() {

@@ -8,7 +8,7 @@ use cases::draw::for_target;
 use cases::random::Random;
 use cases::target::{targets, Target};
 use cases::Scale;
-use independent::{Answer, Call, Case, Entry, Lent, Said};
+use independent::{Call, Case, Entry, Lent, Said};
 use std::fmt::Write as _;
 use std::path::Path;
 use std::process::ExitCode;
@@ -122,9 +122,9 @@ fn state(entry: Entry, case: &Case, number: usize, text: &mut String) -> usize {
 fn answered(entry: Entry, case: &Case) -> (Vec<i64>, Lent) {
     let mut lent = Lent::full_of(9, &case.rooms);
     let said = match Call::of(entry, case.clone()).run(&mut lent) {
-        Said::Checked(answer) | Said::Merged(answer, _) => numbers(answer),
+        Said::Checked(answer) | Said::Merged(answer, _) => answer.numbers(),
         Said::Reported(answer, f, _) => {
-            [numbers(answer), vec![f.before, f.drawn, f.lost, f.fluctuation, f.peak_before, f.peak_drawn]].concat()
+            [answer.numbers(), vec![f.before, f.drawn, f.lost, f.fluctuation, f.peak_before, f.peak_drawn]].concat()
         }
         Said::Row(..) => Vec::new(),
     };
@@ -154,17 +154,6 @@ fn unsigned(number: i32) -> i64 {
         1_000_000_000_000 - 1 - number
     } else {
         number
-    }
-}
-
-/// The answer as `head.txt` says it: 0; 1 and the violation; 2 and the refusal.
-fn numbers(answer: Answer) -> Vec<i64> {
-    match answer {
-        Answer::Accepted => vec![0],
-        Answer::Violated { kind, position, inequality, shortfall, file } => {
-            vec![1, i64::from(kind), position as i64, i64::from(inequality), shortfall, i64::from(file)]
-        }
-        Answer::Refused { number, file, place } => vec![2, i64::from(number), i64::from(file), place as i64],
     }
 }
 

@@ -111,6 +111,24 @@ impl From<Refusal> for Answer {
 }
 
 impl Answer {
+    /// The answer as a list of numbers: 0; 1 and the violation; 2 and the refusal.
+    pub fn numbers(&self) -> Vec<i64> {
+        match *self {
+            Answer::Accepted => vec![0],
+            Answer::Violated { kind, position, inequality, shortfall, file } => vec![
+                1,
+                i64::from(kind),
+                position as i64,
+                i64::from(inequality),
+                shortfall,
+                i64::from(file),
+            ],
+            Answer::Refused { number, file, place } => {
+                vec![2, i64::from(number), i64::from(file), place as i64]
+            }
+        }
+    }
+
     /// The answer as one line of words.
     pub fn line(&self) -> String {
         match *self {

@@ -57,8 +57,8 @@ pub fn block(numbers: &[u64]) -> Vec<u8> {
 /// What stands where a call should.
 pub enum Read {
     Call(Box<Call>),
-    /// A call that is read past.
-    Skipped,
+    /// A call of an entry, an edition or a rule set that is not there.
+    Unknown,
     /// No call: no block, or too few bytes behind it.
     Bad,
 }
@@ -99,7 +99,7 @@ fn read_one(input: &[u8]) -> Option<(Read, &[u8])> {
         let texts = texts.try_into().expect("five lengths give five texts");
         Box::new(Call { entry, case: Case { h: numbers[1], texts, rooms }, file: numbers[2], place: numbers[3] })
     });
-    Some((call.filter(|call| fits(call)).map_or(Read::Skipped, Read::Call), rest))
+    Some((call.map_or(Read::Unknown, Read::Call), rest))
 }
 
 /// The first bytes and the rest, if there are so many.

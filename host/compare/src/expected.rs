@@ -10,7 +10,7 @@ pub fn output(input: &[u8], offered: &[Entry]) -> String {
     for read in block::read(input) {
         match read {
             Read::Call(call) => output.push_str(&line(&call, offered)),
-            Read::Skipped => output.push_str(SKIPPED),
+            Read::Unknown => output.push_str(SKIPPED),
             Read::Bad => output.push_str(BAD),
         }
         output.push('\n');

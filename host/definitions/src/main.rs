@@ -4,18 +4,22 @@
 //!
 //! `definitions SEED COUNT DIR` writes `DIR/Lib.antt` and a module for each ten cases.
 
-use std::collections::HashMap;
+use cases::draw::for_target;
+use cases::random::Random;
+use cases::target::{targets, Target};
+use cases::Scale;
+use independent::{Call, Case, Entry, Lent, Said};
 use std::fmt::Write as _;
 use std::path::Path;
 use std::process::ExitCode;
 
-/// A case's fields: each a number or a list of numbers.
-type Fields = HashMap<String, Vec<i64>>;
-
 const CASES_A_MODULE: usize = 10;
 
 /// Statements over longer horizons take the prover too long.
-const LONGEST_HORIZON: i64 = 2_000;
+const LONGEST_HORIZON: u32 = 2_000;
+
+/// Longer curves are too long to be written out.
+const LONGEST_CURVE: u32 = 100;
 
 const HEAD: &str = include_str!("head.txt");
 
@@ -34,18 +38,19 @@ fn main() -> ExitCode {
 }
 
 fn run(words: &[String]) -> Result<String, String> {
-    let [seed, count, dir] = words else {
-        return Err("definitions SEED COUNT DIR".into());
+    let (seed, count, dir) = match words {
+        [seed, count, dir] => (seed, count, dir),
+        _ => return Err("definitions SEED COUNT DIR".into()),
     };
     let seed = seed.parse().map_err(|_| format!("no seed: {seed}"))?;
     let count = count.parse().map_err(|_| format!("no count: {count}"))?;
-    let cases = cases(seed, count)?;
+    let cases: Vec<(Entry, Case)> = (0..count).map(|number| drawn(seed, number)).collect();
     let mut statements = 0;
     let mut modules = String::new();
     for (number, group) in cases.chunks(CASES_A_MODULE).enumerate() {
         let mut text = String::from(HEAD);
-        for (place, case) in group.iter().enumerate() {
-            statements += state(case, number * CASES_A_MODULE + place, &mut text);
+        for (place, (entry, case)) in group.iter().enumerate() {
+            statements += state(*entry, case, number * CASES_A_MODULE + place, &mut text);
         }
         write(dir, &format!("Cases{number}.antt"), &text)?;
         let _ = writeln!(modules, "pub mod Cases{number}");
@@ -58,69 +63,103 @@ fn write(dir: &str, name: &str, text: &str) -> Result<(), String> {
     std::fs::write(Path::new(dir).join(name), text).map_err(|e| format!("{name}: {e}"))
 }
 
-/// The independent program's cases, read back from the lines that it prints.
-fn cases(seed: u64, count: usize) -> Result<Vec<Fields>, String> {
-    let mut lines = Vec::new();
-    independent::cases::print(seed, count, &mut lines).map_err(|e| e.to_string())?;
-    let text = String::from_utf8(lines).map_err(|e| e.to_string())?;
-    text.lines().map(fields).collect()
-}
-
-/// `{"name":[1,2],"other":3}`
-fn fields(line: &str) -> Result<Fields, String> {
-    let mut found = Fields::new();
-    let mut rest = line.trim_start_matches('{').trim_end_matches('}');
-    while let Some(start) = rest.find('"') {
-        let end = start + 1 + rest[start + 1..].find('"').ok_or("a name without its quote")?;
-        let name = rest[start + 1..end].to_string();
-        let value = &rest[end + 2..];
-        let stop = if value.starts_with('[') { value.find(']') } else { value.find(',') };
-        let stop = stop.unwrap_or(value.len());
-        found.insert(name, numbers(&value[..stop])?);
-        rest = &value[stop..];
-    }
-    Ok(found)
-}
-
-fn numbers(list: &str) -> Result<Vec<i64>, String> {
-    list.trim_start_matches('[')
-        .split(',')
-        .filter(|word| !word.is_empty())
-        .map(|word| word.parse().map_err(|_| format!("no number: {word}")))
-        .collect()
-}
-
-/// The statements of one case; how many there are.
-fn state(case: &Fields, number: usize, text: &mut String) -> usize {
-    let list = |name: &str| spelled(&case[name]);
-    let rooms = &case["rooms"];
-    let horizon = case["h"][0];
-    let texts = format!("(texts {} {} {})", list("timetable"), list("profiles"), list("constraints"));
-    let six: Vec<String> = rooms[..6].iter().map(i64::to_string).collect();
-    let input = format!("{horizon} {texts} {}", list("solution"));
-    let lent = format!("(lent {}) (nines {})", six.join(" "), rooms[6]);
-    let mut claim = |name: String, left: String, right: String| {
-        let _ = write!(text, "{name} : {left} ≡ {right}\nunfolding computed\n{name} = refl\n\n");
+/// The case of a number: of each ten one is a merge, with its energies too, and one an energy.
+fn drawn(seed: u64, number: usize) -> (Entry, Case) {
+    let entry = match number % CASES_A_MODULE {
+        9 => Entry::MergeEarlier,
+        4 => Entry::Energy,
+        _ => Entry::Check,
     };
-    claim(format!("check{number}"), format!("checkSays (checked {input} {lent})"), list("answer"));
-    let mut count = 1;
-    if case.contains_key("energy") && horizon <= LONGEST_HORIZON {
-        let report = format!("energySays (reported {input} {lent} (signedNines {}))", rooms[8]);
-        let expected = [case["energy_answer"].clone(), case["energy"].clone()].concat();
-        claim(format!("energy{number}"), report, spelled(&expected));
-        count += 1;
+    let mut random = Random::of(seed, number as u64);
+    let targets = targets(entry);
+    loop {
+        let target = if entry == Entry::Energy { Target::Accepted } else { *random.pick(&targets) };
+        if let Some(case) = for_target(&mut random, entry, target, Scale::Tiny) {
+            return (entry, case);
+        }
     }
-    if case.contains_key("second") {
-        for merge in ["earlier", "later"] {
-            let solutions = format!("{} {}", list("solution"), list("second"));
-            let rest = format!("(nines {}) (nines {})", rooms[7], rooms[9]);
-            let merged = format!("mergeSays (merged {merge} {horizon} {texts} {solutions} {lent} {rest})");
-            let expected = [case[&format!("{merge}_answer")].clone(), case[&format!("{merge}_text")].clone()].concat();
-            claim(format!("{merge}{number}"), merged, spelled(&expected));
-            count += 1;
+}
+
+/// The statements of one case; how many there are. Each says the answer and every lent room, whole.
+fn state(entry: Entry, case: &Case, number: usize, text: &mut String) -> usize {
+    let [timetable, profiles, constraints, solution, second] = &case.texts;
+    let (solution, second) = (bytes(solution), bytes(second));
+    let texts = format!("(texts {} {} {})", bytes(timetable), bytes(profiles), bytes(constraints));
+    let rooms = case.rooms;
+    let six: Vec<String> = rooms.numbers()[..6].iter().map(usize::to_string).collect();
+    let input = format!("{} {texts} {solution}", case.h);
+    let lent = format!("(lent {}) (nines {})", six.join(" "), rooms.choices);
+    let mut count = 0;
+    let mut claim = |name: &str, left: String, right: Vec<i64>| {
+        let right = spelled(&right);
+        let _ = write!(text, "{name}{number} : {left} ≡ {right}\nunfolding computed\n{name}{number} = refl\n\n");
+        count += 1;
+    };
+    let (said, left) = answered(Entry::Check, case);
+    claim("check", format!("checkSays (checked {input} {lent})"), [said, tables(&left)].concat());
+    if entry != Entry::Check && case.h <= LONGEST_HORIZON {
+        let (said, left) = answered(Entry::Energy, case);
+        let report = format!("(reported {input} {lent} (signedNines {}))", rooms.curves);
+        claim("energy", format!("energySays {report}"), [said, tables(&left)].concat());
+        if case.h <= LONGEST_CURVE {
+            claim("curves", format!("curvesSay {report}"), left.curves.iter().map(|power| unsigned(*power)).collect());
+        }
+    }
+    if entry == Entry::MergeEarlier {
+        for (name, merge) in [("earlier", Entry::MergeEarlier), ("later", Entry::MergeLater)] {
+            let (said, left) = answered(merge, case);
+            let rest = format!("(nines {}) (nines {})", rooms.second_choices, rooms.text);
+            let second_choices = left.second_choices.iter().map(|number| i64::from(*number)).collect();
+            let written = left.text.iter().map(|byte| i64::from(*byte)).collect();
+            let expected = [said, tables(&left), second_choices, written].concat();
+            claim(name, format!("mergeSays (merged {name} {input} {second} {lent} {rest})"), expected);
         }
     }
     count
+}
+
+/// What the independent program answers, and what it leaves in rooms full of nines.
+fn answered(entry: Entry, case: &Case) -> (Vec<i64>, Lent) {
+    let mut lent = Lent::full_of(9, &case.rooms);
+    let said = match Call::of(entry, case.clone()).run(&mut lent) {
+        Said::Checked(answer) | Said::Merged(answer, _) => answer.numbers(),
+        Said::Reported(answer, f, _) => {
+            [answer.numbers(), vec![f.before, f.drawn, f.lost, f.fluctuation, f.peak_before, f.peak_drawn]].concat()
+        }
+        Said::Row(..) => Vec::new(),
+    };
+    (said, lent)
+}
+
+/// The tables and the choices, one behind the other.
+fn tables(lent: &Lent) -> Vec<i64> {
+    let plain = |table: &[u32]| table.iter().map(|number| i64::from(*number)).collect::<Vec<i64>>();
+    let samples = lent.samples.iter().map(|sample| unsigned(*sample)).collect();
+    [
+        plain(&lent.legs),
+        plain(&lent.configurations),
+        plain(&lent.profiles),
+        samples,
+        plain(&lent.constraints),
+        plain(&lent.tracks),
+        plain(&lent.choices),
+    ]
+    .concat()
+}
+
+/// A signed number as `head.txt` says it.
+fn unsigned(number: i32) -> i64 {
+    let number = i64::from(number);
+    if number < 0 {
+        1_000_000_000_000 - 1 - number
+    } else {
+        number
+    }
+}
+
+fn bytes(text: &[u8]) -> String {
+    let list: Vec<i64> = text.iter().map(|byte| i64::from(*byte)).collect();
+    spelled(&list)
 }
 
 /// A list in the prover's words; a text that can be written as one is.

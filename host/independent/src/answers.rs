@@ -51,6 +51,23 @@ impl Rooms {
             self.text,
         ]
     }
+
+    /// One of the ten numbers, by its place in that order.
+    pub fn number_mut(&mut self, place: usize) -> &mut usize {
+        let rooms = [
+            &mut self.legs,
+            &mut self.configurations,
+            &mut self.profiles,
+            &mut self.samples,
+            &mut self.constraints,
+            &mut self.tracks,
+            &mut self.choices,
+            &mut self.second_choices,
+            &mut self.curves,
+            &mut self.text,
+        ];
+        rooms.into_iter().nth(place).expect("there are ten rooms")
+    }
 }
 
 /// "A refusal carries number, file (1 timetable, 2 profiles, 3 constraints, 4 solution, 5 second

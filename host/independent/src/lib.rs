@@ -5,11 +5,12 @@
 //! with the proved checker it is compared with. Comments quote the sentence they follow.
 
 pub mod answers;
-pub mod cases;
 pub mod constraints;
 pub mod display;
 pub mod energy;
+pub mod entries;
 pub mod files;
+pub mod lent;
 pub mod merge;
 pub mod numbers;
 pub mod profiles;
@@ -22,6 +23,8 @@ pub mod verdict;
 pub use answers::{Answer, Checked, Refusal, Rooms};
 pub use display::row_at;
 pub use energy::{energy, Desk, Figures, Report};
+pub use entries::{Call, Case, Entry, Said};
+pub use lent::Lent;
 pub use merge::{merge, Direction, Merged};
 pub use tables::Tables;
 pub use verdict::check;

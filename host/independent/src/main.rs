@@ -1,13 +1,12 @@
-//! The command: runs the library on files, or prints seeded cases for comparison.
+//! The command: runs the library on files.
 
-use independent::{cases, check, energy, merge, Answer, Direction, Rooms};
+use independent::{check, energy, merge, Answer, Direction, Rooms};
 use std::io::Write;
 use std::process::ExitCode;
 
 const USAGE: &str = "independent check H T P C S
 independent energy H T P C S
-independent merge earlier|later H T P C A B
-independent cases SEED COUNT";
+independent merge earlier|later H T P C A B";
 
 fn main() -> ExitCode {
     let arguments: Vec<String> = std::env::args().skip(1).collect();
@@ -69,14 +68,6 @@ fn run(words: &[&str]) -> Result<Vec<u8>, String> {
                 merge(direction, h, &t[0], &t[1], &t[2], &t[3], &t[4], &ample_rooms());
             let mut output = line(&merged.answer);
             output.extend(merged.text.unwrap_or_default());
-            Ok(output)
-        }
-        ["cases", seed, count] => {
-            let seed = seed.parse::<u64>().map_err(|_| String::from(USAGE))?;
-            let count = count.parse::<usize>().map_err(|_| String::from(USAGE))?;
-            let mut output = Vec::new();
-            let tally = cases::print(seed, count, &mut output).map_err(|e| e.to_string())?;
-            eprint!("{tally}");
             Ok(output)
         }
         _ => Err(String::from(USAGE)),

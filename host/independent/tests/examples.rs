@@ -279,17 +279,3 @@ fn a_header_with_no_rows_is_legal() {
     assert_eq!(report.figures, Figures::default());
     assert_eq!(empty.merged(Direction::Later).text, Some(timetable(&[])));
 }
-
-#[test]
-fn seeded_cases_repeat_and_spread() {
-    let mut first = Vec::new();
-    let mut again = Vec::new();
-    let tally = independent::cases::print(7, 400, &mut first).unwrap();
-    independent::cases::print(7, 400, &mut again).unwrap();
-    assert_eq!(first, again);
-    assert!(tally.checks().len() >= 22, "{tally}");
-    assert!(tally.merges().contains_key("accepted"), "{tally}");
-    for line in String::from_utf8(first).unwrap().lines() {
-        assert!(line.starts_with("{\"h\":") && line.ends_with('}'));
-    }
-}

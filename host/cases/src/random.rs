@@ -17,6 +17,11 @@ impl Random {
         random
     }
 
+    /// The stream of a number under a seed.
+    pub fn of(seed: u64, number: u64) -> Random {
+        Random::seeded(seed.wrapping_mul(6_364_136_223_846_793_005).wrapping_add(number))
+    }
+
     fn next(&mut self) -> u64 {
         self.state ^= self.state << 13;
         self.state ^= self.state >> 7;

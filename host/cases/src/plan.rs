@@ -1,10 +1,8 @@
 //! A plan: what the texts of a case say, before they are written. Every field is kept as it will
 //! be written, so that a damage may put anything there.
 
-use super::random::Random;
-use super::Case;
-use crate::answers::Rooms;
-use crate::{profiles, timetable};
+use crate::random::Random;
+use independent::{profiles, timetable, Case, Rooms};
 
 /// A row of a timetable file.
 #[derive(Clone, Debug)]
@@ -31,6 +29,31 @@ pub struct PlanList {
     pub records: Vec<Record>,
 }
 
+/// How large a drawn plan may be.
+#[derive(Clone, Copy, Debug, PartialEq, Eq)]
+pub enum Scale {
+    /// Statements that a prover has to compute: a few rows.
+    Tiny,
+    /// What a program runs.
+    Small,
+}
+
+impl Scale {
+    fn most_legs(self, random: &mut Random) -> usize {
+        match self {
+            Scale::Small if random.one_in(4) => 24,
+            _ => 4,
+        }
+    }
+
+    fn horizon(self, random: &mut Random) -> u32 {
+        match self {
+            Scale::Small if random.one_in(4) => *random.pick(&[10, 1_799, 2_700, 5_399, 9_000, 86_400, 176_400]),
+            _ => *random.pick(&[100, 100, 100, 100, 60, 899, 900, 1_000, 1_800]),
+        }
+    }
+}
+
 /// The whole plan.
 #[derive(Clone, Debug)]
 pub struct Plan {
@@ -52,15 +75,27 @@ pub const LIST_NAMES: [&str; 6] = [
     "recuperation_subnets",
 ];
 
+/// Room for curves is lent up to this H; past it 16 answers an energy.
+const LONGEST_CURVE: u32 = 9_000;
+
 /// A configuration by its numbers.
 #[derive(Clone, Copy, Debug)]
-struct Numbers {
+pub struct Numbers {
     d: i64,
     t: i64,
     p: usize,
 }
 
 impl Numbers {
+    /// The leg's choice, if it is three numbers.
+    pub fn of(leg: &PlanLeg) -> Option<Numbers> {
+        let numbers: Vec<i64> = leg.nominal.split('_').filter_map(|number| number.parse().ok()).collect();
+        match numbers[..] {
+            [d, t, p] => Some(Numbers { d, t, p: p as usize }),
+            _ => None,
+        }
+    }
+
     fn text(self) -> String {
         format!("{}_{}_{}", self.d, self.t, self.p)
     }
@@ -74,20 +109,10 @@ impl Plan {
             nominal: nominal.to_string(),
             list: vec![nominal.to_string(), other.to_string()],
         };
-        let draft = vec![
-            row(["1", "1", "1", "1", "2"], "10_4_7", "15_4_7"),
-            row(["2", "1", "2", "2", "3"], "40_3_8", "45_3_8"),
-        ];
-        let profile = |id: &str, samples: &str| PlanProfile {
-            id: id.to_string(),
-            samples: samples.split(' ').map(String::from).collect(),
-        };
+        let draft = vec![row(["1", "1", "1", "1", "2"], "10_4_7", "15_4_7"), row(["2", "1", "2", "2", "3"], "40_3_8", "45_3_8")];
+        let profile = |id: &str, samples: &str| PlanProfile { id: id.to_string(), samples: samples.split(' ').map(String::from).collect() };
         let mut lists = empty_lists();
-        lists[2].records.push(record(&[
-            ("first_leg_id", "1"),
-            ("second_leg_id", "2"),
-            ("min_dwell_time", "20"),
-        ]));
+        lists[2].records.push(record(&[("first_leg_id", "1"), ("second_leg_id", "2"), ("min_dwell_time", "20")]));
         lists[5].records.push(record(&[("subnet_id", "1"), ("track_ids", "[1,2]")]));
         Plan {
             h: 100,
@@ -99,8 +124,23 @@ impl Plan {
         }
     }
 
+    /// The example with a constraint of every kind and a subnet for each track.
+    pub fn of_every_kind() -> Plan {
+        let mut plan = Plan::example();
+        let ids = ("1", "2");
+        for kind in [1, 2, 4] {
+            plan.lists[kind - 1].records.push(constraint_record(kind, true, ids, 20, 0));
+        }
+        for arrival in [true, false] {
+            plan.lists[4].records.push(constraint_record(5, arrival, ids, 20, 40));
+        }
+        plan.lists[5].records =
+            vec![record(&[("subnet_id", "1"), ("track_ids", "[1]")]), record(&[("subnet_id", "2"), ("track_ids", "[2,30]")])];
+        plan
+    }
+
     /// The example with other choices, or a plan drawn anew.
-    pub fn random(random: &mut Random) -> Plan {
+    pub fn random(random: &mut Random, scale: Scale) -> Plan {
         if random.one_in(5) {
             let mut plan = Plan::example();
             for row in 0..2 {
@@ -111,7 +151,7 @@ impl Plan {
             plan.lists[2].records[0][2].1 = dwell;
             return plan;
         }
-        drawn_plan(random)
+        drawn_plan(random, scale)
     }
 
     /// The case with everything written compactly and ample room.
@@ -143,12 +183,16 @@ impl Plan {
         }
     }
 
+    /// Exactly the room that the plan needs.
+    pub fn needs(&self) -> Rooms {
+        self.rooms(timetable_text(&self.draft).len(), 0, &mut Random::seeded(0))
+    }
+
     /// Room for the tables of the plan, and up to so many numbers more.
     fn rooms(&self, text: usize, more: usize, random: &mut Random) -> Rooms {
         let entries: usize = self.draft.iter().map(|leg| leg.list.len()).sum();
         let samples: usize = self.profiles.iter().map(|profile| profile.samples.len()).sum();
-        let constraints: usize =
-            self.lists.iter().filter(|list| list.name != LIST_NAMES[5]).map(|list| list.records.len()).sum();
+        let constraints: usize = self.lists.iter().filter(|list| list.name != LIST_NAMES[5]).map(|list| list.records.len()).sum();
         let mut more = || random.below(more + 1);
         Rooms {
             legs: 8 * self.draft.len() + more(),
@@ -159,7 +203,7 @@ impl Plan {
             tracks: 2 * self.tracks() + more(),
             choices: 3 * self.draft.len() + more(),
             second_choices: 3 * self.draft.len() + more(),
-            curves: self.subnets() * self.h.min(2_000) as usize + more(),
+            curves: self.subnets() * self.h.min(LONGEST_CURVE) as usize + more(),
             text: text + more(),
         }
     }
@@ -171,10 +215,7 @@ impl Plan {
     /// How many tracks the subnets list.
     fn tracks(&self) -> usize {
         let values = self.lists.iter().flat_map(|list| list.records.iter().flatten());
-        values
-            .filter(|(name, value)| name == "track_ids" && value != "[]")
-            .map(|(_, value)| value.split(',').count())
-            .sum()
+        values.filter(|(name, value)| name == "track_ids" && value != "[]").map(|(_, value)| value.split(',').count()).sum()
     }
 
     fn profiles_text(&self) -> String {
@@ -210,8 +251,7 @@ pub fn record(members: &[(&str, &str)]) -> Record {
 }
 
 fn record_text(record: &Record) -> String {
-    let members: Vec<String> =
-        record.iter().map(|(name, value)| format!("\"{name}\":{value}")).collect();
+    let members: Vec<String> = record.iter().map(|(name, value)| format!("\"{name}\":{value}")).collect();
     format!("{{{}}}", members.join(","))
 }
 
@@ -242,21 +282,19 @@ fn timetable_text(legs: &[PlanLeg]) -> String {
 }
 
 /// A plan drawn anew: sound in form, and accepted more often than not.
-fn drawn_plan(random: &mut Random) -> Plan {
-    let h = *random.pick(&[100, 100, 100, 100, 60, 899, 900, 1_000, 1_800]);
+fn drawn_plan(random: &mut Random, scale: Scale) -> Plan {
+    let h = scale.horizon(random);
     let profiles = drawn_profiles(random);
     let mut draft = Vec::new();
     let mut offers: Vec<Vec<Numbers>> = Vec::new();
-    let mut ids: Vec<usize> = vec![1, 2, 3, 4, 5, 9, 25];
-    random.shuffle(&mut ids);
-    let legs = if random.one_in(16) { 0 } else { random.between(1, 4) };
-    let mut base = if h >= 900 && random.one_in(2) { 885 } else { 0 };
-    for id in ids.iter().take(legs) {
+    let most = scale.most_legs(random);
+    let legs = if random.one_in(16) { 0 } else { random.between(1, most) };
+    let mut base = drawn_start(random, h);
+    for id in drawn_ids(random, most).iter().take(legs) {
         base += random.below(12);
         let offer = drawn_offer(random, base, h, &profiles);
         draft.push(PlanLeg {
-            ids: [*id, random.between(1, 3), random.between(1, 3), random.below(4), random.below(4)]
-                .map(|number| number.to_string()),
+            ids: [*id, random.between(1, 3), random.between(1, 3), random.below(4), random.below(4)].map(|number| number.to_string()),
             nominal: random.pick(&offer).text(),
             list: offer.iter().map(|entry| entry.text()).collect(),
         });
@@ -275,13 +313,29 @@ fn drawn_plan(random: &mut Random) -> Plan {
             random.shuffle(record);
         }
     }
-    Plan {
-        h,
-        solution: solution_of(random, &draft, &first),
-        second: solution_of(random, &draft, &second),
-        draft,
-        profiles,
-        lists,
+    Plan { h, solution: solution_of(random, &draft, &first), second: solution_of(random, &draft, &second), draft, profiles, lists }
+}
+
+/// Distinct leg ids in any order, now and then the greatest among them.
+fn drawn_ids(random: &mut Random, count: usize) -> Vec<usize> {
+    let mut ids: Vec<usize> = (1..=count + 3).collect();
+    if random.one_in(4) {
+        ids[count] = 999_999_999;
+        ids[count + 1] = 0;
+    }
+    if !random.one_in(3) {
+        random.shuffle(&mut ids);
+    }
+    ids
+}
+
+/// The earliest departure: the start of the day, the end of a quarter or the end of the day.
+fn drawn_start(random: &mut Random, h: u32) -> usize {
+    let h = h as usize;
+    match random.below(4) {
+        0 if h >= 900 => random.between(1, h / 900) * 900 - 15,
+        1 if h >= 900 => h - 30,
+        _ => 0,
     }
 }
 
@@ -304,8 +358,7 @@ fn drawn_profiles(random: &mut Random) -> Vec<PlanProfile> {
     let mut ids = vec![0, 3, 7, 8, 12];
     random.shuffle(&mut ids);
     let values = [
-        "0.5", "1.0", "0.25", "-0.4", "0.3", "0.0", "-0.2", "-0.0", "2.5", "-1.25", "20.0", "-20.000", "0.001",
-        "19.999", "-0.05", "3.141",
+        "0.5", "1.0", "0.25", "-0.4", "0.3", "0.0", "-0.2", "-0.0", "2.5", "-1.25", "20.0", "-20.000", "0.001", "19.999", "-0.05", "3.141",
     ];
     let count = random.between(1, 4);
     ids.iter()
@@ -325,24 +378,18 @@ fn drawn_offer(random: &mut Random, base: usize, h: u32, profiles: &[PlanProfile
             let place = if random.one_in(5) { random.below(profiles.len()) } else { usual };
             let t = profiles[place].samples.len() as i64;
             let d = (base + random.below(7)) as i64;
-            let d = d.min(i64::from(h) - t);
+            let d = d.min(i64::from(h) - t).max(0);
             Numbers { d, t, p: profiles[place].id.parse().unwrap_or(0) }
         })
         .collect()
 }
 
 /// Up to four constraints of any kind, near the seconds that the choices leave.
-fn add_constraints(
-    random: &mut Random,
-    lists: &mut [PlanList],
-    draft: &[PlanLeg],
-    first: &[Numbers],
-    second: &[Numbers],
-) {
+fn add_constraints(random: &mut Random, lists: &mut [PlanList], draft: &[PlanLeg], first: &[Numbers], second: &[Numbers]) {
     if draft.is_empty() {
         return;
     }
-    for _ in 0..random.below(5) {
+    for _ in 0..random.below(5 + draft.len() / 2) {
         let kind = random.between(1, 5);
         let mut a = random.below(draft.len());
         let mut b = random.below(draft.len());
@@ -350,7 +397,7 @@ fn add_constraints(
             std::mem::swap(&mut a, &mut b);
         }
         let arrival = random.one_in(2);
-        let slack = |choices: &[Numbers]| slack(kind, arrival, choices[a], choices[b]);
+        let slack = |choices: &[Numbers]| least_slack(kind, arrival, choices[a], choices[b]);
         let left = slack(first).min(slack(second));
         let most = slack(first).max(slack(second));
         if left < 0 && !random.one_in(4) {
@@ -364,16 +411,22 @@ fn add_constraints(
     }
 }
 
-/// How many seconds a constraint of the kind has left, were its own number 0.
-fn slack(kind: usize, arrival: bool, a: Numbers, b: Numbers) -> i64 {
-    match kind {
-        1 => (b.d - a.d).min(b.d + b.t - a.d - a.t),
-        5 if !arrival => b.d - a.d,
+/// How many seconds an inequality of the kind has left, were its own number 0.
+pub fn slack(kind: usize, inequality: u32, arrival: bool, a: Numbers, b: Numbers) -> i64 {
+    match (kind, inequality) {
+        (1, 1) => b.d - a.d,
+        (1, _) => b.d + b.t - a.d - a.t,
+        (5, _) if !arrival => b.d - a.d,
         _ => b.d - a.d - a.t,
     }
 }
 
-fn constraint_record(kind: usize, arrival: bool, ids: (&str, &str), low: i64, high: i64) -> Record {
+/// The same over all inequalities of the kind.
+fn least_slack(kind: usize, arrival: bool, a: Numbers, b: Numbers) -> i64 {
+    slack(kind, 1, arrival, a, b).min(slack(kind, 2, arrival, a, b))
+}
+
+pub fn constraint_record(kind: usize, arrival: bool, ids: (&str, &str), low: i64, high: i64) -> Record {
     let mut members = record(&[("first_leg_id", ids.0), ("second_leg_id", ids.1)]);
     let mut add = |name: &str, value: String| members.push((name.to_string(), value));
     match kind {
@@ -408,11 +461,5 @@ fn drawn_subnets(random: &mut Random, draft: &[PlanLeg]) -> Vec<Record> {
     }
     let mut ids = vec!["1", "2", "0", "30"];
     random.shuffle(&mut ids);
-    subnets
-        .iter()
-        .zip(ids)
-        .map(|(tracks, id)| {
-            record(&[("subnet_id", id), ("track_ids", &format!("[{}]", tracks.join(",")))])
-        })
-        .collect()
+    subnets.iter().zip(ids).map(|(tracks, id)| record(&[("subnet_id", id), ("track_ids", &format!("[{}]", tracks.join(",")))])).collect()
 }

@@ -1,0 +1,142 @@
+//! Calls through an executor, line by line beside the expected ones.
+
+use crate::coverage::Coverage;
+use crate::executor::Executor;
+use crate::expected::full_line;
+use crate::{block, saved};
+use cases::Named;
+use independent::{Call, Entry};
+use std::path::PathBuf;
+use std::sync::atomic::{AtomicUsize, Ordering};
+use std::sync::Mutex;
+
+/// How many calls go through the executor at once.
+const BATCH: usize = 1_000;
+/// How many differences are told and saved.
+const MOST_TOLD: usize = 5;
+
+/// What is compared.
+pub struct Plan {
+    pub seed: u64,
+    pub count: usize,
+    pub entries: Vec<Entry>,
+    /// Where calls that differ are saved.
+    pub folder: PathBuf,
+}
+
+/// What came of it.
+#[derive(Default)]
+pub struct Outcome {
+    pub coverage: Coverage,
+    pub calls: usize,
+    pub differences: Vec<String>,
+}
+
+/// A line that is not as expected.
+struct Difference<'a> {
+    named: &'a Named,
+    expected: String,
+    given: String,
+}
+
+/// The worked examples and the edges, then the seeded calls, in batches over the machine's processors.
+pub fn compare(executor: &dyn Executor, plan: &Plan) -> Result<Outcome, String> {
+    let next = AtomicUsize::new(0);
+    let outcome = Mutex::new(Outcome::default());
+    let failed = Mutex::new(None);
+    let workers = std::thread::available_parallelism().map_or(1, usize::from);
+    std::thread::scope(|scope| {
+        for _ in 0..workers {
+            scope.spawn(|| {
+                while let Some(batch) = batch(plan, next.fetch_add(1, Ordering::Relaxed)) {
+                    if let Err(message) = compare_batch(executor, &batch, plan, &outcome) {
+                        failed.lock().expect("no worker panics").get_or_insert(message);
+                        return;
+                    }
+                }
+            });
+        }
+    });
+    match failed.into_inner().expect("no worker panics") {
+        Some(message) => Err(message),
+        None => Ok(outcome.into_inner().expect("no worker panics")),
+    }
+}
+
+/// The batch of a number: the first is the fixed calls.
+fn batch(plan: &Plan, number: usize) -> Option<Vec<Named>> {
+    if number == 0 {
+        return Some(fixed(&plan.entries));
+    }
+    let first = (number - 1) * BATCH;
+    let last = plan.count.min(first + BATCH);
+    (first < last).then(|| cases::calls(plan.seed, first..last, &plan.entries))
+}
+
+/// The calls that no seed changes.
+pub fn fixed(entries: &[Entry]) -> Vec<Named> {
+    let mut calls = cases::examples::worked();
+    calls.extend(cases::edges::edges());
+    calls.retain(|named| entries.contains(&named.call.entry) && block::fits(&named.call));
+    calls
+}
+
+fn compare_batch(executor: &dyn Executor, batch: &[Named], plan: &Plan, outcome: &Mutex<Outcome>) -> Result<(), String> {
+    let calls: Vec<&Call> = batch.iter().map(|named| &named.call).collect();
+    let mut coverage = Coverage::default();
+    let mut expected = Vec::new();
+    for call in &calls {
+        let (said, line) = full_line(call);
+        coverage.count(call, &said);
+        expected.push(line);
+    }
+    let given = executor.run(&calls)?;
+    let differences = differences(batch, expected, given);
+    let mut outcome = outcome.lock().expect("no worker panics");
+    outcome.calls += calls.len();
+    outcome.coverage.add(&coverage);
+    for difference in differences {
+        let number = outcome.differences.len();
+        outcome.differences.push(in_words(&difference, plan, number)?);
+    }
+    Ok(())
+}
+
+/// The calls whose lines are not the expected ones; a missing line differs too.
+fn differences(batch: &[Named], expected: Vec<String>, given: Vec<String>) -> Vec<Difference<'_>> {
+    let missing = std::iter::repeat(String::from("(no line)"));
+    batch
+        .iter()
+        .zip(expected)
+        .zip(given.into_iter().chain(missing))
+        .filter(|((_, expected), given)| expected != given)
+        .map(|((named, expected), given)| Difference { named, expected, given })
+        .collect()
+}
+
+/// The difference in words; the first ones are saved.
+fn in_words(difference: &Difference, plan: &Plan, number: usize) -> Result<String, String> {
+    let Difference { named, expected, given } = difference;
+    let mut told = format!("{}, {}\n  expected {expected}\n  given    {given}", named.call.entry.name(), named.name);
+    if number < MOST_TOLD {
+        let folder = plan.folder.join(format!("difference-{}", number + 1));
+        saved::save(&folder, &named.call, &told)?;
+        told.push_str(&format!("\n  saved in {}", folder.display()));
+    }
+    Ok(told)
+}
+
+/// The comparison in words: how often each answer was met, and that nothing differs and no cell is empty; else what is wrong.
+pub fn told(executor: &dyn Executor, plan: &Plan) -> Result<String, String> {
+    let outcome = compare(executor, plan)?;
+    let told = format!("{}{} calls compared", outcome.coverage, outcome.calls);
+    let empty = outcome.coverage.empty_cells(&plan.entries);
+    if !outcome.differences.is_empty() {
+        let first: Vec<&str> = outcome.differences.iter().take(MOST_TOLD).map(String::as_str).collect();
+        return Err(format!("{told}\n{}\n{} lines differ", first.join("\n"), outcome.differences.len()));
+    }
+    if !empty.is_empty() {
+        return Err(format!("{told}\nno call met: {}", empty.join("; ")));
+    }
+    Ok(format!("{told}, no difference, no empty cell\n"))
+}

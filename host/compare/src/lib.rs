@@ -1,0 +1,12 @@
+//! The proved programs beside the independent one, call by call: the same texts, the same lent rooms, line by line.
+
+pub mod block;
+pub mod comparison;
+pub mod coverage;
+pub mod executor;
+pub mod expected;
+pub mod folder;
+pub mod input;
+pub mod lines;
+pub mod saved;
+pub mod stored;

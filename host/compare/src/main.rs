@@ -1,0 +1,78 @@
+//! The comparison of the proved programs with the independent one.
+
+use compare::comparison::{self, Plan};
+use compare::executor::{Nobody, Replay};
+use compare::{expected, folder, input, stored};
+use independent::Entry;
+use std::io::Read;
+use std::path::{Path, PathBuf};
+use std::process::ExitCode;
+
+const USAGE: &str = "compare replay SEED COUNT [ENTRIES] -- PROGRAM...   seeded calls through the program replay
+compare cover SEED COUNT [ENTRIES]                  the same calls through no program: their coverage alone
+compare stored DIR [ENTRIES]                        writes the stored run of replay
+compare answers [ENTRIES]                           standard input as replay reads it, answered by the independent program
+compare folder DIR HORIZON -- PROGRAM...            instances in the published layout
+ENTRIES are numbers of entries, as 1,5; all of them where they are not given.";
+
+fn main() -> ExitCode {
+    let words: Vec<String> = std::env::args().skip(1).collect();
+    match run(&words) {
+        Ok(said) => {
+            print!("{said}");
+            ExitCode::SUCCESS
+        }
+        Err(message) => {
+            eprintln!("compare: {message}");
+            ExitCode::FAILURE
+        }
+    }
+}
+
+fn run(words: &[String]) -> Result<String, String> {
+    let end = words.iter().position(|word| word == "--").unwrap_or(words.len());
+    let program = words.get(end + 1..).unwrap_or_default().to_vec();
+    let replay = Replay { words: program };
+    let words: Vec<&str> = words[..end].iter().map(String::as_str).collect();
+    match words[..] {
+        ["replay", seed, count, ref rest @ ..] => {
+            let plan = plan(seed, count, rest)?;
+            let told = comparison::told(&replay, &plan)?;
+            input::compare(&replay)?;
+            Ok(told)
+        }
+        ["cover", seed, count, ref rest @ ..] => comparison::told(&Nobody, &plan(seed, count, rest)?),
+        ["stored", dir, ref rest @ ..] => stored::write(Path::new(dir), &entries(rest)?),
+        ["answers", ref rest @ ..] => answers(&entries(rest)?),
+        ["folder", dir, horizon] => folder::compare(Path::new(dir), number(horizon)? as u32, &replay),
+        _ => Err(String::from(USAGE)),
+    }
+}
+
+fn answers(offered: &[Entry]) -> Result<String, String> {
+    let mut input = Vec::new();
+    std::io::stdin().read_to_end(&mut input).map_err(|e| e.to_string())?;
+    Ok(expected::output(&input, offered))
+}
+
+fn plan(seed: &str, count: &str, rest: &[&str]) -> Result<Plan, String> {
+    Ok(Plan { seed: number(seed)?, count: number(count)? as usize, entries: entries(rest)?, folder: PathBuf::from("target/differences") })
+}
+
+fn entries(rest: &[&str]) -> Result<Vec<Entry>, String> {
+    match rest {
+        [] => Ok(Entry::ALL.to_vec()),
+        [list] => list.split(',').map(entry).collect(),
+        _ => Err(String::from(USAGE)),
+    }
+}
+
+fn entry(word: &str) -> Result<Entry, String> {
+    let number = number(word)?;
+    let found = Entry::ALL.into_iter().find(|entry| compare::block::number_of(*entry) == number);
+    found.ok_or_else(|| format!("no entry has the number {number}"))
+}
+
+fn number(word: &str) -> Result<u64, String> {
+    word.parse().map_err(|_| format!("no number: {word}"))
+}

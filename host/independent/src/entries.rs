@@ -1,0 +1,136 @@
+//! The public entries by one function: what a call answers, and what it leaves in the lent rooms.
+
+use crate::answers::{Answer, Checked, Rooms};
+use crate::display::row_at;
+use crate::energy::{energy, Desk, Figures, Report};
+use crate::lent::Lent;
+use crate::merge::{merge, Direction, Merged};
+use crate::verdict::check;
+
+/// The public entries.
+#[derive(Clone, Copy, Debug, PartialEq, Eq, PartialOrd, Ord)]
+pub enum Entry {
+    Check,
+    Energy,
+    MergeEarlier,
+    MergeLater,
+    Row,
+}
+
+impl Entry {
+    pub const ALL: [Entry; 5] = [Entry::Check, Entry::Energy, Entry::MergeEarlier, Entry::MergeLater, Entry::Row];
+
+    pub fn name(self) -> &'static str {
+        match self {
+            Entry::Check => "check",
+            Entry::Energy => "energy",
+            Entry::MergeEarlier => "merge earlier",
+            Entry::MergeLater => "merge later",
+            Entry::Row => "row",
+        }
+    }
+}
+
+/// H, the texts and how much room is lent.
+#[derive(Clone, Debug, PartialEq, Eq)]
+pub struct Case {
+    pub h: u32,
+    /// Timetable, profiles, constraints, solution, second solution.
+    pub texts: [Vec<u8>; 5],
+    pub rooms: Rooms,
+}
+
+impl Case {
+    pub fn check(&self) -> Checked {
+        let [t, p, c, s, _] = &self.texts;
+        check(self.h, t, p, c, s, &self.rooms)
+    }
+
+    pub fn energy(&self) -> Report {
+        let [t, p, c, s, _] = &self.texts;
+        energy(self.h, t, p, c, s, &self.rooms)
+    }
+
+    pub fn merge(&self, direction: Direction) -> Merged {
+        let [t, p, c, a, b] = &self.texts;
+        merge(direction, self.h, t, p, c, a, b, &self.rooms)
+    }
+}
+
+/// A call of an entry. The file and the place are those of a row to be shown.
+#[derive(Clone, Debug, PartialEq, Eq)]
+pub struct Call {
+    pub entry: Entry,
+    pub case: Case,
+    pub file: u32,
+    pub place: u32,
+}
+
+/// What an entry answers.
+#[derive(Clone, Copy, Debug, PartialEq)]
+pub enum Said {
+    Checked(Answer),
+    Reported(Answer, Figures, Desk),
+    /// The answer and the length of the text, which is 0 where none is written.
+    Merged(Answer, usize),
+    /// Start and length of the row.
+    Row(usize, usize),
+}
+
+impl Said {
+    /// The answer, where there is one of the three.
+    pub fn answer(&self) -> Option<Answer> {
+        match self {
+            Said::Checked(answer) | Said::Reported(answer, ..) | Said::Merged(answer, _) => Some(*answer),
+            Said::Row(..) => None,
+        }
+    }
+}
+
+impl Call {
+    /// A call that shows no row.
+    pub fn of(entry: Entry, case: Case) -> Call {
+        Call { entry, case, file: 0, place: 0 }
+    }
+
+    /// What is answered; the rooms, which have the sizes of the case, are left as the entry leaves
+    /// them.
+    pub fn run(&self, lent: &mut Lent) -> Said {
+        match self.entry {
+            Entry::Check => {
+                let checked = self.case.check();
+                lent.leave_checked(&checked);
+                Said::Checked(checked.answer)
+            }
+            Entry::Energy => {
+                let report = self.case.energy();
+                lent.leave_reported(&report);
+                Said::Reported(report.answer, report.figures, report.desk)
+            }
+            Entry::MergeEarlier => self.run_merge(Direction::Earlier, lent),
+            Entry::MergeLater => self.run_merge(Direction::Later, lent),
+            Entry::Row => {
+                let (start, length) = self.row();
+                Said::Row(start, length)
+            }
+        }
+    }
+
+    fn run_merge(&self, direction: Direction, lent: &mut Lent) -> Said {
+        let merged = self.case.merge(direction);
+        lent.leave_merged(&merged);
+        Said::Merged(merged.answer, merged.text.map_or(0, |text| text.len()))
+    }
+
+    fn row(&self) -> (usize, usize) {
+        let [draft, .., solution, _] = &self.case.texts;
+        row_at(draft, solution, self.file, self.place as usize)
+    }
+
+    /// The bytes of the row shown.
+    pub fn row_bytes(&self) -> &[u8] {
+        let (start, length) = self.row();
+        let text = if self.file == 1 { &self.case.texts[0] } else { &self.case.texts[3] };
+        &text[start..start + length]
+    }
+}

@@ -4,14 +4,12 @@
 //!
 //! Before anything is timed both must give the same counts and the same tables, and the same refusals on texts with one byte changed.
 
-mod clock;
 mod instance;
-mod plain;
 mod proved;
 
 use instance::{Dice, Lists, H};
-use plain::Said;
 use std::time::Duration;
+use yardstick::{self as plain, clock, Said};
 
 const SEED: u64 = 1;
 const RUNS: usize = 25;
@@ -67,8 +65,9 @@ fn same_answers(name: &str, text: &[u8], plain: Reader, proved: Reader) {
     assert!(matches!(said, Said::Read(..)), "{name}: the text is refused: {said:?}");
     let (hash, its) = (one.hash(), other.hash());
     assert_eq!(hash, its, "{name}: the tables differ");
-    let Said::Read(rows, entries) = said else { return };
-    println!("{name}: {:.1} MB, {rows} rows, {entries} entries, tables {hash:016x} on both sides", text.len() as f64 / 1e6);
+    if let Said::Read(rows, entries) = said {
+        println!("{name}: {:.1} MB, {rows} rows, {entries} entries, tables {hash:016x} on both sides", text.len() as f64 / 1e6);
+    }
 }
 
 /// The first rows of a text, each time with one byte changed, left out or put in.

@@ -1,6 +1,6 @@
 //! The proved readers, from the static library that `run` makes.
 
-use crate::plain::Said;
+use yardstick::Said;
 
 #[link(name = "exports", kind = "static")]
 extern "C" {

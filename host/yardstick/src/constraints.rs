@@ -136,7 +136,7 @@ impl Reader<'_> {
             if list == SUBNETS {
                 self.subnet(tracks)?;
             } else {
-                self.record(list, legs, constraints)?;
+                self.record_of(list, legs, constraints)?;
             }
             sign = self.bytes.sign()?;
             if sign == b',' {
@@ -149,10 +149,21 @@ impl Reader<'_> {
         (sign == b']').then_some(())
     }
 
-    /// A record of kinds 1 to 5, from behind its brace.
+    /// For each list its own code, in which the keys are constants.
     #[inline(always)]
-    fn record(&mut self, list: usize, legs: &mut Rows, constraints: &mut [u32]) -> Option<()> {
-        let keys = KEYS[list];
+    fn record_of(&mut self, list: usize, legs: &mut Rows, constraints: &mut [u32]) -> Option<()> {
+        match list {
+            0 => self.record::<0>(legs, constraints),
+            1 => self.record::<1>(legs, constraints),
+            2 => self.record::<2>(legs, constraints),
+            3 => self.record::<3>(legs, constraints),
+            _ => self.record::<4>(legs, constraints),
+        }
+    }
+
+    /// A record of kinds 1 to 5, from behind its brace.
+    fn record<const LIST: usize>(&mut self, legs: &mut Rows, constraints: &mut [u32]) -> Option<()> {
+        let keys = KEYS[LIST];
         let mut values = [0u32; 5];
         let mut read = 0;
         for place in 0..keys.len() {
@@ -172,7 +183,7 @@ impl Reader<'_> {
         let at = self.counts.constraints * CONSTRAINT;
         let room = constraints.get_mut(at..at + CONSTRAINT)?;
         let [first, second, low, high, by] = values;
-        room.copy_from_slice(&[list as u32 + 1, first, second, low, high, by]);
+        room.copy_from_slice(&[LIST as u32 + 1, first, second, low, high, by]);
         self.counts.constraints += 1;
         (read == (1 << keys.len()) - 1 && self.counts.constraints <= MOST_CONSTRAINTS).then_some(())
     }

@@ -1,12 +1,15 @@
 //! The benchmark: check and energy on the largest underground instance, by every side, as ratios of one run.
 //!
 //!     bench [RUNS]
+//!     bench stack     how much stack the proved entries take
 
 mod instance;
 mod measure;
 mod memory;
 mod pandas;
 mod sides;
+#[cfg(feature = "proved")]
+mod stack;
 
 use instance::Instance;
 use instances::{Ids, Shape};
@@ -28,6 +31,13 @@ fn main() -> ExitCode {
         ["memory", side, folder, h] => {
             h.parse().map_err(|_| String::from("H")).and_then(|h| memory::run(side, Path::new(folder), h)).map(|said| print!("{said}"))
         }
+        #[cfg(feature = "proved")]
+        ["stack"] => stack::print(),
+        #[cfg(feature = "proved")]
+        ["stack", entry, legs, levels] => match (legs.parse(), levels.parse()) {
+            (Ok(legs), Ok(levels)) => stack::run(entry, legs, levels),
+            _ => Err(String::from("stack")),
+        },
         [runs] => runs.parse().map_err(|_| String::from("bench [RUNS]")).and_then(bench),
         _ => Err(String::from("bench [RUNS]")),
     };

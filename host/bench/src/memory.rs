@@ -6,18 +6,22 @@ use std::path::Path;
 use std::process::Command;
 use yardstick::whole::Texts;
 
-/// Bytes at the peak. WAGONTULIP_RUNNER runs a program of another machine, and its own memory then counts too.
-pub fn peak(side: &str, folder: &Path, h: u32) -> Option<f64> {
+/// This program again. WAGONTULIP_RUNNER runs a program of another machine, and its own memory then counts too.
+pub fn again() -> Option<Command> {
     let program = std::env::current_exe().ok()?;
-    let mut call = match std::env::var_os("WAGONTULIP_RUNNER") {
+    Some(match std::env::var_os("WAGONTULIP_RUNNER") {
         Some(runner) => {
             let mut call = Command::new(runner);
             call.arg(program);
             call
         }
         None => Command::new(program),
-    };
-    let output = call.arg("memory").arg(side).arg(folder).arg(h.to_string()).output().ok()?;
+    })
+}
+
+/// Bytes at the peak.
+pub fn peak(side: &str, folder: &Path, h: u32) -> Option<f64> {
+    let output = again()?.arg("memory").arg(side).arg(folder).arg(h.to_string()).output().ok()?;
     String::from_utf8(output.stdout).ok()?.trim().parse().ok()
 }
 

@@ -9,13 +9,14 @@ use yardstick::whole::Texts;
 /// This program again. WAGONTULIP_RUNNER runs a program of another machine, and its own memory then counts too.
 pub fn again() -> Option<Command> {
     let program = std::env::current_exe().ok()?;
-    Some(match std::env::var_os("WAGONTULIP_RUNNER") {
-        Some(runner) => {
-            let mut call = Command::new(runner);
-            call.arg(program);
+    Some(match std::env::var("WAGONTULIP_RUNNER") {
+        Ok(runner) => {
+            let mut words = runner.split_whitespace();
+            let mut call = Command::new(words.next()?);
+            call.args(words).arg(program);
             call
         }
-        None => Command::new(program),
+        Err(_) => Command::new(program),
     })
 }
 

@@ -37,13 +37,14 @@ impl Folder {
     /// Runs the command in the folder; WAGONTULIP_RUNNER runs a program of another machine.
     fn run(&self, words: &str) -> Output {
         let command = env!("CARGO_BIN_EXE_wagontulip");
-        let mut call = match std::env::var_os("WAGONTULIP_RUNNER") {
-            Some(runner) => {
-                let mut call = Command::new(runner);
-                call.arg(command);
+        let mut call = match std::env::var("WAGONTULIP_RUNNER") {
+            Ok(runner) => {
+                let mut words = runner.split_whitespace();
+                let mut call = Command::new(words.next().unwrap());
+                call.args(words).arg(command);
                 call
             }
-            None => Command::new(command),
+            Err(_) => Command::new(command),
         };
         call.args(words.split_whitespace()).current_dir(&self.0).output().unwrap()
     }

@@ -153,9 +153,8 @@ fn print_growth(sides: &mut [Box<dyn Side>], largest: usize, runs: usize) {
     for (ids, name) in [(Ids::InOrder, "in order"), (Ids::Shuffled, "shuffled")] {
         for legs in GROWTH.into_iter().chain([largest]) {
             let instance = Instance::underground(legs, ids);
-            let times = measure::all(sides, &instance, runs);
-            let cells: Vec<String> =
-                times.iter().map(|times| format!("{:.2} ({:.2})", times.check, 1e3 * times.check / legs as f64)).collect();
+            let times = measure::checks(sides, &instance, runs);
+            let cells: Vec<String> = times.iter().map(|ms| format!("{ms:.2} ({:.2})", 1e3 * ms / legs as f64)).collect();
             println!("| {legs} | {name} | {:.1} | {} |", instance.bytes() as f64 / 1e6, cells.join(" | "));
         }
     }

@@ -95,7 +95,7 @@ fn same_refusals(name: &str, text: &[u8], plain: Reader, proved: Reader) {
 
 fn timed(reader: Reader, text: &[u8], tables: &mut Tables) -> Duration {
     let start = clock::now();
-    let said = std::hint::black_box(reader(std::hint::black_box(text), tables));
+    let said = clock::kept(reader(clock::kept(text), tables));
     let took = clock::now() - start;
     assert!(matches!(said, Said::Read(..)));
     took
@@ -125,7 +125,7 @@ fn refused(text: &[u8], proved: Reader, runs: usize) -> f64 {
     let mut best = Duration::MAX;
     for _ in 0..runs {
         let start = clock::now();
-        let said = proved(std::hint::black_box(&broken), &mut tables);
+        let said = proved(clock::kept(&broken), &mut tables);
         best = best.min(clock::now() - start);
         assert_eq!(said, Said::Refused(plain::FORM, first as u32));
     }
@@ -137,7 +137,7 @@ fn measure_plain_solution(text: &[u8], runs: usize) {
     let mut best = Duration::MAX;
     for _ in 0..runs {
         let start = clock::now();
-        let said = plain::solution::read(std::hint::black_box(text), H, &mut tables.rows, &mut ids);
+        let said = plain::solution::read(clock::kept(text), H, &mut tables.rows, &mut ids);
         best = best.min(clock::now() - start);
         assert!(matches!(said, Said::Read(..)));
     }

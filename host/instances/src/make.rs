@@ -105,34 +105,37 @@ impl Maker {
         maker
     }
 
-    /// The lines cross at one station, so that there are connections between them; the last section of each is one track for both directions.
+    /// The lines cross at one station, so that there are connections between them.
     fn lay_lines(&mut self, lines: usize, length: usize) {
-        let ids = self.profile_ids(lines * 2 * length);
-        let mut ids = ids.into_iter();
-        let mut track = 0;
-        let mut tracks = Vec::new();
+        let mut ids = self.profile_ids(lines * 2 * length).into_iter();
+        let mut tracks = 0;
         for line in 0..lines {
-            let station = |place: usize| if place == length / 2 { 1 } else { (2 + line * (length + 1) + place) as u32 };
-            let mut directions = [Vec::new(), Vec::new()];
-            for direction in 0..2 {
-                let mut offset = 0;
-                for place in 0..length {
-                    let (start, end) = if direction == 0 { (place, place + 1) } else { (length - place, length - place - 1) };
-                    let shared = direction == 1 && place == 0;
-                    if !shared {
-                        track += 1;
-                        tracks.push(track);
-                    }
-                    let track = if shared { directions[0].last().map_or(track, |section: &Section| section.track) } else { track };
-                    let ways = self.ways(&mut ids);
-                    let slowest = ways.iter().flatten().map(|way| way.0).max().unwrap_or(0);
-                    directions[direction].push(Section { track, start: station(start), end: station(end), offset, ways });
-                    offset += slowest + DWELL + self.dice.between(0, 20);
-                }
+            let stations: Vec<u32> =
+                (0..=length).map(|place| if place == length / 2 { 1 } else { (2 + line * (length + 1) + place) as u32 }).collect();
+            let there = self.lay_sections(&stations, tracks, &mut ids);
+            let back: Vec<u32> = stations.into_iter().rev().collect();
+            let mut back = self.lay_sections(&back, tracks + length as u32, &mut ids);
+            // The last section is one track for both directions: its own number on the way back is not used.
+            if let (Some(last), Some(first)) = (there.last(), back.first_mut()) {
+                first.track = last.track;
             }
-            self.sections.push(directions);
+            self.sections.push([there, back]);
+            tracks += 2 * length as u32;
         }
-        self.plan.subnets = split(&tracks, self.measures.subnets);
+        self.plan.subnets = split(&(1..=tracks).collect::<Vec<u32>>(), self.measures.subnets);
+    }
+
+    /// From each station to the next, on tracks numbered on from those before.
+    fn lay_sections(&mut self, stations: &[u32], tracks: u32, ids: &mut impl Iterator<Item = u32>) -> Vec<Section> {
+        let mut sections = Vec::new();
+        let mut offset = 0;
+        for (track, ends) in (tracks + 1..).zip(stations.windows(2)) {
+            let ways = self.ways(ids);
+            let slowest = ways.iter().flatten().map(|way| way.0).max().unwrap_or(0);
+            sections.push(Section { track, start: ends[0], end: ends[1], offset, ways });
+            offset += slowest + DWELL + self.dice.between(0, 20);
+        }
+        sections
     }
 
     fn profile_ids(&mut self, sections: usize) -> Vec<u32> {

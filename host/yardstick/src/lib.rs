@@ -1,5 +1,5 @@
-//! The yardstick: the checker as one writes it by hand in plain, safe Rust for speed, a byte at a time and nothing wide. It fills the same tables as the
-//! proved one. The CSV readers keep every rule of a row and say what they refuse; the rest is for good files and only says that it stopped.
+//! The yardstick: the checker as one writes it by hand in plain, safe Rust for speed, a byte at a time but for the names in the JSON. It fills the same
+//! tables as the proved one. The CSV readers keep every rule of a row and say what they refuse; the rest is for good files and only says that it stopped.
 
 pub mod clock;
 pub mod constraints;

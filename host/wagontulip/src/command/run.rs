@@ -172,20 +172,16 @@ fn file_object(name: &str, text: &[u8], sha256: String) -> String {
     Object::new().text("name", name).value("bytes", text.len()).text("sha256", &sha256).close()
 }
 
-fn figure_lines(figures: &Figures) -> String {
-    format!(
-        "  before recuperation: {} kJ ({} MWh)\n  drawn: {} kJ ({} MWh)\n  lost: {} kJ ({} MWh)\n  fluctuation: {} kW\n  peak quarter before recuperation: {} kJ\n  peak quarter drawn: {} kJ ({} MW)\n",
-        figures.before_kj,
-        figures.before_mwh,
-        figures.drawn_kj,
-        figures.drawn_mwh,
-        figures.lost_kj,
-        figures.lost_mwh,
-        figures.fluctuation_kw,
-        figures.peak_before_kj,
-        figures.peak_drawn_kj,
-        figures.peak_drawn_mw
-    )
+fn figure_lines(f: &Figures) -> String {
+    [
+        format!("  before recuperation: {} kJ ({} MWh)\n", f.before_kj, f.before_mwh),
+        format!("  drawn: {} kJ ({} MWh)\n", f.drawn_kj, f.drawn_mwh),
+        format!("  lost: {} kJ ({} MWh)\n", f.lost_kj, f.lost_mwh),
+        format!("  fluctuation: {} kW\n", f.fluctuation_kw),
+        format!("  peak quarter before recuperation: {} kJ\n", f.peak_before_kj),
+        format!("  peak quarter drawn: {} kJ ({} MW)\n", f.peak_drawn_kj, f.peak_drawn_mw),
+    ]
+    .concat()
 }
 
 fn figure_values(object: Object, figures: &Figures) -> Object {

@@ -63,16 +63,14 @@ pub fn told(room: &Room, violation: &Violation) -> String {
     let [_, first, second, low, high, by] = record(&room.constraints, violation);
     let (first, second) = (leg(first), leg(second));
     let [left, right] = sides(violation, &first, &second, low, high, by == BY_ARRIVAL);
-    format!(
-        "{} in {}, position {} (from 0), inequality {}\n  first {first}\n  second {second}\n  needed: {left} ≤ {right}, that is {} ≤ {}\n  falls short by {} s\n",
-        name(violation.kind),
-        place(violation.file),
-        violation.position,
-        violation.inequality,
-        left.seconds(),
-        right.seconds(),
-        violation.shortfall,
-    )
+    [
+        format!("{} in {}, ", name(violation.kind), place(violation.file)),
+        format!("position {} (from 0), inequality {}\n", violation.position, violation.inequality),
+        format!("  first {first}\n  second {second}\n"),
+        format!("  needed: {left} ≤ {right}, that is {} ≤ {}\n", left.seconds(), right.seconds()),
+        format!("  falls short by {} s\n", violation.shortfall),
+    ]
+    .concat()
 }
 
 fn name(kind: Kind) -> &'static str {

@@ -36,8 +36,9 @@ impl Checker {
     }
 
     pub fn energy(&mut self, h: u32, files: &Files, solution: &[u8]) -> Result<Answer<Energies<'_>>, Unknown> {
-        // The answer does not say how many subnets there are, and the curve table keeps its contents past the last curve.
-        self.room.curves.fill(NO_POWER);
+        // The answer does not say how many subnets there are, and the curve table keeps its contents past the last curve: a curve that is written
+        // starts with a power.
+        self.room.curves.iter_mut().step_by(h.max(1) as usize).for_each(|first| *first = NO_POWER);
         let said = answers::reported(exports::energy(h, files.timetable, files.profiles, files.constraints, solution, &mut self.room))?;
         Ok(said.map(|figures| Energies { figures, curves: curves(&self.room.curves, h) }))
     }
@@ -68,8 +69,7 @@ impl Default for Checker {
 
 /// The curves that were written, H numbers each.
 fn curves(table: &[i32], h: u32) -> Vec<&[i32]> {
-    let written = table.iter().position(|power| *power == NO_POWER).unwrap_or(table.len());
-    table[..written].chunks_exact(h as usize).collect()
+    table.chunks_exact(h as usize).take_while(|curve| curve[0] != NO_POWER).collect()
 }
 
 /// The row at a refusal's file and place, a part of whichever text holds it, without its LF. None where no row starts there.

@@ -34,8 +34,12 @@ impl Folder {
         fs::read_to_string(self.0.join(name)).ok()
     }
 
-    /// Runs the command in the folder; WAGONTULIP_RUNNER runs a program of another machine.
     fn run(&self, words: &str) -> Output {
+        self.call(words).output().unwrap()
+    }
+
+    /// The command in the folder; WAGONTULIP_RUNNER runs a program of another machine.
+    fn call(&self, words: &str) -> Command {
         let command = env!("CARGO_BIN_EXE_wagontulip");
         let mut call = match std::env::var("WAGONTULIP_RUNNER") {
             Ok(runner) => {
@@ -46,7 +50,8 @@ impl Folder {
             }
             Err(_) => Command::new(command),
         };
-        call.args(words.split_whitespace()).current_dir(&self.0).output().unwrap()
+        call.args(words.split_whitespace()).current_dir(&self.0);
+        call
     }
 
     /// What is printed, when the status is this one.
@@ -288,6 +293,15 @@ fn what_cannot_be_read_is_not_judged() {
     folder.not_run("check --horizon 100 . p c a", "timetable .: ");
     folder.not_run("check --horizon 100 t p c", "4 files are wanted, 3 are given");
     folder.not_run("judge", "no such command");
+}
+
+/// No verdict by the status alone.
+#[test]
+fn a_result_that_cannot_be_printed_is_none() {
+    let folder = Folder::new("printed");
+    let full = fs::OpenOptions::new().write(true).open("/dev/full").unwrap();
+    let status = folder.call("check --horizon 100 t p c a").stdout(full).status().unwrap();
+    assert_eq!(status.code(), Some(3));
 }
 
 #[test]

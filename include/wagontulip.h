@@ -21,8 +21,7 @@
  *   - refused:  every unsigned table is all 4,294,967,295, every signed one all -2,147,483,648, a text buffer all zero bytes.
  *
  * The functions keep no state, allocate nothing, do no input or output, and never end the process: they are reentrant, and may run in as many threads as
- * there are sets of tables. None recurses and no table is made on the stack, so the stack they take does not depend on the sizes; how much it is has not
- * been measured yet.
+ * there are sets of tables. How much stack they take has not been measured yet; `host/bench/run stack` does it.
  */
 #ifndef WAGONTULIP_H
 #define WAGONTULIP_H

@@ -216,7 +216,7 @@ const VIOLATED: u64 = 1;
 const REFUSED: u64 = 2;
 const ROW: u64 = 3;
 
-/// The numbers as an answer; an accepted one gives its values, of which the last `values` may be other than 0.
+/// The numbers as an answer; an accepted one gives its values, of which only the first `values` may be other than 0.
 fn answer(numbers: &Numbers, values: usize) -> Option<Answer<[u64; 15]>> {
     let [code, given @ ..] = *numbers;
     let (used, said) = match code {

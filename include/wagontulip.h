@@ -1,12 +1,12 @@
 /*
  * Wagontulip for C: a checker for metro timetables whose answers are proved.
  *
- * Link libchecker.a (x86-64 Linux), which `rt staticlib checker` writes to target/staticlib.
+ * Link the library's archive (x86-64 Linux), which `rt staticlib` writes to target/staticlib from the crate with the exports; `host/build` does it.
  *
  *     LABEL, to be printed above every result: no violation shown is not no violation.
  *
  * Every function judges its own input. Any bytes in any text end in one of three answers: accepted, the first violation, or a numbered refusal. The promise
- * of each is stated and proved in crates/checker; the numbers are those of document 01.
+ * of each is stated and proved beside its code; the numbers are those of document 01.
  *
  * Texts and tables. A text or a table is two arguments, a pointer and how many elements it has: bytes of a text, numbers of a table. The caller owns them all.
  *   - A text is only read. Texts may overlap each other.

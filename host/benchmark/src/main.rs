@@ -4,14 +4,12 @@
 //!
 //! Before anything is timed both must give the same counts and the same tables, and the same refusals on texts with one byte changed.
 
-mod clock;
 mod instance;
-mod plain;
 mod proved;
 
 use instance::{Dice, Lists, H};
-use plain::Said;
 use std::time::Duration;
+use yardstick::{self as plain, clock, Said};
 
 const SEED: u64 = 1;
 const RUNS: usize = 25;
@@ -67,8 +65,9 @@ fn same_answers(name: &str, text: &[u8], plain: Reader, proved: Reader) {
     assert!(matches!(said, Said::Read(..)), "{name}: the text is refused: {said:?}");
     let (hash, its) = (one.hash(), other.hash());
     assert_eq!(hash, its, "{name}: the tables differ");
-    let Said::Read(rows, entries) = said else { return };
-    println!("{name}: {:.1} MB, {rows} rows, {entries} entries, tables {hash:016x} on both sides", text.len() as f64 / 1e6);
+    if let Said::Read(rows, entries) = said {
+        println!("{name}: {:.1} MB, {rows} rows, {entries} entries, tables {hash:016x} on both sides", text.len() as f64 / 1e6);
+    }
 }
 
 /// The first rows of a text, each time with one byte changed, left out or put in.
@@ -96,7 +95,7 @@ fn same_refusals(name: &str, text: &[u8], plain: Reader, proved: Reader) {
 
 fn timed(reader: Reader, text: &[u8], tables: &mut Tables) -> Duration {
     let start = clock::now();
-    let said = std::hint::black_box(reader(std::hint::black_box(text), tables));
+    let said = clock::kept(reader(clock::kept(text), tables));
     let took = clock::now() - start;
     assert!(matches!(said, Said::Read(..)));
     took
@@ -126,7 +125,7 @@ fn refused(text: &[u8], proved: Reader, runs: usize) -> f64 {
     let mut best = Duration::MAX;
     for _ in 0..runs {
         let start = clock::now();
-        let said = proved(std::hint::black_box(&broken), &mut tables);
+        let said = proved(clock::kept(&broken), &mut tables);
         best = best.min(clock::now() - start);
         assert_eq!(said, Said::Refused(plain::FORM, first as u32));
     }
@@ -138,7 +137,7 @@ fn measure_plain_solution(text: &[u8], runs: usize) {
     let mut best = Duration::MAX;
     for _ in 0..runs {
         let start = clock::now();
-        let said = plain::solution::read(std::hint::black_box(text), H, &mut tables.rows, &mut ids);
+        let said = plain::solution::read(clock::kept(text), H, &mut tables.rows, &mut ids);
         best = best.min(clock::now() - start);
         assert!(matches!(said, Said::Read(..)));
     }

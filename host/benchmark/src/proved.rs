@@ -1,6 +1,6 @@
 //! The proved readers, from the static library that `run` makes.
 
-use crate::plain::Said;
+use yardstick::Said;
 
 #[link(name = "exports", kind = "static")]
 extern "C" {
@@ -36,21 +36,11 @@ fn said(answer: u64) -> Said {
 pub fn timetable(text: &[u8], h: u32, legs: &mut [u32], configurations: &mut [u32]) -> Said {
     // Safe: each pointer goes with its slice's length, and no two of the slices overlap.
     said(unsafe {
-        proved_timetable(
-            text.as_ptr(),
-            text.len(),
-            h,
-            legs.as_mut_ptr(),
-            legs.len(),
-            configurations.as_mut_ptr(),
-            configurations.len(),
-        )
+        proved_timetable(text.as_ptr(), text.len(), h, legs.as_mut_ptr(), legs.len(), configurations.as_mut_ptr(), configurations.len())
     })
 }
 
 pub fn profiles(text: &[u8], profiles: &mut [u32], samples: &mut [i32]) -> Said {
     // Safe: as above.
-    said(unsafe {
-        proved_profiles(text.as_ptr(), text.len(), profiles.as_mut_ptr(), profiles.len(), samples.as_mut_ptr(), samples.len())
-    })
+    said(unsafe { proved_profiles(text.as_ptr(), text.len(), profiles.as_mut_ptr(), profiles.len(), samples.as_mut_ptr(), samples.len()) })
 }

@@ -1,6 +1,7 @@
 //! A timetable by hand: 8 numbers a leg, 3 a configuration.
 
 use super::*;
+use crate::ids::Seen;
 
 pub const HEAD: &[u8] =
     b"leg_id,train_id,track_id,start_station_id,end_station_id,nominal_departure_configuration,departure_configurations\n";
@@ -67,7 +68,7 @@ pub fn read(text: &[u8], h: u32, legs: &mut [u32], configurations: &mut [u32]) -
         return Said::Refused(HEADER, 0);
     }
     let mut bytes = Bytes { text, at: HEAD.len() };
-    let (mut rows, mut filled, mut above) = (0u32, 0u32, 0u32);
+    let (mut rows, mut filled, mut ids_seen) = (0u32, 0u32, Seen::default());
     while bytes.at < text.len() {
         let place = bytes.at as u32;
         let refused = |number| Said::Refused(number, place);
@@ -79,14 +80,17 @@ pub fn read(text: &[u8], h: u32, legs: &mut [u32], configurations: &mut [u32]) -
                 }
             }
         });
-        let Some(row) = kept else { return refused(FORM) };
+        let row = match kept {
+            Some(row) => row,
+            None => return refused(FORM),
+        };
         if !row.in_range {
             return refused(RANGE);
         }
         if rows >= MOST_ROWS || row.entries > MOST_LIST || filled + row.entries > MOST_ENTRIES {
             return refused(COUNT);
         }
-        if seen(legs, 8, rows as usize, above, row.ids[0]) {
+        if !ids_seen.is_new(legs, LEG, rows as usize, row.ids[0]) {
             return refused(SEEN);
         }
         if row.before == row.entries {
@@ -100,7 +104,6 @@ pub fn read(text: &[u8], h: u32, legs: &mut [u32], configurations: &mut [u32]) -
         legs[at + 5..at + 8].copy_from_slice(&[filled, row.entries, row.before]);
         rows += 1;
         filled += row.entries;
-        above = above.max(row.ids[0] + 1);
     }
     Said::Read(rows, filled)
 }

@@ -1,4 +1,4 @@
-//! Time that this thread has run, so that other work on the machine counts as little as it can.
+//! Time that this thread has run, so that other work on the machine counts as little as it can, and what keeps the work between two times.
 
 use std::time::Duration;
 
@@ -20,4 +20,15 @@ pub fn now() -> Duration {
     let status = unsafe { clock_gettime(THREAD_CPU_TIME, &mut time) };
     assert_eq!(status, 0, "no clock for this thread");
     Duration::new(time.seconds as u64, time.nanoseconds as u32)
+}
+
+/// The value, of which the compiler knows nothing: `std::hint::black_box`, which Debian's compiler does not have yet.
+#[inline(always)]
+pub fn kept<T>(value: T) -> T {
+    // Safe: the value is moved, and the first copy is forgotten.
+    unsafe {
+        let moved = std::ptr::read_volatile(&value);
+        std::mem::forget(value);
+        moved
+    }
 }

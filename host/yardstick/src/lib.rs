@@ -1,8 +1,15 @@
-//! The yardstick: readers as one writes them by hand in plain Rust. Each looks at a byte once, keeps every rule of a row, and fills its tables.
+//! The yardstick: the checker as one writes it by hand in plain, safe Rust for speed, a byte at a time but for the names in the JSON. It fills the same
+//! tables as the proved one. The CSV readers keep every rule of a row and say what they refuse; the rest is for good files and only says that it stopped.
 
+pub mod clock;
+pub mod constraints;
+pub mod energy;
+pub mod ids;
 pub mod profiles;
 pub mod solution;
 pub mod timetable;
+pub mod verdict;
+pub mod whole;
 
 /// What a reading says: two counts, or the number and place of the first refusal.
 #[derive(Clone, Copy, Debug, PartialEq, Eq)]
@@ -22,6 +29,13 @@ pub const ROOM: u8 = 16;
 
 pub const MOST_TEXT: usize = 67_108_864;
 pub const MOST_ID: u32 = 999_999_999;
+
+/// How many numbers an entry of a table has.
+pub const LEG: usize = 8;
+pub const CONFIGURATION: usize = 3;
+pub const PROFILE: usize = 3;
+pub const CONSTRAINT: usize = 6;
+pub const TRACK: usize = 2;
 
 /// A number of ten digits or more is past every limit.
 const TOO_GREAT: u32 = u32::MAX;
@@ -75,9 +89,4 @@ impl<'a> Bytes<'a> {
         let value = self.whole()?;
         Some((value, self.next()?))
     }
-}
-
-/// The ids of the rows before, for a table in which a row starts with its id: an id above all others is new, another is looked for.
-fn seen(table: &[u32], width: usize, rows: usize, above: u32, id: u32) -> bool {
-    id < above && table.chunks_exact(width).take(rows).any(|row| row[0] == id)
 }

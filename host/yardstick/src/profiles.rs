@@ -1,6 +1,7 @@
 //! Profiles by hand: 3 numbers a profile, a signed kW a sample.
 
 use super::*;
+use crate::ids::Seen;
 
 const HEAD: &[u8] = b"profile_id,power_consumptions\n";
 const MOST_ROWS: u32 = 16_384;
@@ -39,15 +40,21 @@ pub fn read(text: &[u8], profiles: &mut [u32], samples: &mut [i32]) -> Said {
         return Said::Refused(HEADER, 0);
     }
     let mut bytes = Bytes { text, at: HEAD.len() };
-    let (mut rows, mut filled, mut above) = (0u32, 0u32, 0u32);
+    let (mut rows, mut filled, mut ids_seen) = (0u32, 0u32, Seen::default());
     while bytes.at < text.len() {
         let place = bytes.at as u32;
         let refused = |number| Said::Refused(number, place);
-        let Some(id) = bytes.closed(b',') else { return refused(FORM) };
+        let id = match bytes.closed(b',') {
+            Some(id) => id,
+            None => return refused(FORM),
+        };
         let mut in_range = id <= MOST_ID;
         let mut count = 0;
         loop {
-            let Some((negative, kw, byte)) = bytes.sample() else { return refused(FORM) };
+            let (negative, kw, byte) = match bytes.sample() {
+                Some(sample) => sample,
+                None => return refused(FORM),
+            };
             if kw <= MOST_KW {
                 if let Some(room) = samples.get_mut(filled as usize + count as usize) {
                     *room = if negative { -(kw as i32) } else { kw as i32 };
@@ -68,7 +75,7 @@ pub fn read(text: &[u8], profiles: &mut [u32], samples: &mut [i32]) -> Said {
         if rows >= MOST_ROWS || count > MOST_LIST || filled + count > MOST_SAMPLES {
             return refused(COUNT);
         }
-        if seen(profiles, 3, rows as usize, above, id) {
+        if !ids_seen.is_new(profiles, PROFILE, rows as usize, id) {
             return refused(SEEN);
         }
         let at = rows as usize * 3;
@@ -78,7 +85,6 @@ pub fn read(text: &[u8], profiles: &mut [u32], samples: &mut [i32]) -> Said {
         profiles[at..at + 3].copy_from_slice(&[id, filled, count]);
         rows += 1;
         filled += count;
-        above = above.max(id + 1);
     }
     Said::Read(rows, filled)
 }

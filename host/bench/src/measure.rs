@@ -1,0 +1,124 @@
+//! Times: best of so many runs, of this thread alone, all sides by turns.
+
+use crate::instance::{Instance, Upto};
+use crate::sides::{Outcome, Side};
+use yardstick::clock;
+
+/// Milliseconds.
+pub type Ms = f64;
+
+/// The times of one side on one instance.
+#[derive(Clone, Copy, Debug)]
+pub struct Times {
+    nothing: Ms,
+    timetable: Ms,
+    profiles: Ms,
+    constraints: Ms,
+    first_leg: Ms,
+    pub check: Ms,
+    pub energy: Ms,
+    /// The bytes of the constraints over those of the first-leg ones.
+    longer: f64,
+}
+
+impl Times {
+    fn new(instance: &Instance) -> Times {
+        let none = f64::INFINITY;
+        let longer = instance.constraints.len() as f64 / instance.first_leg_only.len() as f64;
+        Times { nothing: none, timetable: none, profiles: none, constraints: none, first_leg: none, check: none, energy: none, longer }
+    }
+
+    pub fn timetable(&self) -> Ms {
+        self.timetable - self.nothing
+    }
+
+    /// With 12 and 13.
+    pub fn profiles(&self) -> Ms {
+        self.profiles - self.timetable
+    }
+
+    /// With 15, but for the lookup of legs.
+    pub fn constraints(&self) -> Ms {
+        (self.first_leg - self.profiles) * self.longer
+    }
+
+    pub fn lookup(&self) -> Ms {
+        self.constraints - self.profiles - self.constraints()
+    }
+
+    /// With 14 and the verdict. An accepted solution fills nothing.
+    pub fn solution(&self) -> Ms {
+        self.check - (self.constraints - self.nothing)
+    }
+
+    /// Curves and sums alone.
+    pub fn curves(&self) -> Ms {
+        self.energy - self.check
+    }
+}
+
+/// The times of every side, after all have given the same answers.
+pub fn all(sides: &mut [Box<dyn Side>], instance: &Instance, runs: usize) -> Vec<Times> {
+    agree(sides, instance);
+    let mut times = vec![Times::new(instance); sides.len()];
+    for _ in 0..runs {
+        for (side, times) in sides.iter_mut().zip(&mut times) {
+            once(side.as_mut(), instance, times);
+        }
+    }
+    times
+}
+
+/// The check in all, of every side.
+pub fn checks(sides: &mut [Box<dyn Side>], instance: &Instance, runs: usize) -> Vec<Ms> {
+    agree(sides, instance);
+    let texts = instance.texts();
+    let mut best = vec![f64::INFINITY; sides.len()];
+    for _ in 0..runs {
+        for (side, best) in sides.iter_mut().zip(&mut best) {
+            *best = best.min(timed(|| side.check(instance.h, &texts)));
+        }
+    }
+    best
+}
+
+fn once(side: &mut dyn Side, instance: &Instance, times: &mut Times) {
+    let stages = [
+        (Upto::Nothing, &mut times.nothing),
+        (Upto::Timetable, &mut times.timetable),
+        (Upto::Profiles, &mut times.profiles),
+        (Upto::Constraints, &mut times.constraints),
+        (Upto::FirstLegConstraints, &mut times.first_leg),
+    ];
+    for (upto, best) in stages {
+        let (h, texts) = upto.texts(instance);
+        *best = best.min(timed(|| side.check(h, &texts)));
+    }
+    let texts = instance.texts();
+    times.check = times.check.min(timed(|| side.check(instance.h, &texts)));
+    times.energy = times.energy.min(timed(|| side.energy(instance.h, &texts)));
+}
+
+/// A side is called through a table of functions, so that its work cannot be left out.
+fn timed<T>(work: impl FnOnce() -> T) -> Ms {
+    let start = clock::now();
+    let given = work();
+    let took = clock::now() - start;
+    drop(given);
+    took.as_secs_f64() * 1e3
+}
+
+/// Before anything is timed.
+fn agree(sides: &mut [Box<dyn Side>], instance: &Instance) {
+    let mut figures = Vec::new();
+    for side in sides {
+        for upto in [Upto::Timetable, Upto::Profiles, Upto::Constraints, Upto::FirstLegConstraints] {
+            let (h, texts) = upto.texts(instance);
+            assert_eq!(Some(side.check(h, &texts)), upto.stops_at().map(Outcome::Stopped), "{} {upto:?}", side.name());
+        }
+        let (outcome, its) = side.energy(instance.h, &instance.texts());
+        assert_eq!(outcome, Outcome::Accepted, "{}", side.name());
+        figures.push(its);
+    }
+    assert!(figures.iter().all(|its| *its == figures[0]), "the sides differ: {figures:?}");
+}

@@ -1,0 +1,17 @@
+//! A seeded maker of instances: drafts, profiles and constraints in the layouts of document 000 and in the shapes and sizes that EETTlib publishes, with
+//! solutions that are accepted and variants that are violated at a known place.
+//!
+//! How it is made so that the answers are known: trains of a line follow one pattern of departures, and every record between two trains leaves room for
+//! moving each of them by the reach of the offers, and for a shorter travel time. So any train may move as a whole, and any leg may run faster, and the
+//! solution stays accepted.
+
+mod aim;
+mod dice;
+mod make;
+mod plan;
+mod shape;
+mod text;
+
+pub use aim::{Aim, Violated};
+pub use plan::{Choices, Leg, Offer, Plan, Record};
+pub use shape::{Ids, Shape, Style};

@@ -1,0 +1,84 @@
+//! Writes an instance to a folder, with solutions and with one variant for each violation, and prints the answers to expect.
+
+use instances::{Aim, Choices, Ids, Plan, Shape, Style};
+use std::fs;
+use std::path::Path;
+use std::process::ExitCode;
+
+const USAGE: &str = "\
+instances FOLDER [--style underground|railway] [--legs N] [--seed S] [--shuffled]
+
+Without --legs, the largest instance of the style.
+";
+
+fn main() -> ExitCode {
+    let words: Vec<String> = std::env::args().skip(1).collect();
+    let ended = asked(&words).ok_or_else(|| String::from(USAGE)).and_then(|(folder, shape)| write(Path::new(folder), shape));
+    match ended {
+        Ok(expected) => {
+            print!("{expected}");
+            ExitCode::SUCCESS
+        }
+        Err(why) => {
+            eprint!("{why}");
+            ExitCode::FAILURE
+        }
+    }
+}
+
+fn asked(words: &[String]) -> Option<(&String, Shape)> {
+    let (folder, options) = words.split_first()?;
+    let (mut style, mut legs, mut seed, mut ids) = (Style::Underground, None, 1, Ids::InOrder);
+    let mut options = options.iter();
+    while let Some(option) = options.next() {
+        match option.as_str() {
+            "--style" => style = self::style(options.next()?)?,
+            "--legs" => legs = Some(options.next()?.parse().ok().filter(|legs| *legs > 1)?),
+            "--seed" => seed = options.next()?.parse().ok()?,
+            "--shuffled" => ids = Ids::Shuffled,
+            _ => return None,
+        }
+    }
+    let shape = match (legs, style) {
+        (Some(legs), _) => Shape::of(style, legs),
+        (None, Style::Underground) => Shape::largest_underground(),
+        (None, Style::Railway) => Shape::largest_railway(),
+    };
+    Some((folder, shape.seeded(seed).with_ids(ids)))
+}
+
+fn style(name: &str) -> Option<Style> {
+    match name {
+        "underground" => Some(Style::Underground),
+        "railway" => Some(Style::Railway),
+        _ => None,
+    }
+}
+
+fn write(folder: &Path, shape: Shape) -> Result<String, String> {
+    let put = |name: &str, text: &str| fs::write(folder.join(name), text).map_err(|error| format!("{name}: {error}\n"));
+    fs::create_dir_all(folder).map_err(|error| format!("{}: {error}\n", folder.display()))?;
+    let plan = Plan::new(shape);
+    put("timetable.csv", &plan.timetable())?;
+    put("profiles.csv", &plan.profiles_text())?;
+    put("constraints.json", &plan.constraints())?;
+    let mut expected = format!("horizon {}\n", plan.horizon());
+    for (name, choices) in
+        [("moved", Choices::Moved(shape.seed)), ("also-moved", Choices::Moved(shape.seed + 1)), ("faster", Choices::Faster(shape.seed))]
+    {
+        put(&format!("{name}.csv"), &plan.solution(&plan.choose(choices)))?;
+        expected.push_str(&format!("constraints.json {name}.csv: accepted\n"));
+    }
+    for aim in Aim::ALL {
+        if let Some(violated) = plan.violated(aim, shape.seed) {
+            let name = format!("violated-{}-{}", aim.kind, aim.inequality);
+            put(&format!("{name}.json"), &violated.constraints)?;
+            put(&format!("{name}.csv"), &violated.solution)?;
+            let (kind, inequality, position, shortfall) = (aim.kind, aim.inequality, violated.position, violated.shortfall);
+            expected.push_str(&format!(
+                "{name}.json {name}.csv: violated, kind {kind}, position {position}, inequality {inequality}, shortfall {shortfall}\n"
+            ));
+        }
+    }
+    Ok(expected)
+}

@@ -1,0 +1,132 @@
+//! Every instance reads, its solutions are accepted, and each aimed violation is the one that is found: by the independent program.
+
+use independent::{check, energy, merge, Answer, Direction, Rooms};
+use instances::{Aim, Choices, Ids, Plan, Shape, Style};
+
+struct Texts {
+    h: u32,
+    timetable: String,
+    profiles: String,
+    constraints: String,
+}
+
+impl Texts {
+    fn of(plan: &Plan) -> Texts {
+        Texts { h: plan.horizon(), timetable: plan.timetable(), profiles: plan.profiles_text(), constraints: plan.constraints() }
+    }
+
+    fn check(&self, constraints: &str, solution: &str) -> Answer {
+        let (timetable, profiles) = (self.timetable.as_bytes(), self.profiles.as_bytes());
+        check(self.h, timetable, profiles, constraints.as_bytes(), solution.as_bytes(), &ample()).answer
+    }
+}
+
+fn ample() -> Rooms {
+    Rooms::all(67_108_864)
+}
+
+/// Small shapes of both styles.
+fn shapes() -> Vec<Shape> {
+    let mut shapes = Vec::new();
+    for style in [Style::Underground, Style::Railway] {
+        for (legs, seed) in [(2, 1), (3, 2), (7, 3), (40, 4), (150, 5), (600, 6)] {
+            shapes.push(Shape::of(style, legs).seeded(seed));
+            shapes.push(Shape::of(style, legs).seeded(seed + 100).with_ids(Ids::Shuffled));
+        }
+    }
+    shapes
+}
+
+#[test]
+fn solutions_are_accepted() {
+    for shape in shapes() {
+        let plan = Plan::new(shape);
+        let texts = Texts::of(&plan);
+        for choices in [Choices::Nominal, Choices::Moved(1), Choices::Moved(2), Choices::Faster(3)] {
+            let solution = plan.solution(&plan.choose(choices));
+            assert_eq!(texts.check(&texts.constraints, &solution), Answer::Accepted, "{shape:?} {choices:?}");
+        }
+    }
+}
+
+#[test]
+fn solutions_differ() {
+    for shape in shapes().into_iter().filter(|shape| shape.legs > 7) {
+        let plan = Plan::new(shape);
+        let moved = plan.choose(Choices::Moved(1));
+        assert_ne!(moved, plan.choose(Choices::Nominal));
+        assert_ne!(moved, plan.choose(Choices::Moved(2)));
+        if shape.style == Style::Underground {
+            assert!(plan.choose(Choices::Faster(1)).iter().zip(&plan.legs).any(|(offer, leg)| offer.travel < leg.nominal.travel));
+        }
+    }
+}
+
+#[test]
+fn moved_solutions_can_be_merged() {
+    for shape in shapes() {
+        let plan = Plan::new(shape);
+        let texts = Texts::of(&plan);
+        let [first, second] = [1, 2].map(|seed| plan.solution(&plan.choose(Choices::Moved(seed))));
+        let (timetable, profiles, constraints) = (texts.timetable.as_bytes(), texts.profiles.as_bytes(), texts.constraints.as_bytes());
+        let merged = merge(Direction::Earlier, texts.h, timetable, profiles, constraints, first.as_bytes(), second.as_bytes(), &ample());
+        assert_eq!(merged.answer, Answer::Accepted, "{shape:?}");
+    }
+}
+
+#[test]
+fn violations_are_where_they_are_aimed() {
+    let mut met = [0; Aim::ALL.len()];
+    for shape in shapes() {
+        let plan = Plan::new(shape);
+        let texts = Texts::of(&plan);
+        for (place, aim) in Aim::ALL.into_iter().enumerate() {
+            for violated in (0..2).filter_map(|seed| plan.violated(aim, seed)) {
+                let (kind, inequality, shortfall) = (aim.kind, aim.inequality, i64::from(violated.shortfall));
+                let expected = Answer::Violated { kind, position: violated.position, inequality, shortfall, file: 4 };
+                assert_eq!(texts.check(&violated.constraints, &violated.solution), expected, "{shape:?} {aim:?}");
+                met[place] += 1;
+            }
+        }
+    }
+    assert!(met.iter().all(|count| *count > 4), "{met:?}");
+}
+
+#[test]
+fn seeds_give_other_instances_and_the_same_again() {
+    let text = |seed| Plan::new(Shape::of(Style::Underground, 40).seeded(seed)).timetable();
+    assert_eq!(text(1), text(1));
+    assert_ne!(text(1), text(2));
+}
+
+/// The numbers of document 000's Table 4 and of 001's, and the house rules of the two styles.
+#[test]
+fn published_sizes() {
+    for (shape, dwells, most, least) in
+        [(Shape::largest_underground(), 23_038, 612_000, 606_000), (Shape::largest_railway(), 22_328, 7 * 24_191, 7 * 24_191)]
+    {
+        let plan = Plan::new(shape);
+        assert_eq!(plan.legs.len(), shape.legs);
+        let counts: Vec<usize> = plan.records.iter().map(Vec::len).collect();
+        assert_eq!(counts, [shape.headways, shape.single_tracks, dwells, shape.turnarounds, shape.connections]);
+        assert!((least..=most).contains(&plan.configurations()), "{}", plan.configurations());
+        let (step, reach) = (shape.style.step(), shape.style.reach());
+        for offer in plan.legs.iter().flat_map(|leg| leg.offers.iter().map(move |offer| offer.departure.abs_diff(leg.nominal.departure))) {
+            assert!(offer % step == 0 && offer <= reach);
+        }
+    }
+}
+
+/// The largest instances whole, with their energies.
+#[test]
+fn the_largest_are_accepted() {
+    for shape in [Shape::largest_underground(), Shape::largest_railway()] {
+        let plan = Plan::new(shape);
+        let texts = Texts::of(&plan);
+        let (timetable, profiles, constraints) = (texts.timetable.as_bytes(), texts.profiles.as_bytes(), texts.constraints.as_bytes());
+        let report = energy(texts.h, timetable, profiles, constraints, timetable, &ample());
+        assert_eq!(report.answer, Answer::Accepted);
+        let figures = report.figures;
+        assert!(0 < figures.lost && figures.lost < figures.drawn && figures.drawn < figures.before, "{figures:?}");
+    }
+}

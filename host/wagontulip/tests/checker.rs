@@ -1,0 +1,152 @@
+//! The safe wrapper on document 01's worked example: what crosses the C interface arrives.
+
+mod common;
+
+use common::{draft, dwell, solution, H, PROFILES};
+use wagontulip::{row_at, Answer, Checker, File, Files, Kind, Reason, Refusal, Rooms, Table, Violation};
+
+struct Texts {
+    timetable: String,
+    constraints: String,
+}
+
+impl Texts {
+    fn new() -> Texts {
+        Texts { timetable: draft(), constraints: dwell(20) }
+    }
+
+    fn files(&self) -> Files<'_> {
+        Files { timetable: self.timetable.as_bytes(), profiles: PROFILES.as_bytes(), constraints: self.constraints.as_bytes() }
+    }
+}
+
+const UNSIGNED: u32 = 4_294_967_295;
+const SIGNED: i32 = -2_147_483_648;
+
+/// Room for the example and one entry more in each table, which keeps a seven.
+fn small() -> Checker {
+    let rooms = [(Table::Legs, 24), (Table::Configurations, 15), (Table::Profiles, 9), (Table::Samples, 8), (Table::Constraints, 12)];
+    let more = [(Table::Tracks, 6), (Table::Choices, 9), (Table::SecondChoices, 9), (Table::Curves, 200), (Table::Text, 300)];
+    let mut lent = Rooms::at_the_limits();
+    for (table, room) in rooms.into_iter().chain(more) {
+        lent[table] = room;
+    }
+    let mut checker = Checker::with_rooms(&lent);
+    let room = &mut checker.room;
+    for table in [&mut room.legs, &mut room.configurations, &mut room.profiles, &mut room.constraints, &mut room.tracks] {
+        table.fill(7);
+    }
+    room.samples.fill(7);
+    room.choices.fill(7);
+    room.second_choices.fill(7);
+    room.text.fill(7);
+    checker
+}
+
+#[test]
+fn an_accepted_solution_leaves_its_tables() {
+    let mut checker = small();
+    let said = checker.check(H, &Texts::new().files(), solution("15_4_7", "40_3_8").as_bytes());
+    assert_eq!(said, Ok(Answer::Accepted(())));
+    let room = &checker.room;
+    assert_eq!(room.legs[..], [1, 1, 1, 1, 2, 0, 2, 0, 2, 1, 2, 2, 3, 2, 2, 0, 7, 7, 7, 7, 7, 7, 7, 7]);
+    assert_eq!(room.configurations[..], [10, 4, 7, 15, 4, 7, 40, 3, 8, 45, 3, 8, 7, 7, 7]);
+    assert_eq!(room.profiles[..], [7, 0, 4, 8, 4, 3, 7, 7, 7]);
+    assert_eq!(room.samples[..], [500, 1_000, 250, -400, 300, 0, -200, 7]);
+    assert_eq!(room.constraints[..], [3, 0, 1, 20, 0, 0, 7, 7, 7, 7, 7, 7]);
+    assert_eq!(room.tracks[..], [1, 0, 2, 0, 7, 7]);
+    assert_eq!(room.choices[..], [15, 4, 7, 40, 3, 8, 7, 7, 7]);
+}
+
+#[test]
+fn a_violation_is_named() {
+    let texts = Texts { constraints: dwell(22), ..Texts::new() };
+    let said = Checker::new().check(H, &texts.files(), solution("15_4_7", "40_3_8").as_bytes());
+    let violation = Violation { kind: Kind::Dwell, position: 0, inequality: 1, shortfall: 1, file: File::Solution };
+    assert_eq!(said, Ok(Answer::Violated(violation)));
+}
+
+#[test]
+fn a_refusal_fills_every_table() {
+    let mut checker = small();
+    let texts = Texts { timetable: draft().replace(",2,3,40", ",2,3,41"), ..Texts::new() };
+    let said = checker.energy(H, &texts.files(), draft().as_bytes()).unwrap();
+    assert_eq!(said, Answer::Refused(Refusal { reason: Reason::Nominal, file: File::Timetable, place: 145 }));
+    let room = &checker.room;
+    for table in [&room.legs, &room.configurations, &room.profiles, &room.constraints, &room.tracks, &room.choices] {
+        assert!(table.iter().all(|number| *number == UNSIGNED));
+    }
+    assert!(room.samples.iter().chain(&room.curves).all(|number| *number == SIGNED));
+}
+
+#[test]
+fn energies_come_with_a_curve_for_each_subnet() {
+    let texts = Texts::new();
+    let mut checker = small();
+    let energies = match checker.energy(H, &texts.files(), draft().as_bytes()) {
+        Ok(Answer::Accepted(energies)) => energies,
+        other => panic!("{other:?}"),
+    };
+    let figures = energies.figures;
+    assert_eq!((figures.before_kj, figures.drawn_kj, figures.lost_kj, figures.fluctuation_kw), (2_050, 2_050, 600, 1_400));
+    assert_eq!((figures.peak_before_kj, figures.peak_drawn_kj, figures.peak_drawn_mw), (0, 0, 0.0));
+    assert_eq!(
+        (figures.before_mwh, figures.drawn_mwh, figures.lost_mwh),
+        (2_050.0 / 3_600_000.0, 2_050.0 / 3_600_000.0, 600.0 / 3_600_000.0)
+    );
+    assert_eq!(energies.curves.len(), 1);
+    assert_eq!(energies.curves[0].len(), H as usize);
+    assert_eq!(energies.curves[0][9..15], [0, 500, 1_000, 250, -400, 0]);
+}
+
+/// A subnet without tracks has a curve too.
+#[test]
+fn empty_subnets_count() {
+    let mut texts = Texts::new();
+    texts.constraints = texts.constraints.replace("[1, 2]}]", "[1, 2]}, {\"subnet_id\": 2, \"track_ids\": []}]");
+    let mut checker = Checker::new();
+    match checker.energy(H, &texts.files(), draft().as_bytes()) {
+        Ok(Answer::Accepted(energies)) => assert_eq!(energies.curves.len(), 2),
+        other => panic!("{other:?}"),
+    }
+}
+
+#[test]
+fn merged_texts_are_handed_out_whole() {
+    let texts = Texts::new();
+    let (first, second) = (solution("15_4_7", "40_3_8"), solution("10_4_7", "45_3_8"));
+    let mut checker = small();
+    let said = checker.merge_earlier(H, &texts.files(), first.as_bytes(), second.as_bytes());
+    assert_eq!(said, Ok(Answer::Accepted(draft().as_bytes())));
+    let said = checker.merge_later(H, &texts.files(), first.as_bytes(), second.as_bytes());
+    assert_eq!(said, Ok(Answer::Accepted(solution("15_4_7", "45_3_8").as_bytes())));
+    assert_eq!(checker.room.text[draft().len()..], [7; 300][draft().len()..]);
+    checker.room.text.truncate(draft().len() - 1);
+    let said = checker.merge_later(H, &texts.files(), first.as_bytes(), second.as_bytes());
+    assert_eq!(said, Ok(Answer::Refused(Refusal { reason: Reason::Room, file: File::None, place: 0 })));
+    assert!(checker.room.text.iter().all(|byte| *byte == 0));
+}
+
+#[test]
+fn a_row_is_a_part_of_its_text() {
+    let (draft, other) = (draft(), solution("15_4_7", "45_3_8"));
+    let (draft, other) = (draft.as_bytes(), other.as_bytes());
+    assert_eq!(row_at(draft, other, 1, 145), Ok(Some(&draft[145..draft.len() - 1])));
+    assert_eq!(row_at(draft, other, 4, 145), Ok(Some(&other[145..other.len() - 1])));
+    assert_eq!(row_at(draft, other, 4, 144), Ok(None));
+    assert_eq!(row_at(draft, other, 4, 0), Ok(None));
+    assert_eq!(row_at(draft, other, 5, 145), Ok(None));
+    assert_eq!(row_at(b"\n\nx", b"", 1, 1), Ok(Some(&b""[..])));
+}
+
+/// No text, and no room at all.
+#[test]
+fn nothing_can_be_lent() {
+    let mut rooms = Rooms::at_the_limits();
+    for table in Table::ALL {
+        rooms[table] = 0;
+    }
+    let files = Files { timetable: b"", profiles: b"", constraints: b"" };
+    let said = Checker::with_rooms(&rooms).check(H, &files, b"");
+    assert_eq!(said, Ok(Answer::Refused(Refusal { reason: Reason::Header, file: File::Timetable, place: 0 })));
+}

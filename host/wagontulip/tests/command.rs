@@ -1,0 +1,329 @@
+//! The command as a user calls it: words, statuses, files.
+
+mod common;
+
+use common::{constraints, draft, dwell, solution, HEADER, PROFILES};
+use std::fs;
+use std::path::PathBuf;
+use std::process::{Command, Output};
+
+const LABEL: &str = "no violation shown is not no violation\n";
+
+/// A folder of its own for each test, with the example's files.
+struct Folder(PathBuf);
+
+impl Folder {
+    fn new(test: &str) -> Folder {
+        let path = std::env::temp_dir().join(format!("wagontulip-{}-{test}", std::process::id()));
+        let _ = fs::remove_dir_all(&path);
+        fs::create_dir_all(&path).unwrap();
+        let folder = Folder(path);
+        folder.put("t", &draft());
+        folder.put("p", PROFILES);
+        folder.put("c", &dwell(20));
+        folder.put("a", &solution("15_4_7", "40_3_8"));
+        folder.put("b", &solution("10_4_7", "45_3_8"));
+        folder
+    }
+
+    fn put(&self, name: &str, text: &str) {
+        fs::write(self.0.join(name), text).unwrap();
+    }
+
+    fn get(&self, name: &str) -> Option<String> {
+        fs::read_to_string(self.0.join(name)).ok()
+    }
+
+    fn run(&self, words: &str) -> Output {
+        self.call(words).output().unwrap()
+    }
+
+    /// The command in the folder; WAGONTULIP_RUNNER runs a program of another machine.
+    fn call(&self, words: &str) -> Command {
+        let command = env!("CARGO_BIN_EXE_wagontulip");
+        let mut call = match std::env::var("WAGONTULIP_RUNNER") {
+            Ok(runner) => {
+                let mut words = runner.split_whitespace();
+                let mut call = Command::new(words.next().unwrap());
+                call.args(words).arg(command);
+                call
+            }
+            Err(_) => Command::new(command),
+        };
+        call.args(words.split_whitespace()).current_dir(&self.0);
+        call
+    }
+
+    /// What is printed, when the status is this one.
+    fn told(&self, words: &str, status: i32) -> String {
+        let output = self.run(words);
+        assert_eq!(output.status.code(), Some(status), "{words}: {output:?}");
+        String::from_utf8(output.stdout).unwrap()
+    }
+
+    /// Could not run: no verdict, no label, and the reason on the other stream.
+    fn not_run(&self, words: &str, why: &str) {
+        let output = self.run(words);
+        assert_eq!(output.status.code(), Some(3), "{words}: {output:?}");
+        assert!(output.stdout.is_empty(), "{words}: {output:?}");
+        let said = String::from_utf8(output.stderr).unwrap();
+        assert!(said.contains(why), "{words}: {said}");
+    }
+
+    fn names(&self) -> Vec<String> {
+        let mut names: Vec<String> =
+            fs::read_dir(&self.0).unwrap().map(|entry| entry.unwrap().file_name().into_string().unwrap()).collect();
+        names.sort();
+        names
+    }
+}
+
+impl Drop for Folder {
+    fn drop(&mut self) {
+        let _ = fs::remove_dir_all(&self.0);
+    }
+}
+
+#[test]
+fn accepted() {
+    let folder = Folder::new("accepted");
+    assert_eq!(folder.told("check --horizon 100 t p c a", 0), format!("{LABEL}accepted\n"));
+}
+
+#[test]
+fn a_violation_in_words() {
+    let folder = Folder::new("violation");
+    folder.put("c", &dwell(22));
+    let words = "violated: dwell in the solution, position 0 (from 0), inequality 1
+  first leg 1: train 1, station 1 to station 2 on track 1, departs 00:00:15 (15 s), arrives 00:00:19 (19 s)
+  second leg 2: train 1, station 2 to station 3 on track 2, departs 00:00:40 (40 s), arrives 00:00:43 (43 s)
+  needed: arrival of the first leg + 22 s ≤ departure of the second leg, that is 19 + 22 ≤ 40
+  falls short by 1 s
+";
+    assert_eq!(folder.told("check --horizon 100 t p c a", 1), format!("{LABEL}{words}"));
+    let object = folder.told("check --json --horizon 100 t p c a", 1);
+    let start = r#"{"label": "no violation shown is not no violation", "answer": "violated", "kind": 3, "position": 0, "inequality": 1, "shortfall": 1, "file": 4, "horizon": 100, "#;
+    assert!(object.starts_with(start), "{object}");
+}
+
+/// Each kind and inequality, with what was needed.
+#[test]
+fn every_inequality_in_words() {
+    let folder = Folder::new("inequalities");
+    let legs = r#""first_leg_id": 1, "second_leg_id": 2"#;
+    let backwards = r#""first_leg_id": 2, "second_leg_id": 1"#;
+    let connection = |low: u32, high: u32, by: &str| {
+        format!(r#"{{{legs}, "min_connection_time": {low}, "max_connection_time": {high}, "connection_type": "{by}_to_departure"}}"#)
+    };
+    let cases = [
+        (
+            "headway_time_constraints",
+            format!(r#"{{{legs}, "min_headway_time": 26}}"#),
+            "departure of the first leg + 26 s ≤ departure of the second leg, that is 15 + 26 ≤ 40",
+        ),
+        (
+            "headway_time_constraints",
+            format!(r#"{{{legs}, "min_headway_time": 25}}"#),
+            "arrival of the first leg + 25 s ≤ arrival of the second leg, that is 19 + 25 ≤ 43",
+        ),
+        (
+            "single_track_headway_constraints",
+            format!("{{{backwards}}}"),
+            "arrival of the first leg ≤ departure of the second leg, that is 43 ≤ 15",
+        ),
+        (
+            "terminal_turnaround_constraints",
+            format!(r#"{{{legs}, "min_turnaround_time": 22}}"#),
+            "arrival of the first leg + 22 s ≤ departure of the second leg, that is 19 + 22 ≤ 40",
+        ),
+        (
+            "connection_constraints",
+            connection(22, 30, "arrival"),
+            "arrival of the first leg + 22 s ≤ departure of the second leg, that is 19 + 22 ≤ 40",
+        ),
+        (
+            "connection_constraints",
+            connection(0, 20, "arrival"),
+            "departure of the second leg ≤ arrival of the first leg + 20 s, that is 40 ≤ 19 + 20",
+        ),
+        (
+            "connection_constraints",
+            connection(26, 30, "departure"),
+            "departure of the first leg + 26 s ≤ departure of the second leg, that is 15 + 26 ≤ 40",
+        ),
+        (
+            "connection_constraints",
+            connection(0, 24, "departure"),
+            "departure of the second leg ≤ departure of the first leg + 24 s, that is 40 ≤ 15 + 24",
+        ),
+    ];
+    for (list, record, needed) in cases {
+        folder.put("c", &constraints(list, &record));
+        let said = folder.told("check --horizon 100 t p c a", 1);
+        assert!(said.contains(&format!("  needed: {needed}\n")), "{list} {record}: {said}");
+        let (left, right) = needed.split_once("that is ").unwrap().1.split_once(" ≤ ").unwrap();
+        let sum = |side: &str| side.split(" + ").map(|number| number.parse::<u32>().unwrap()).sum::<u32>();
+        assert!(said.ends_with(&format!("  falls short by {} s\n", sum(left) - sum(right))), "{list} {record}: {said}");
+    }
+}
+
+#[test]
+fn a_choice_that_is_not_offered() {
+    let folder = Folder::new("offered");
+    folder.put("a", &solution("10_4_7", "12_3_8").replace("45_3_8", "45_3_8 12_3_8"));
+    let words = "violated: choice not offered in the solution, row 1 (from 0)
+  leg 2: train 1, station 2 to station 3 on track 2, departs 00:00:12 (12 s), arrives 00:00:15 (15 s)
+  chosen: 12_3_8
+  the draft offers: 40_3_8 45_3_8
+";
+    assert_eq!(folder.told("check --horizon 100 t p c a", 1), format!("{LABEL}{words}"));
+}
+
+#[test]
+fn a_refusal_shows_its_line() {
+    let folder = Folder::new("refusal");
+    folder.put("t", &draft().replace("40_3_8 45_3_8", "40_3_8  45_3_8"));
+    let words = "refused: 4 (CSV row breaks its form)
+  timetable t, place 145: line 3, byte 1 of it
+    2,1,2,2,3,40_3_8,40_3_8  45_3_8
+    ^
+";
+    assert_eq!(folder.told("check --horizon 100 t p c a", 2), format!("{LABEL}{words}"));
+    folder.put("t", &draft());
+    folder.put("c", &dwell(20).replace("min_dwell_time", "max_dwell_time"));
+    let said = folder.told("check --horizon 100 t p c a", 2);
+    assert!(said.contains("refused: 10 (unknown list, key or connection type)\n  constraints c, place "), "{said}");
+    let lines: Vec<&str> = said.lines().collect();
+    assert!(lines[3][lines[4].find('^').unwrap()..].starts_with("\"max_dwell_time\""), "{said}");
+    folder.put("c", "{");
+    let said = folder.told("check --horizon 100 t p c a", 2);
+    assert!(said.contains("constraints c, place 1: the end of the text\n"), "{said}");
+    let object = folder.told("check --horizon 0 t p c a --json", 2);
+    assert!(object.contains(r#""answer": "refused", "number": 1, "file": 0, "place": 0, "#), "{object}");
+}
+
+#[test]
+fn the_evidence_names_every_input() {
+    let folder = Folder::new("evidence");
+    folder.put("a", "abc");
+    let object = folder.told("check --horizon 100 t p c a --json", 2);
+    let input = r#"{"name": "a", "bytes": 3, "sha256": "ba7816bf8f01cfea414140de5dae2223b00361a396177a9cb410ff61f20015ad"}"#;
+    assert!(object.contains(input), "{object}");
+    assert_eq!(object.matches("\"sha256\"").count(), 4);
+    assert!(object.contains(r#""version": "0."#), "{object}");
+    assert_eq!(object.lines().count(), 1);
+}
+
+#[test]
+fn energies_and_curves() {
+    let folder = Folder::new("energies");
+    let said = folder.told("energy --horizon 100 t p c t --curves out", 0);
+    let figures = "accepted
+  before recuperation: 2050 kJ (0.0005694444444444445 MWh)
+  drawn: 2050 kJ (0.0005694444444444445 MWh)
+  lost: 600 kJ (0.00016666666666666666 MWh)
+  fluctuation: 1400 kW
+  peak quarter before recuperation: 0 kJ
+  peak quarter drawn: 0 kJ (0 MW)
+  written: out, ";
+    assert!(said.starts_with(&format!("{LABEL}{figures}")), "{said}");
+    let curves = folder.get("out").unwrap();
+    let lines: Vec<&str> = curves.lines().collect();
+    assert_eq!((lines.len(), &lines[9..15]), (100, &["0", "500", "1000", "250", "-400", "0"][..]));
+    folder.put("c", &dwell(20).replace("[1, 2]}]", "[1]}, {\"subnet_id\": 2, \"track_ids\": [2]}]"));
+    let object = folder.told("energy --horizon 100 t p c t --curves out --json", 0);
+    assert!(
+        object.contains(
+            r#""before_kj": 2050, "drawn_kj": 2050, "lost_kj": 600, "fluctuation_kw": 1400, "peak_before_kj": 0, "peak_drawn_kj": 0, "#
+        ),
+        "{object}"
+    );
+    assert_eq!(folder.get("out").unwrap().lines().nth(42), Some("0 -200"));
+    let said = folder.told("energy --horizon 100 t p c t --room curves=199", 2);
+    assert!(said.contains("refused: 16 (lent room too short)"), "{said}");
+}
+
+#[test]
+fn merges_are_written_whole_or_not_at_all() {
+    let folder = Folder::new("merges");
+    folder.put("later", "old");
+    let said = folder.told("merge --horizon 100 t p c a b --earlier earlier --later later", 0);
+    assert_eq!(said, format!("{LABEL}accepted\n  written: earlier, {0} bytes\n  written: later, {0} bytes\n", draft().len()));
+    assert_eq!(folder.get("earlier"), Some(draft()));
+    assert_eq!(folder.get("later"), Some(solution("15_4_7", "45_3_8")));
+    folder.put("b", &solution("10_4_7", "50_3_8"));
+    let said = folder.told("merge --horizon 100 t p c a b --earlier one --later later", 2);
+    assert!(said.contains("refused: 8 (nominal not in its list)\n  second solution b, place 145: line 3"), "{said}");
+    folder.put("b", &solution("10_4_7", "50_3_8").replace("45_3_8", "50_3_8"));
+    let said = folder.told("merge --horizon 100 t p c a b --earlier one --later later", 1);
+    assert!(said.contains("choice not offered in the second solution, row 1") && said.contains("chosen: 50_3_8"), "{said}");
+    assert_eq!(folder.get("later"), Some(solution("15_4_7", "45_3_8")));
+    assert_eq!(folder.names(), ["a", "b", "c", "earlier", "later", "p", "t"]);
+}
+
+#[test]
+fn an_output_is_no_input_and_no_other_output() {
+    let folder = Folder::new("outputs");
+    fs::create_dir(folder.0.join("f")).unwrap();
+    fs::hard_link(folder.0.join("a"), folder.0.join("linked")).unwrap();
+    std::os::unix::fs::symlink("b", folder.0.join("pointing")).unwrap();
+    let merge = |earlier: &str, later: &str| format!("merge --horizon 100 t p c a b --earlier {earlier} --later {later}");
+    for (earlier, later, why) in [
+        ("o", "o", "is named twice"),
+        ("o", "./o", "is named twice"),
+        ("o", "f/../o", "is named twice"),
+        ("a", "o", "is an input"),
+        ("o", "./t", "is an input"),
+        ("linked", "o", "is an input"),
+        ("pointing", "o", "is an input"),
+        ("f", "o", "is no regular file"),
+        ("nowhere/o", "o", "its folder is not there"),
+    ] {
+        folder.not_run(&merge(earlier, later), why);
+    }
+    folder.not_run("energy --horizon 100 t p c a --curves c", "is an input");
+    assert_eq!(folder.get("a"), Some(solution("15_4_7", "40_3_8")));
+    assert_eq!(folder.names(), ["a", "b", "c", "f", "linked", "p", "pointing", "t"]);
+}
+
+#[test]
+fn what_cannot_be_read_is_not_judged() {
+    let folder = Folder::new("missing");
+    folder.not_run("check --horizon 100 t p c missing", "solution missing: ");
+    folder.not_run("check --horizon 100 . p c a", "timetable .: ");
+    folder.not_run("check --horizon 100 t p c", "4 files are wanted, 3 are given");
+    folder.not_run("judge", "no such command");
+}
+
+/// No verdict by the status alone.
+#[test]
+fn a_result_that_cannot_be_printed_is_none() {
+    let folder = Folder::new("printed");
+    let full = fs::OpenOptions::new().write(true).open("/dev/full").unwrap();
+    let status = folder.call("check --horizon 100 t p c a").stdout(full).status().unwrap();
+    assert_eq!(status.code(), Some(3));
+}
+
+#[test]
+fn a_row_is_shown() {
+    let folder = Folder::new("row");
+    assert_eq!(folder.told("row --file 4 --place 145 t b", 0), format!("{LABEL}2,1,2,2,3,45_3_8,40_3_8 45_3_8\n"));
+    assert_eq!(folder.told("row --file 1 --place 144 t b", 0), format!("{LABEL}no row starts there\n"));
+    let object = folder.told("row --file 1 --place 145 t b --json", 0);
+    assert!(object.contains(r#""file": 1, "place": 145, "row": "2,1,2,2,3,40_3_8,40_3_8 45_3_8", "length": 30, "#), "{object}");
+}
+
+#[test]
+fn less_room_is_refused() {
+    let folder = Folder::new("room");
+    let said = folder.told("check --horizon 100 t p c a --room legs=15", 2);
+    assert!(said.contains("refused: 16 (lent room too short)\n  timetable t, place 145"), "{said}");
+}
+
+#[test]
+fn any_bytes_are_shown_as_words() {
+    let folder = Folder::new("bytes");
+    fs::write(folder.0.join("t"), [HEADER.as_bytes(), b"\xff\x1b\n"].concat()).unwrap();
+    let said = folder.told("check --horizon 100 t p c a", 2);
+    assert!(said.contains("    \\xff\\x1b\n    ^\n"), "{said}");
+}

@@ -1,0 +1,149 @@
+/*
+ * Wagontulip for C: a checker for metro timetables whose answers are proved.
+ *
+ * Link the library's archive (x86-64 Linux), which `rt staticlib` writes to target/staticlib from the crate with the exports; `host/build` does it.
+ *
+ *     LABEL, to be printed above every result: no violation shown is not no violation.
+ *
+ * Every function judges its own input. Any bytes in any text end in one of three answers: accepted, the first violation, or a numbered refusal. The promise
+ * of each is stated and proved beside its code; the numbers are those of document 01.
+ *
+ * Texts and tables. A text or a table is two arguments, a pointer and how many elements it has: bytes of a text, numbers of a table. The caller owns them all.
+ *   - A text is only read. Texts may overlap each other.
+ *   - A table, a text buffer and an answer are lent: written during the call, and not kept after it. No two of them may overlap, and none a text.
+ *   - A pointer may be null only with length 0. A length of 0 is no error by itself: too little room is an answer (refusal 16).
+ *   - A table of 32-bit numbers is aligned as uint32_t is, an answer as uint64_t.
+ * What a pointer is to cannot be tested here: these five lines are the only thing that a caller must see to.
+ *
+ * What a call leaves in the lent tables:
+ *   - accepted: what was read; past the last entry, or past a written text, a table keeps its contents.
+ *   - violated: the same, but a text buffer is all zero bytes, and a curve table is all -2,147,483,648.
+ *   - refused:  every unsigned table is all 4,294,967,295, every signed one all -2,147,483,648, a text buffer all zero bytes.
+ *
+ * The functions keep no state, allocate nothing, do no input or output, and never end the process: they are reentrant, and may run in as many threads as
+ * there are sets of tables. How much stack they take has not been measured yet; `host/bench/run stack` does it.
+ */
+#ifndef WAGONTULIP_H
+#define WAGONTULIP_H
+
+#include <stddef.h>
+#include <stdint.h>
+
+#ifdef __cplusplus
+extern "C" {
+#endif
+
+/* An answer is a code and its values; the unused ones are 0. */
+#define WAGONTULIP_NUMBERS 16
+
+enum {
+    WAGONTULIP_ACCEPTED = 0, /* then what the function says */
+    WAGONTULIP_VIOLATED = 1, /* then kind, position, inequality, shortfall, file */
+    WAGONTULIP_REFUSED = 2,  /* then number, file, place */
+    WAGONTULIP_ROW = 3       /* then start, length */
+};
+
+/* The places of a violation's values. */
+enum {
+    WAGONTULIP_KIND = 1,       /* 0 choice not offered, 1 headway, 2 single-track headway, 3 dwell, 4 turnaround, 5 connection */
+    WAGONTULIP_POSITION = 2,   /* in its list, or the row for kind 0; from 0 */
+    WAGONTULIP_INEQUALITY = 3, /* 1 or 2; 0 for kind 0 */
+    WAGONTULIP_SHORTFALL = 4,  /* left side minus right, in seconds, at least 1; 0 for kind 0 */
+    WAGONTULIP_VIOLATED_FILE = 5 /* 4 solution, 5 second solution */
+};
+
+/* The places of a refusal's values. */
+enum {
+    WAGONTULIP_NUMBER = 1,       /* 1 to 17, by document 01's table */
+    WAGONTULIP_REFUSED_FILE = 2, /* 0 none, 1 timetable, 2 profiles, 3 constraints, 4 solution, 5 second solution */
+    WAGONTULIP_PLACE = 3         /* a byte of that file, from 0 */
+};
+
+/* The places of an accepted solution's energies. */
+enum {
+    WAGONTULIP_BEFORE_KJ = 1,
+    WAGONTULIP_DRAWN_KJ = 2,
+    WAGONTULIP_LOST_KJ = 3,
+    WAGONTULIP_FLUCTUATION_KW = 4, /* as int64_t, two's complement */
+    WAGONTULIP_PEAK_BEFORE_KJ = 5,
+    WAGONTULIP_PEAK_DRAWN_KJ = 6,
+    WAGONTULIP_BEFORE_MWH = 7, /* this and the next three: the bits of a double */
+    WAGONTULIP_DRAWN_MWH = 8,
+    WAGONTULIP_LOST_MWH = 9,
+    WAGONTULIP_PEAK_DRAWN_MW = 10
+};
+
+/* The place of an accepted merge's value: how many bytes of the text buffer are the merged text. */
+enum { WAGONTULIP_LENGTH = 1 };
+
+/* The places of a row's values. Both are 0 where no row starts there; a row's start never is. */
+enum { WAGONTULIP_START = 1, WAGONTULIP_ROW_LENGTH = 2 };
+
+/* The places in `rooms`. */
+enum {
+    WAGONTULIP_LEGS_ROOM = 0,
+    WAGONTULIP_CONFIGURATIONS_ROOM = 1,
+    WAGONTULIP_PROFILES_ROOM = 2,
+    WAGONTULIP_SAMPLES_ROOM = 3,
+    WAGONTULIP_CONSTRAINTS_ROOM = 4,
+    WAGONTULIP_TRACKS_ROOM = 5,
+    WAGONTULIP_CHOICES_ROOM = 6,
+    WAGONTULIP_SECOND_CHOICES_ROOM = 7,
+    WAGONTULIP_CURVES_ROOM = 8,
+    WAGONTULIP_TEXT_ROOM = 9 /* in bytes; the others in numbers */
+};
+
+/*
+ * How much room each table can need, for any texts within document 01's sizes. With this much room, and texts that are not refused otherwise, 16 is never
+ * given. Less may be lent: then 16 says which entry does not fit.
+ */
+void wagontulip_rooms(uint64_t rooms[WAGONTULIP_NUMBERS]);
+
+/*
+ * The tables. Leg: five ids, first configuration, count, place of the nominal in its list (8 numbers). Configuration and choice: departure, travel time,
+ * profile id (3). Profile: id, first sample, count (3). Sample: kW (1). Constraint: kind, first row, second row, low, high, type (6). Track: id, place of its
+ * subnet (2). Curve: H numbers in kW for each subnet, one subnet after the other.
+ */
+
+/* Is the solution accepted? `h` is the horizon in seconds. */
+void wagontulip_check(uint32_t h, const uint8_t *timetable, size_t timetable_length, const uint8_t *profiles, size_t profiles_length,
+                      const uint8_t *constraints, size_t constraints_length, const uint8_t *solution, size_t solution_length, uint32_t *legs,
+                      size_t legs_room, uint32_t *configurations, size_t configurations_room, uint32_t *profile_table, size_t profile_table_room,
+                      int32_t *samples, size_t samples_room, uint32_t *constraint_table, size_t constraint_table_room, uint32_t *tracks,
+                      size_t tracks_room, uint32_t *choices, size_t choices_room, uint64_t answer[WAGONTULIP_NUMBERS]);
+
+/* The same, and where the solution is accepted its energies, with the power curves in `curves`. */
+void wagontulip_energy(uint32_t h, const uint8_t *timetable, size_t timetable_length, const uint8_t *profiles, size_t profiles_length,
+                       const uint8_t *constraints, size_t constraints_length, const uint8_t *solution, size_t solution_length, uint32_t *legs,
+                       size_t legs_room, uint32_t *configurations, size_t configurations_room, uint32_t *profile_table, size_t profile_table_room,
+                       int32_t *samples, size_t samples_room, uint32_t *constraint_table, size_t constraint_table_room, uint32_t *tracks,
+                       size_t tracks_room, uint32_t *choices, size_t choices_room, int32_t *curves, size_t curves_room,
+                       uint64_t answer[WAGONTULIP_NUMBERS]);
+
+/* From two accepted solutions, the timetable of the earlier choice at each leg (the first file's at equal departures), written to `text`. */
+void wagontulip_merge_earlier(uint32_t h, const uint8_t *timetable, size_t timetable_length, const uint8_t *profiles, size_t profiles_length,
+                              const uint8_t *constraints, size_t constraints_length, const uint8_t *first, size_t first_length,
+                              const uint8_t *second, size_t second_length, uint32_t *legs, size_t legs_room, uint32_t *configurations,
+                              size_t configurations_room, uint32_t *profile_table, size_t profile_table_room, int32_t *samples, size_t samples_room,
+                              uint32_t *constraint_table, size_t constraint_table_room, uint32_t *tracks, size_t tracks_room, uint32_t *choices,
+                              size_t choices_room, uint32_t *second_choices, size_t second_choices_room, uint8_t *text, size_t text_room,
+                              uint64_t answer[WAGONTULIP_NUMBERS]);
+
+/* The same of the later choice at each leg (the second file's at equal departures). */
+void wagontulip_merge_later(uint32_t h, const uint8_t *timetable, size_t timetable_length, const uint8_t *profiles, size_t profiles_length,
+                            const uint8_t *constraints, size_t constraints_length, const uint8_t *first, size_t first_length,
+                            const uint8_t *second, size_t second_length, uint32_t *legs, size_t legs_room, uint32_t *configurations,
+                            size_t configurations_room, uint32_t *profile_table, size_t profile_table_room, int32_t *samples, size_t samples_room,
+                            uint32_t *constraint_table, size_t constraint_table_room, uint32_t *tracks, size_t tracks_room, uint32_t *choices,
+                            size_t choices_room, uint32_t *second_choices, size_t second_choices_room, uint8_t *text, size_t text_room,
+                            uint64_t answer[WAGONTULIP_NUMBERS]);
+
+/* For display: the row at a refusal's file and place, without its LF, in the draft for file 1 and in the solution for file 4. The code is WAGONTULIP_ROW. */
+void wagontulip_row(const uint8_t *draft, size_t draft_length, const uint8_t *solution, size_t solution_length, uint8_t file, uint32_t place,
+                    uint64_t answer[WAGONTULIP_NUMBERS]);
+
+#ifdef __cplusplus
+}
+#endif
+
+#endif

@@ -28,7 +28,7 @@ use Rattle.laws.proofs.DemandTwo.{answer-accepted, checked-answer}
 use Rattle.laws.proofs.DemandThree.{demand-three}
 use Rattle.merging.specs.declared.Merged.{Merged}
 use Rattle.merging.specs.Promise.{Merges}
-use Rattle.checker.specs.DemandThree.{Accepts, Wrote, BothWritten, CurvesAddUp, Absorbs}
+use Rattle.checker.specs.DemandThree.{Accepts, Wrote, BothWritten, Laid, CurvesAddUp, Absorbs, MergesHold}
 
 -- what an outcome that keeps a merge's promise wrote
 module _ (H : ℕ) (x : Texts) (t : Tables) (c : List ℕ) (f : Files) where
@@ -68,14 +68,20 @@ module _ (H : ℕ) (x : Texts) (t : Tables) (f : Files) where
   unfolding curvesOf
   curves-many cs = tabulate-length (f .document .opened * H) _
 
-  -- its curves, as a report lays them
-  laid : (solution c : List ℕ) (cs : List Configuration) → allRead H x solution (roomsOf t) (length c) ≡ good (record { files = f; choices = cs })
-      → verdictOf f cs ≡ accepted → (p : List ℤ) → f .document .opened * H ≤ length p
-      → take (f .document .opened * H) (reported H x solution t c p .curves) ≡ curvesOf H f cs
-  unfolding reported over
-  laid solution c cs read v p room =
-      rw (read, v, le-leb (f .document .opened * H) (length p) room)
-      (ap (λ n. take n (over (curvesOf H f cs) p)) (sym (curves-many cs)) ∙ take-append-seam (curvesOf H f cs) _)
+  -- a report over it is accepted, and lays its curves
+  module _ (solution c : List ℕ) (cs : List Configuration) (read : allRead H x solution (roomsOf t) (length c) ≡ good (record { files = f; choices = cs }))
+      (v : verdictOf f cs ≡ accepted) (k : Laid H x solution t c f) where
+    report-accepted : k .report .answer ≡ Accepted
+    unfolding reported
+    report-accepted = k .keeps .answer ∙ rw (read, v, le-leb (f .document .opened * H) (length (k .lent)) (k .room))
+
+    over-lent : k .curves ≡ over (curvesOf H f cs) (k .lent)
+    unfolding reported
+    over-lent = k .keeps .curves ∙ rw (read, v, le-leb (f .document .opened * H) (length (k .lent)) (k .room))
+
+    laid : take (f .document .opened * H) (k .curves) ≡ curvesOf H f cs
+    unfolding over
+    laid = ap₂ take (sym (curves-many cs)) over-lent ∙ take-append-seam (curvesOf H f cs) _
 
 module _ (H : ℕ) (x : Texts) (t : Tables) (c d : List ℕ) (f : Files) where
   module _ (a b : List ℕ) (s r : List Configuration) (one : Accepts H x a t c f s) (two : Accepts H x b t d f r) (same : SameTravel s r) where
@@ -107,12 +113,17 @@ module _ (H : ℕ) (x : Texts) (t : Tables) (c d : List ℕ) (f : Files) where
 
     module _ (e l : List ℕ) (e-read : allRead H x e (roomsOf t) (length c) ≡ good (record { files = f; choices = earlier s r }))
         (l-read : allRead H x l (roomsOf t) (length c) ≡ good (record { files = f; choices = later s r })) where
-      -- the new texts' curves add up to the old ones'
+      -- `energy` accepts the new texts, and their curves add up to the old ones
       pub curves-add-up : CurvesAddUp H x a b t c d f s r e l
-      curves-add-up p q p′ q′ room₁ room₂ room₃ room₄ =
-          ap₂ (zipped _+ℤ_) (laid H x t f e c (earlier s r) e-read (merges-fair .0) p′ room₃) (laid H x t f l c (later s r) l-read (merges-fair .1) q′ room₄)
-          ∙ three e l .curve-tables
-          ∙ sym (ap₂ (zipped _+ℤ_) (laid H x t f a c s (one .reads) (fair H x t f one) p room₁) (laid H x t f b d r (two .reads) (fair H x t f two) q room₂))
+      curves-add-up =
+          record {
+            earlier-laid = report-accepted H x t f e c (earlier s r) e-read (merges-fair .0);
+            later-laid = report-accepted H x t f l c (later s r) l-read (merges-fair .1);
+            add-up = λ k₁ k₂ old₁ old₂.
+                ap₂ (zipped _+ℤ_) (laid H x t f e c (earlier s r) e-read (merges-fair .0) k₁) (laid H x t f l c (later s r) l-read (merges-fair .1) k₂)
+                ∙ three e l .curve-tables
+                ∙ sym (ap₂ (zipped _+ℤ_) (laid H x t f a c s (one .reads) (fair H x t f one) old₁) (laid H x t f b d r (two .reads) (fair H x t f two) old₂));
+          }
 
   module _ (a b : List ℕ) (s r : List Configuration) (one : Accepts H x a t c f s) (two : Accepts H x b t d f r) (same : SameTravel s r) where
     files-read : filesOf H x (roomsOf t) ≡ good f
@@ -156,3 +167,18 @@ module _ (H : ℕ) (x : Texts) (t : Tables) (c d : List ℕ) (f : Files) where
           later-absorbs = λ {m} {text} {t′} {c′} {d′} {text′} room k.
               subst (λ cs. Wrote H x t c f cs m text′) (back .1) (inner-earlier .later-written (subst (λ cs. HasRoom f cs text) (sym (back .1)) room) k);
         }
+
+    -- THE DEMAND, of any outcomes of the two merges that keep their promises
+    module _ {m n : Merged} {text₁ text₂ : List ℕ} {t₁ t₂ : Tables} {c₁ c₂ d₁ d₂ e l : List ℕ}
+        (room₁ : HasRoom f (earlier s r) text₁) (k₁ : Merges earlier H x a b t c d text₁ m t₁ c₁ d₁ e)
+        (room₂ : HasRoom f (later s r) text₂) (k₂ : Merges later H x a b t c d text₂ n t₂ c₂ d₂ l) where
+      pub merges-hold : MergesHold H x a b t c d f s r m e n l
+      merges-hold =
+          let one-wrote = both-written a b s r one two same .earlier-written room₁ k₁ in
+          let two-wrote = both-written a b s r one two same .later-written room₂ k₂ in
+          record {
+            earlier-wrote = one-wrote;
+            later-wrote = two-wrote;
+            curves = curves-add-up a b s r one two same (take (m .length) e) (take (n .length) l) (one-wrote .reads-back) (two-wrote .reads-back);
+            absorption = absorbs (take (m .length) e) (take (n .length) l) (one-wrote .written) (two-wrote .written);
+          }

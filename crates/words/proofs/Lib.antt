@@ -1,0 +1,4 @@
+pub mod Spellings
+pub mod Texts
+pub mod Lines
+pub mod Counting

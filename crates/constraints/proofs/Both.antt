@@ -1,8 +1,8 @@
 -- The two walks together: the answer of the whole reading, and both tables. Assumes nothing.
 use Prim.Native.Nat.{ℕ, zero, suc, _+_, _*_, _/_, _≤_, _<_}
 use mathlib.Core.Path.{_≡_, refl, ap, sym, subst, _∙_}
-use mathlib.Core.Bool.{Bool, true, false}
-use mathlib.Core.List.{List, [], _∷_, _++_}
+use mathlib.Core.Bool.{true, false}
+use mathlib.Core.List.{List, [], _∷_}
 use native.Mathlib.Omega.{arith}
 use native.Mathlib.Nat.{div-mul-le-self}
 use lib.ListN.{length, getD, drop}
@@ -12,7 +12,7 @@ use Rattle.rules.specs.Limits.{mostText, mostLegs, mostConstraints, legWidth, c
 use Rattle.rules.specs.Lists.{flat, over}
 use Rattle.rules.specs.Tokens.{tokensOf}
 use Rattle.rules.specs.Answers.{refusal, tooLong, constraintsFile, Reading, refused, good}
-use Rattle.rules.specs.Constraints.{Document, empty, start, plainRules, run, constraintsOf, constraintNumbers, trackNumbers}
+use Rattle.rules.specs.Constraints.{Document, empty, start, plainRules, run, constraintsOf, trackNumbers}
 use Rattle.rules.specs.declared.sizes.Constraint.{Constraint}
 use Rattle.rules.specs.Verdict.{All}
 use Rattle.laws.specs.LawfulDocument.{LawfulConstraint, LawfulDocument}
@@ -22,7 +22,6 @@ use Rattle.ids.specs.Column.{Records, column}
 use Rattle.constraints.specs.declared.steps.Counts.{Counts}
 use Rattle.constraints.specs.declared.walks.Walked.{Walked}
 use Rattle.constraints.specs.declared.walks.Walked.the-variants.{Good, Refused}
-use Rattle.constraints.specs.declared.Read.{Read}
 use Rattle.constraints.specs.declared.Read.the-variants.{Whole, Refused as NotRead}
 use Rattle.constraints.specs.Steps.{countsOf}
 use Rattle.constraints.specs.Tables.{nexts, startsOf, outcome, Filled, Walks, Able, reading, readOf, Tables, Reads}

@@ -12,9 +12,8 @@ use Rattle.rules.specs.Lists.{flat, over}
 use Rattle.rules.specs.Constraints.{constraintNumbers, trackNumbers}
 use Rattle.rules.specs.declared.sizes.Constraint.{Constraint}
 use Rattle.rules.specs.declared.sizes.Track.{Track}
-use Rattle.ids.specs.Column.{column}
+use Rattle.ids.specs.Column.{column, trackIdsOf}
 use Rattle.ids.proofs.Column.{column-length, column-at}
-use Rattle.constraints.specs.Steps.{trackIdsOf}
 use Rattle.constraints.specs.Tables.{bumped, nexts, placed, writes, written}
 use Rattle.constraints.proofs.Putting.{counted-low}
 use Rattle.constraints.proofs.Words.{ids-length}

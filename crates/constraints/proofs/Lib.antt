@@ -8,4 +8,3 @@ pub mod Filling
 pub mod Going
 pub mod ByKind
 pub mod Both
-pub mod Fifteen

@@ -1,12 +1,10 @@
 -- Classes of tokens by number. Assumes nothing.
-use Prim.Native.Nat.{ℕ}
 use mathlib.Core.Path.{_≡_, refl}
-use mathlib.Core.Bool.{Bool, true, false}
+use mathlib.Core.Bool.{true, false}
 use lib.Dec.{eqb}
 use Rattle.rules.specs.Constraints.{classNumber, otherwise}
 use Rattle.rules.specs.declared.tokens.Class.{Class}
 use Rattle.rules.specs.declared.tokens.Class.the-variants.{OpenBrace, CloseBrace, OpenBracket, CloseBracket, Colon, Comma, Quoted, Run, End, Unclosed, Forbidden}
-use Rattle.rules.specs.declared.tokens.Action.{Action}
 use Rattle.rules.specs.declared.tokens.Action.the-variants.{Broken, Early}
 
 pub ends-early : (c : Class) → eqb (classNumber c) (classNumber End) ≡ true → Early ≡ otherwise c

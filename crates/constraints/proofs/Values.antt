@@ -1,7 +1,7 @@
 -- The actions at a number: what is at fault, and what is read, by what the number and its search say. Assumes nothing.
 use Prim.Native.Nat.{ℕ, _≤_, _<_}
-use mathlib.Core.Path.{_≡_, refl, ap, sym, _∙_}
-use mathlib.Core.Bool.{Bool, true, false, not}
+use mathlib.Core.Path.{_≡_, ap, sym, _∙_}
+use mathlib.Core.Bool.{Bool, true, false}
 use mathlib.Core.List.{List}
 use native.Mathlib.Omega.{arith}
 use lib.ListN.{length}
@@ -19,11 +19,11 @@ use Rattle.text.specs.declared.numbers.Whole.{Whole}
 use Rattle.text.specs.declared.numbers.Whole.the-variants.{Number, Beyond, Malformed}
 use Rattle.ids.specs.declared.Found.{Found}
 use Rattle.ids.specs.declared.Found.the-variants.{At, Nothing}
-use Rattle.ids.specs.Column.{placeOf, column}
-use Rattle.ids.proofs.Places.{found-at, found-nothing}
+use Rattle.ids.specs.Column.{placeOf, column, trackIdsOf}
+use Rattle.ids.proofs.Places.{found-at, found-nothing, some-there, none-there}
 use Rattle.ids.proofs.Column.{column-length}
-use Rattle.constraints.specs.Steps.{Says, trackIdsOf}
-use Rattle.constraints.proofs.Words.{held-none, held-some, held-past, Says-number, held-number, any-swap, any-track, some-there, none-there, ids-length}
+use Rattle.constraints.specs.Steps.{Says}
+use Rattle.constraints.proofs.Words.{held-none, held-some, held-past, Says-number, held-number, any-swap, any-track, ids-length}
 
 module _ (legs : List ℕ) (constraints tracks : ℕ) (st : State) (d : Document) (t : Token) (place : ℕ) (n : Whole) (says : Says t place n) where
   -- ---- no number, and one past every limit

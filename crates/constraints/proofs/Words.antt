@@ -10,19 +10,18 @@ use lib.Dec.{leb, eqb}
 use lib.ListN.{length}
 use borrow.Author.Tests.{leb-false, lt-leb, eq-eqb, ne-eqb, eqb-true, eqb-false}
 use Rattle.rules.specs.Limits.{mostId}
-use Rattle.rules.specs.Lists.{any, isSome, firstPlace, sameList}
+use Rattle.rules.specs.Lists.{any, isSome, sameList}
 use Rattle.rules.specs.Kinds.{numberFrom, listNames, listNamed}
 use Rattle.rules.specs.declared.sizes.Track.{Track}
 use Rattle.text.specs.Held.{wholeHeld}
 use Rattle.text.specs.declared.numbers.Whole.{Whole}
 use Rattle.text.specs.declared.numbers.Whole.the-variants.{Number, Beyond, Malformed}
 use Rattle.ids.specs.declared.Found.{Found}
-use Rattle.ids.specs.declared.Found.the-variants.{At, Nothing}
-use Rattle.ids.specs.Column.{placeOf}
-use Rattle.ids.proofs.Places.{found-at, found-nothing, any-place}
+use Rattle.ids.specs.declared.Found.the-variants.{At}
+use Rattle.ids.specs.Column.{trackIdsOf, placeOf}
+use Rattle.ids.proofs.Places.{found-at}
 use Rattle.rules.specs.Constraints.{rowOfLeg}
 use Rattle.laws.proofs.Entries.{row-within}
-use Rattle.constraints.specs.Steps.{trackIdsOf}
 
 -- ---- numbers: none, one past a limit, one within every id's
 
@@ -89,18 +88,6 @@ any-swap id (x ∷ ids) = rw (eqb-swap id x, any-swap id ids)
 pub any-track : (id : ℕ) (ts : List Track) → any (λ k. eqb (k .id) id) ts ≡ any (λ x. eqb x id) (trackIdsOf ts)
 any-track id [] = refl
 any-track id (t ∷ ts) = rw (any-track id ts)
-
-module _ (id : ℕ) (ids : List ℕ) (f : Found) (e : f ≡ placeOf id ids) where
-  place : Option ℕ
-  place = firstPlace (λ x. eqb x id) ids
-
-  pub some-there : (i : ℕ) → f ≡ At i → any (λ x. eqb x id) ids ≡ true
-  unfolding place
-  some-there i is = any-place (λ x. eqb x id) 0 ids ∙ ap isSome (found-at place i (sym is ∙ e))
-
-  pub none-there : f ≡ Nothing → any (λ x. eqb x id) ids ≡ false
-  unfolding place
-  none-there is = any-place (λ x. eqb x id) 0 ids ∙ ap isSome (found-nothing place (sym is ∙ e))
 
 -- as many ids as tracks
 pub ids-length : (ts : List Track) → length (trackIdsOf ts) ≡ length ts

@@ -1,21 +1,20 @@
 -- What a step of the code does to a document, so that it is a turn of ../../rules/specs/Constraints.antt; and what the code knows of the document.
 use Prim.Native.Nat.{ℕ, _≤_}
 use mathlib.Core.Path.{_≡_}
-use mathlib.Core.Bool.{Bool, cond}
-use mathlib.Core.List.{List, map}
+use mathlib.Core.Bool.{cond}
+use mathlib.Core.List.{List}
 use lib.Dec.{eqb}
 use lib.ListN.{length}
 use Rattle.rules.specs.Limits.{mostLegs, legWidth, trackWidth}
 use Rattle.rules.specs.Bytes.{wholeOf}
 use Rattle.rules.specs.Tokens.{Token}
-use Rattle.rules.specs.Constraints.{classNumber, Document, withConstraint, withSubnet, withId, withTrack, Turn, fault, on, finish, past}
-use Rattle.rules.specs.declared.sizes.Track.{Track}
+use Rattle.rules.specs.Constraints.{classNumber, Document, withConstraint, withSubnet, withId, withTrack, Turn, fault, on, finish}
 use Rattle.rules.specs.declared.tokens.Action.{Action}
 use Rattle.rules.specs.declared.tokens.Class.{Class}
 use Rattle.text.specs.Held.{wholeHeld}
 use Rattle.text.specs.declared.numbers.Whole.{Whole}
 use Rattle.tokens.specs.declared.Token.{Token as Found}
-use Rattle.ids.specs.Column.{Records, column}
+use Rattle.ids.specs.Column.{Records, column, trackIdsOf}
 use Rattle.constraints.specs.declared.steps.Step.{Step}
 use Rattle.constraints.specs.declared.steps.Step.the-variants.{On, Emit, Opened, Named, Listed, Finish, Fault}
 use Rattle.constraints.specs.declared.steps.Counts.{Counts}
@@ -55,9 +54,6 @@ pub record Says (t : Token) (place : ℕ) (n : Whole) : Type 0 where
 
 abbrev pub countsOf : Document → Counts
 countsOf d = record { constraints = length (d .constraints); tracks = length (d .tracks); subnets = d .opened; ids = length (d .ids) }
-
-abbrev pub trackIdsOf : List Track → List ℕ
-trackIdsOf = map (λ k. k .id)
 
 pub record Tied (c : Counts) (tracks ids : List ℕ) (d : Document) : Type 0 where
   pub constraints : c .constraints ≡ length (d .constraints)

@@ -1,6 +1,5 @@
 // What a token does in a phase: the table of ../../rules/specs/Constraints.antt, row by row.
 ghost use mathlib.Core.Path.{_≡_};
-ghost use mathlib.Core.List.{[], _∷_};
 ghost use Rattle.rules.specs.Constraints as law;
 ghost use Rattle.rules.specs.declared.tokens.Action.the-variants as does;
 ghost use Rattle.rules.specs.declared.tokens.Class.the-variants as is;

@@ -1,4 +1,4 @@
-// constraints.json read into its two tables, and 15 over the timetable's rows.
+// constraints.json read into its two tables.
 ghost use Prim.Native.Nat.{_≤_};
 ghost use Rattle.rules.specs.Limits.{legWidth, mostLegs};
 ghost use Rattle.ids.specs.Column.{Records};
@@ -14,7 +14,6 @@ pub mod steps; // each action
 pub mod turns; // one token
 pub mod tables; // entries into the lent tables
 pub mod walks; // the whole text
-pub mod subnets; // 15
 
 // What a reading comes to.
 pub enum Read {

@@ -67,7 +67,3 @@ entries-length first (c ∷ curves) = rw (suc-mul (length curves) profileWidth) 
 
 pub table-length : (curves : List Curve) → length (profileTable curves) ≡ length curves * profileWidth
 table-length = entries-length 0
-
-pub profiles-length : (first : ℕ) (curves : List Curve) → length (profilesFrom first curves) ≡ length curves
-profiles-length first [] = refl
-profiles-length first (c ∷ curves) = ap suc (profiles-length (first + length (c .samples)) curves)

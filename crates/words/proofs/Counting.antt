@@ -1,21 +1,24 @@
 -- Counting off the tables: the entries end at the first fill number; the records of smaller kinds stand in front. Assumes nothing.
-use Prim.Native.Nat.{ℕ, zero, suc, _+_, _*_, _-_, _/_, _≤_, _<_}
+use Prim.Native.Nat.{ℕ, zero, suc, _+_, _*_, _-_, _/_, _^_, _≤_, _<_}
 use native.Mathlib.Omega.{arith}
 use native.Mathlib.Numerals.{add-one}
 use mathlib.Core.Path.{_≡_, refl, ap, sym, _∙_}
 use mathlib.Core.List.{List, [], _∷_, _++_}
 use native.Mathlib.Nat.{zero-mul, suc-mul, sub-zero, mul-div-cancel}
 use lib.ListN.{length, drop, replicate, length-append}
+use lib.Dec.{ltb}
 use borrow.Author.Tests.{ne-eqb, lt-ltb, le-ltb}
-use Rattle.rules.specs.Limits.{unsignedFill}
+use Rattle.rules.specs.Limits.{constraintWidth, unsignedFill}
 use Rattle.rules.specs.Lists.{flat, over}
 use Rattle.rules.specs.declared.sizes.Constraint.{Constraint}
 use Rattle.rules.specs.declared.sizes.Profile.{Profile}
 use Rattle.laws.specs.Demands.{Unfilled}
-use Rattle.text.specs.Places.{upTo}
+use Rattle.laws.proofs.Tabulate.{tabulate-length}
+use Rattle.text.specs.Places.{isOther, upTo}
+use Rattle.text.proofs.Runs.{lead-le}
 use Rattle.tables.specs.View.{profileAt, constraintAt, constraintsIn}
 use Rattle.tables.proofs.Tabulated.{tabulate-from, tabulate-past}
-use Rattle.words.specs.Counts.{samplesIn, kindsBelow}
+use Rattle.words.specs.Counts.{samplesIn, kindsBelow, recordAt}
 
 -- ---- tables that were lent filled
 
@@ -72,3 +75,16 @@ module _ (kind m : ℕ) (t : List ℕ) where
 pub samples-last : (n : ℕ) (t : List ℕ) {p : Profile} → (n ≡ 0 → ⊥) → p ≡ profileAt t (n - 1) → p .first + p .count ≡ samplesIn n t
 samples-last zero t h e = absurd (h refl)
 samples-last (suc n) t h e = let k : suc n - 1 ≡ n = omega arith in rw (e, k)
+
+-- ---- the record at a position
+
+module _ (t : List ℕ) (kind position : ℕ) {m before : ℕ} (counted : m ≡ upTo unsignedFill t / constraintWidth)
+    (found : before ≡ length (kindsBelow kind (constraintsIn m t))) where
+  pub place-fits : length t < 2 ^ 64 → position < 2 ^ 32 → before + position < 2 ^ 64
+  place-fits h k =
+      let in-front = lead-le (λ c. ltb (c .kind) kind) (constraintsIn m t) in
+      let all = tabulate-length m (constraintAt t) in
+      omega (arith, lead-le (isOther unsignedFill) t)
+
+  pub record-found : {r : Constraint} → r ≡ constraintAt t (before + position) → r ≡ recordAt t kind position
+  record-found e = e ∙ rw (found, counted)

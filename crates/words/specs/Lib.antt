@@ -4,5 +4,6 @@ pub mod Times
 pub mod Energies
 pub mod Names
 pub mod Counts
+pub mod Needs
 -- Computed.
 pub mod Examples

@@ -5,7 +5,8 @@ ghost use lib.ListN.{length};
 ghost use Rattle.rules.specs.Limits.{unsignedFill};
 ghost use Rattle.text.specs.Places.{upTo};
 ghost use Rattle.tables.specs.View.{constraintsIn};
-ghost use Rattle.words.specs.Counts.{samplesIn, kindsBelow};
+ghost use Rattle.words.specs.Counts.{samplesIn, kindsBelow, recordAt};
+use rules::sizes::Constraint;
 use rules::sizes::Fill;
 
 fn numbers(t: &[u32]) -> usize
@@ -53,4 +54,13 @@ pub fn before_kind(constraints: &[u32], m: usize, kind: u32) -> usize
         i += 1;
     }
     i
+}
+
+// The record at a position within its kind's list.
+pub fn record_at(constraints: &[u32], kind: u32, position: u32) -> Constraint
+    ensures { λ r. ⌜ r ≡ recordAt (now (constraints .entry)) kind position ⌝ }
+{
+    let m = entries(constraints, Constraint::WIDTH);
+    let before = before_kind(constraints, m, kind);
+    tables::constraint_at(constraints, before + position as usize)
 }

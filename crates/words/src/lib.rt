@@ -5,3 +5,4 @@ pub mod times; // seconds, and the clock that goes past midnight
 pub mod energies; // kilojoules as MWh, and those of a quarter hour as MW
 pub mod names; // kinds, lists, inequalities, refusals and files by their names
 pub mod counts; // how much was read, counted off the tables
+pub mod needs; // what a violation would have needed

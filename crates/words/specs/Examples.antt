@@ -1,8 +1,8 @@
 -- Texts as they come out.
+use Prim.Native.Nat.{_*_, _-_}
 use mathlib.Core.Path.{_≡_, refl}
 use mathlib.Core.List.{List, [], _∷_, map}
 use Rattle.rules.specs.Bytes.{bytes}
-use Prim.Native.Nat.{_*_, _-_}
 use Rattle.words.specs.Times.{hour, clockOf, timeOf}
 use Rattle.words.specs.Energies.{decimalsOf, mwhOf, mwOf}
 

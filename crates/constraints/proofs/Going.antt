@@ -26,14 +26,14 @@ use Rattle.rules.proofs.TokenLaws.{tokens-start}
 use Rattle.ids.specs.Column.{column}
 use Rattle.tokens.specs.declared.Token.{Token as Found}
 use Rattle.tokens.specs.Seen.{tokensAt, found, isEnd, Seen, Within}
-use Rattle.constraints.specs.declared.steps.Counts.{Counts}
-use Rattle.constraints.specs.declared.steps.Step.{Step}
-use Rattle.constraints.specs.declared.steps.Step.the-variants.{On, Emit, Opened, Named, Listed, Finish, Fault}
+use Rattle.turns.specs.declared.steps.Counts.{Counts}
+use Rattle.turns.specs.declared.steps.Step.{Step}
+use Rattle.turns.specs.declared.steps.Step.the-variants.{On, Emit, Opened, Named, Listed, Finish, Fault}
 use Rattle.constraints.specs.declared.walks.Walked.the-variants.{Good, Refused}
 use Rattle.rules.specs.declared.sizes.Track.{Track}
-use Rattle.constraints.specs.Steps.{turned, countsOf, Tied, Ready}
+use Rattle.turns.specs.Steps.{turned, countsOf, Tied, Ready}
 use Rattle.constraints.specs.Tables.{bumped, nexts, placed, written, outcome, Able, Walks}
-use Rattle.constraints.proofs.ByAction.{past-found}
+use Rattle.turns.proofs.ByAction.{past-found}
 use Rattle.constraints.proofs.Filling.{flat-append, flat-length, over-length, over-more, track-long, tracks-held, ids-held, id-held, nexts-more, nexts-low, nexts-length, written-more, written-length}
 
 -- ---- no token comes after the text's end

@@ -1,8 +1,3 @@
-pub mod Words
-pub mod Values
-pub mod Keys
-pub mod Rows
-pub mod ByAction
 pub mod Putting
 pub mod Filling
 pub mod Going

@@ -12,7 +12,7 @@ use Rattle.rules.specs.Tokens.{tokensOf}
 use Rattle.rules.specs.Constraints.{Document, empty, start, plainRules, run, constraintsOf, ordered, constraintNumbers, trackNumbers}
 use Rattle.rules.specs.declared.sizes.Constraint.{Constraint}
 use Rattle.ids.specs.Column.{Records, column}
-use Rattle.constraints.specs.Steps.{countsOf}
+use Rattle.turns.specs.Steps.{countsOf}
 use Rattle.constraints.specs.declared.walks.Walked.{Walked}
 use Rattle.constraints.specs.declared.walks.Walked.the-variants.{Good, Refused}
 use Rattle.constraints.specs.declared.Read.{Read}

@@ -5,13 +5,11 @@ ghost use Rattle.ids.specs.Column.{Records};
 ghost use Rattle.constraints.specs.Tables.{reading, Reads};
 use rules::answers::Refusal;
 use rules::sizes::Text;
+use tables::PLACES;
 use tables::starts_of;
 use walks::Walked;
 use walks::walk;
 
-pub mod actions; // what a token does in a phase
-pub mod steps; // each action
-pub mod turns; // one token
 pub mod tables; // entries into the lent tables
 pub mod walks; // the whole text
 
@@ -37,7 +35,7 @@ pub fn read_constraints(
     if Text::MOST < text.len() {
         return Read::Refused(Refusal::TOO_LONG, 0);
     }
-    let mut counts = [0usize; 6];
+    let mut counts = [0usize; PLACES];
     match walk(text, legs, n, constraints, tracks, &mut counts, false) {
         Walked::Refused(number, place) => Read::Refused(number, place),
         Walked::Good(seen) => {

@@ -1,0 +1,103 @@
+// Files, read whole or not at all.
+ghost use Rattle.io.specs.Counts.{Counts};
+use crate::rooms::Room;
+use told::say;
+
+pub enum State {
+    Whole,
+    // It is missing, is a folder, or a read failed.
+    Unreadable,
+    // It fills its room, which is one byte greater than a text may be.
+    TooLong,
+}
+
+// The bytes at the front of a room, and whether they are the whole file.
+pub struct Loaded {
+    pub state: State,
+    pub length: usize,
+}
+
+pub fn is_whole(loaded: Loaded) -> bool {
+    let state = loaded.state;
+    match state {
+        State::Whole => true,
+        State::Unreadable => false,
+        State::TooLong => false,
+    }
+}
+
+// Up to the file's end. A read that answers 0 has met the end; one that answers -1 has failed.
+fn read_all(fd: i32, room: &mut [u8]) -> Loaded
+    ensures { λ r. ⌜ Counts (r .length) (now (room .exit)) ⌝ }
+{
+    let mut done = 0;
+    while done < room.len() {
+        let got = libc::read(fd, &mut room[done..]);
+        if got < 0 {
+            return Loaded {
+                state: State::Unreadable,
+                length: 0,
+            };
+        }
+        let more = io::count(got, &room[done..]);
+        if more == 0 {
+            return Loaded {
+                state: State::Whole,
+                length: done,
+            };
+        }
+        done += more;
+    }
+    Loaded {
+        state: State::TooLong,
+        length: 0,
+    }
+}
+
+fn read_named(path: &[u8], room: &mut [u8]) -> Loaded
+    ensures { λ r. ⌜ Counts (r .length) (now (room .exit)) ⌝ }
+{
+    let fd = os::open_read(path);
+    if fd < 0 {
+        return Loaded {
+            state: State::Unreadable,
+            length: 0,
+        };
+    }
+    let loaded = read_all(fd, room);
+    libc::close(fd);
+    loaded
+}
+
+fn too_long() {
+    say::text(b" is longer than the ");
+    say::number(Room::MOST_TEXT as u64);
+    say::text(b" bytes that this program takes\n");
+}
+
+// Says what is wrong with a file that cannot be judged.
+fn complain(loaded: Loaded, file: u8, path: &[u8]) {
+    if is_whole(loaded) {
+        return;
+    }
+    say::file(file);
+    say::text(b": ");
+    say::text(path);
+    let state = loaded.state;
+    match state {
+        State::TooLong => too_long(),
+        State::Unreadable => say::text(b" could not be read\n"),
+        State::Whole => say::text(b"\n"),
+    }
+}
+
+// The file that argument `at` names.
+pub fn load(at: usize, file: u8, room: &mut [u8]) -> Loaded
+    ensures { λ r. ⌜ Counts (r .length) (now (room .exit)) ⌝ }
+{
+    let mut path = io::buffer();
+    let length = os::arg(at, &mut path);
+    let loaded = read_named(&path[..length], room);
+    complain(loaded, file, &path[..length]);
+    loaded
+}

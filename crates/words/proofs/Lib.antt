@@ -1,0 +1,6 @@
+pub mod Spellings
+pub mod Texts
+pub mod Decimals
+pub mod Lines
+pub mod Counting
+pub mod Needing

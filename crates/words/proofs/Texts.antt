@@ -1,0 +1,36 @@
+-- Times and energies out of their parts: the parts written one after the other are the whole. Assumes nothing.
+use Prim.Native.Nat.{ℕ, _*_, _/_, _%_, _^_, _≤_, _<_}
+use native.Mathlib.Omega.{arith}
+use native.Mathlib.Nat.{mod-lt}
+use mathlib.Core.List.{List, [], _∷_, append-assoc}
+use lib.ListN.{length}
+use Rattle.rules.specs.Bytes.{bytes, spelled, point}
+use Rattle.writer.specs.Written.{lastPlace, Written}
+use Rattle.writer.proofs.Writing.{written-then}
+use Rattle.words.specs.Numbers.{twoDigits, threeDigits}
+use Rattle.words.specs.Times.{minute, hour, colon, clockOf, timeOf}
+use Rattle.words.specs.Energies.{mostUnit, decimalsOf}
+
+-- a thousand times what is short of a unit
+pub thousand-fits : (n unit : ℕ) → 0 < unit → unit ≤ mostUnit → n % unit * 1_000 < 2 ^ 64
+thousand-fits n unit h k = omega (arith, mod-lt n {m = unit} h)
+
+module _ {t : List ℕ} {at : ℕ} {t₁ : List ℕ} {at₁ : ℕ} {t₂ : List ℕ} {at₂ : ℕ} {t₃ : List ℕ} {at₃ : ℕ} where
+  pub decimals-written : (unit n : ℕ) → Written t at (spelled (n / unit)) t₁ at₁ → Written t₁ at₁ (point ∷ []) t₂ at₂
+      → Written t₂ at₂ (threeDigits (n % unit * 1_000 / unit)) t₃ at₃ → length t ≤ lastPlace → Written t at (decimalsOf unit n) t₃ at₃
+  unfolding decimalsOf
+  decimals-written unit n whole sign decimals h = simp append-assoc at (written-then (written-then whole sign h) decimals h)
+
+  module _ {t₄ : List ℕ} {at₄ : ℕ} where
+    pub time-written : (s : ℕ) → Written t at (spelled s) t₁ at₁ → Written t₁ at₁ (bytes " s (") t₂ at₂ → Written t₂ at₂ (clockOf s) t₃ at₃
+        → Written t₃ at₃ (bytes ")") t₄ at₄ → length t ≤ lastPlace → Written t at (timeOf s) t₄ at₄
+    unfolding timeOf
+    time-written s seconds unit clock end h = simp append-assoc (simp append-assoc at (written-then (written-then (written-then seconds unit h) clock h) end h))
+
+    pub clock-written : {t₅ : List ℕ} {at₅ : ℕ} (s : ℕ) → Written t at (twoDigits (s / hour)) t₁ at₁ → Written t₁ at₁ (colon ∷ []) t₂ at₂
+        → Written t₂ at₂ (twoDigits (s / minute % minute)) t₃ at₃ → Written t₃ at₃ (colon ∷ []) t₄ at₄ → Written t₄ at₄ (twoDigits (s % minute)) t₅ at₅
+        → length t ≤ lastPlace → Written t at (clockOf s) t₅ at₅
+    unfolding clockOf
+    clock-written s hours sign minutes second seconds h =
+        simp append-assoc
+        (simp append-assoc at (written-then (written-then (written-then (written-then hours sign h) minutes h) second h) seconds h))

@@ -1,0 +1,32 @@
+// Energies for people, with three decimals. They are rounded down: no more is shown than there is, and the exact kilojoules stand beside them.
+ghost use Prim.Native.Nat.{_<_, _≤_};
+ghost use Rattle.writer.specs.Written.{Written};
+ghost use Rattle.words.specs.Energies.{mostUnit, decimalsOf, mwhOf, mwOf};
+use crate::numbers;
+use rules::figures::Figures;
+use writer::bytes;
+
+// `n` in units of `unit`.
+fn put_decimals(buffer: &mut [u8], at: usize, unit: u64, n: u64) -> usize
+    requires { ⌜ 0 < unit ⌝ }
+    requires { ⌜ unit ≤ mostUnit ⌝ }
+    ensures { λ r. ⌜ Written (now (buffer .entry)) at (decimalsOf unit n) (now (buffer .exit)) r ⌝ }
+{
+    let point = numbers::put_whole(buffer, at, n / unit);
+    let decimals = bytes::put_byte(buffer, point, b'.');
+    numbers::put_three(buffer, decimals, n % unit * 1_000 / unit)
+}
+
+// Kilojoules in megawatt hours.
+pub fn put_mwh(buffer: &mut [u8], at: usize, kj: u64) -> usize
+    ensures { λ r. ⌜ Written (now (buffer .entry)) at (mwhOf kj) (now (buffer .exit)) r ⌝ }
+{
+    put_decimals(buffer, at, Figures::KJ_A_MWH, kj)
+}
+
+// The kilojoules of a quarter hour as its average megawatts.
+pub fn put_mw(buffer: &mut [u8], at: usize, kj: u64) -> usize
+    ensures { λ r. ⌜ Written (now (buffer .entry)) at (mwOf kj) (now (buffer .exit)) r ⌝ }
+{
+    put_decimals(buffer, at, Figures::KJ_A_MW, kj)
+}

@@ -4,3 +4,4 @@ pub mod Digesting
 pub mod Blocks
 pub mod Spelt
 pub mod Spaced
+pub mod Fitting

@@ -3,3 +3,4 @@ pub mod Digest
 pub mod Block
 pub mod Rooms
 pub mod Lines
+pub mod Within

@@ -1,1 +1,5 @@
 pub mod Shown
+pub mod CheckWays
+pub mod ReportWays
+pub mod Unique
+pub mod DemandThree

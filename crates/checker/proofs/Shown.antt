@@ -5,11 +5,11 @@ use mathlib.Core.Path.{_≡_, refl, sym, ap}
 use mathlib.Core.Bool.{Bool, true, false, _&&_}
 use mathlib.Core.List.{List, [], _∷_}
 use borrow.Author.Tests.{eq-eqb, ne-eqb, lt-ltb, le-ltb}
-use lib.Dec.{ltb, eqb}
+use lib.Dec.{ltb}
 use lib.ListN.{length, take, drop, getD}
 use Rattle.rules.specs.Lists.{lead}
 use Rattle.rules.specs.Bytes.{lineFeed}
-use Rattle.rules.specs.Display.{startsRow, lineOf, rowIn}
+use Rattle.rules.specs.Display.{startsRow, rowIn}
 use Rattle.text.specs.Places.{isOther, upTo}
 
 -- the beginning that `lead` takes is a beginning

@@ -1,8 +1,8 @@
 -- The two walks together: the answer of the whole reading, and both tables. Assumes nothing.
-use Prim.Native.Nat.{ℕ, zero, suc, _+_, _*_, _/_, _≤_, _<_}
+use Prim.Native.Nat.{ℕ, _+_, _*_, _/_, _≤_, _<_}
 use mathlib.Core.Path.{_≡_, refl, ap, sym, subst, _∙_}
-use mathlib.Core.Bool.{Bool, true, false}
-use mathlib.Core.List.{List, [], _∷_, _++_}
+use mathlib.Core.Bool.{true, false}
+use mathlib.Core.List.{List, [], _∷_}
 use native.Mathlib.Omega.{arith}
 use native.Mathlib.Nat.{div-mul-le-self}
 use lib.ListN.{length, getD, drop}
@@ -12,19 +12,19 @@ use Rattle.rules.specs.Limits.{mostText, mostLegs, mostConstraints, legWidth, c
 use Rattle.rules.specs.Lists.{flat, over}
 use Rattle.rules.specs.Tokens.{tokensOf}
 use Rattle.rules.specs.Answers.{refusal, tooLong, constraintsFile, Reading, refused, good}
-use Rattle.rules.specs.Constraints.{Document, empty, start, plainRules, run, constraintsOf, constraintNumbers, trackNumbers}
+use Rattle.rules.specs.Constraints.{Document, empty, start, plainRules, run, constraintsOf, trackNumbers}
 use Rattle.rules.specs.declared.sizes.Constraint.{Constraint}
 use Rattle.rules.specs.Verdict.{All}
 use Rattle.laws.specs.LawfulDocument.{LawfulConstraint, LawfulDocument}
+use Rattle.laws.proofs.All.{all-at}
 use Rattle.laws.proofs.Ordered.{OfKind}
 use Rattle.laws.proofs.Documents.{good-is-lawful}
 use Rattle.ids.specs.Column.{Records, column}
-use Rattle.constraints.specs.declared.steps.Counts.{Counts}
+use Rattle.turns.specs.declared.steps.Counts.{Counts}
 use Rattle.constraints.specs.declared.walks.Walked.{Walked}
 use Rattle.constraints.specs.declared.walks.Walked.the-variants.{Good, Refused}
-use Rattle.constraints.specs.declared.Read.{Read}
 use Rattle.constraints.specs.declared.Read.the-variants.{Whole, Refused as NotRead}
-use Rattle.constraints.specs.Steps.{countsOf}
+use Rattle.turns.specs.Steps.{countsOf}
 use Rattle.constraints.specs.Tables.{nexts, startsOf, outcome, Filled, Walks, Able, reading, readOf, Tables, Reads}
 use Rattle.constraints.proofs.ByKind.{none, counted, all-counted, by-kind}
 
@@ -143,29 +143,25 @@ module _ (text legs : List ℕ) (n : ℕ) (c t : List ℕ) where
 
 -- ---- what the walks need
 
+-- no place is past the limit, where none of six is
+low : (places : List ℕ) → All (λ n. n ≤ mostConstraints) places → (k : ℕ) → getD places k 0 ≤ mostConstraints
+low places h k = all-at (λ n. n ≤ mostConstraints) places 0 h (omega arith) k
+
 pub able-first : (text legs : List ℕ) (n : ℕ) → length text ≤ mostText → Records legWidth n legs → n ≤ mostLegs → Able text legs n none
 able-first text legs n short there few =
-    record { short = short; legs-there = there; few-legs = few; low = λ k. low k }
-  where
-    low : (k : ℕ) → getD none k 0 ≤ mostConstraints
-    low zero = omega arith
-    low (suc zero) = omega arith
-    low (suc (suc zero)) = omega arith
-    low (suc (suc (suc zero))) = omega arith
-    low (suc (suc (suc (suc zero)))) = omega arith
-    low (suc (suc (suc (suc (suc zero))))) = omega arith
-    low (suc (suc (suc (suc (suc (suc k)))))) = omega arith
+    record {
+      short = short;
+      legs-there = there;
+      few-legs = few;
+      low = low none (omega arith, (omega arith, (omega arith, (omega arith, (omega arith, (omega arith, tt))))));
+    }
 
 pub able-second : (text legs : List ℕ) (n : ℕ) (counts starts : List ℕ) → length text ≤ mostText → Records legWidth n legs → n ≤ mostLegs
     → getD counts 1 0 + (getD counts 2 0 + (getD counts 3 0 + getD counts 4 0)) ≤ mostConstraints → starts ≡ startsOf counts → Able text legs n starts
 able-second text legs n counts starts short there few h e =
-    record { short = short; legs-there = there; few-legs = few; low = λ k. rw e (low k) }
-  where
-    low : (k : ℕ) → getD (startsOf counts) k 0 ≤ mostConstraints
-    low zero = omega arith
-    low (suc zero) = omega arith
-    low (suc (suc zero)) = omega arith
-    low (suc (suc (suc zero))) = omega arith
-    low (suc (suc (suc (suc zero)))) = omega arith
-    low (suc (suc (suc (suc (suc zero))))) = omega arith
-    low (suc (suc (suc (suc (suc (suc k)))))) = omega arith
+    record {
+      short = short;
+      legs-there = there;
+      few-legs = few;
+      low = λ k. rw e (low (startsOf counts) (omega arith, (omega arith, (omega arith, (omega arith, (omega arith, (omega arith, tt)))))) k);
+    }

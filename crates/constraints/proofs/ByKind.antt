@@ -2,12 +2,12 @@
 use Prim.Native.Nat.{ℕ, zero, suc, _+_, _*_, _≤_, _<_}
 use mathlib.Core.Path.{_≡_, refl, ap, sym, subst, _∙_}
 use mathlib.Core.Bool.{Bool, true, false, cond}
-use mathlib.Core.List.{List, [], _∷_, _++_, append-assoc, append-nil}
+use mathlib.Core.List.{List, [], _∷_, _++_, append-assoc}
 use native.Mathlib.Omega.{arith}
 use lib.Dec.{eqb}
-use lib.ListN.{length, getD, take, drop, set, replicate, take-append-drop, length-append, length-drop, length-set}
+use lib.ListN.{length, getD, take, drop, replicate, take-append-drop, length-append, length-drop, length-set}
 use lib.Seq.{sets, sets-eq, take-append-seam, drop-append-add, drop-append-le, drop-drop, length-take-le, getD-set-same, getD-set-other}
-use borrow.Author.Tests.{eq-eqb, ne-eqb, eqb-true, eqb-false}
+use borrow.Author.Tests.{ne-eqb, eqb-true, eqb-false}
 use Rattle.rules.specs.Limits.{constraintWidth}
 use Rattle.rules.specs.Lists.{flat, over, sumOf}
 use Rattle.rules.specs.Kinds.{headway, singleTrack, dwell, turnaround, connection}

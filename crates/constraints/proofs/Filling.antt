@@ -1,5 +1,5 @@
 -- What stands in the tables after one entry more: tracks in file order, constraints by the next places of their kinds. Assumes nothing.
-use Prim.Native.Nat.{ℕ, zero, suc, _+_, _*_, _≤_, _<_}
+use Prim.Native.Nat.{ℕ, suc, _+_, _*_, _≤_, _<_}
 use mathlib.Core.Path.{_≡_, refl, ap, sym, _∙_}
 use mathlib.Core.Bool.{Bool, true, false, cond}
 use mathlib.Core.List.{List, [], _∷_, _++_, append-assoc}
@@ -12,12 +12,11 @@ use Rattle.rules.specs.Lists.{flat, over}
 use Rattle.rules.specs.Constraints.{constraintNumbers, trackNumbers}
 use Rattle.rules.specs.declared.sizes.Constraint.{Constraint}
 use Rattle.rules.specs.declared.sizes.Track.{Track}
-use Rattle.ids.specs.Column.{column}
+use Rattle.ids.specs.Column.{column, trackIdsOf}
 use Rattle.ids.proofs.Column.{column-length, column-at}
-use Rattle.constraints.specs.Steps.{trackIdsOf}
+use Rattle.ids.proofs.Written.{column-written}
 use Rattle.constraints.specs.Tables.{bumped, nexts, placed, writes, written}
 use Rattle.constraints.proofs.Putting.{counted-low}
-use Rattle.constraints.proofs.Words.{ids-length}
 
 -- ---- records one after the other
 
@@ -56,22 +55,10 @@ track-long k = refl
 pub constraint-long : (c : Constraint) → length (constraintNumbers c) ≡ constraintWidth
 constraint-long c = refl
 
-track-at : (ts : List Track) (rest : List ℕ) (i : ℕ) → i < length ts → getD (flat trackNumbers ts ++ rest) (i * trackWidth) 0 ≡ getD (trackIdsOf ts) i 0
-track-at [] rest i h = absurd (omega arith)
-track-at (k ∷ ts) rest zero h = refl
-track-at (k ∷ ts) rest (suc i) h =
-    let next : suc i * trackWidth ≡ suc (suc (i * trackWidth)) = omega arith in
-    rw next (track-at ts rest i (omega arith))
-
 -- the ids of the tracks that were written
 pub tracks-held : (ts : List Track) (t : List ℕ) → column trackWidth (length ts) (over (flat trackNumbers ts) t) ≡ trackIdsOf ts
 unfolding over
-tracks-held ts t =
-    let table : List ℕ = flat trackNumbers ts ++ drop (length (flat trackNumbers ts)) t in
-    ext-getD 0 (column trackWidth (length ts) table) (trackIdsOf ts) (column-length trackWidth (length ts) table ∙ sym (ids-length ts))
-    (λ i h.
-    let low : i < length ts = omega (arith, column-length trackWidth (length ts) table) in
-    column-at trackWidth (length ts) table i low ∙ track-at ts (drop (length (flat trackNumbers ts)) t) i low)
+tracks-held ts t = column-written trackNumbers trackWidth (omega arith) track-long ts (drop (length (flat trackNumbers ts)) t)
 
 -- the ids of the subnets, which stand in a table of their own
 pub ids-held : (ids held : List ℕ) → length ids ≤ length held → take (length ids) held ≡ ids → column 1 (length ids) held ≡ ids

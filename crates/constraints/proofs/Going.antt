@@ -1,17 +1,16 @@
 -- What holds of a walk between two tokens, and what each kind of step makes of it. Assumes nothing.
-use Prim.Native.Nat.{ℕ, zero, suc, _+_, _*_, _-_, _/_, _≤_, _<_}
+use Prim.Native.Nat.{ℕ, _+_, _*_, _-_, _/_, _≤_, _<_}
 use mathlib.Core.Path.{_≡_, refl, ap, sym, subst, _∙_}
 use mathlib.Core.Bool.{Bool, true, false, cond, true≢false}
 use mathlib.Core.List.{List, [], _∷_, _++_}
 use native.Mathlib.Omega.{arith}
 use native.Mathlib.Nat.{div-mul-le-self}
-use lib.Dec.{eqb}
 use lib.ListN.{length, getD, take, set, replicate, length-append, length-set}
 use lib.Seq.{sets}
-use Rattle.rules.specs.Limits.{mostText, mostLegs, mostConstraints, mostSubnets, mostTracks, legWidth, constraintWidth, trackWidth}
+use Rattle.rules.specs.Limits.{mostConstraints, mostSubnets, mostTracks, legWidth, constraintWidth, trackWidth}
 use Rattle.rules.specs.Lists.{flat, over}
 use Rattle.rules.specs.Answers.{refusal, constraintsFile, Reading, refused, good}
-use Rattle.rules.specs.Tokens.{Token, tokensOf}
+use Rattle.rules.specs.Tokens.{Token}
 use Rattle.rules.specs.Constraints.{Document, empty, withConstraint, withSubnet, withId, withTrack, start, plainRules, Turn, fault, on, finish, act, actionOf, turnOf, onward, run, past, trackNumbers}
 use Rattle.rules.specs.declared.tokens.Class.{Class}
 use Rattle.rules.specs.declared.tokens.Class.the-variants.{OpenBrace, CloseBrace, OpenBracket, CloseBracket, Colon, Comma, Quoted, Run, End, Unclosed, Forbidden}
@@ -21,21 +20,20 @@ use Rattle.rules.specs.declared.tokens.State.{State}
 use Rattle.rules.specs.Verdict.{All}
 use Rattle.laws.specs.LawfulDocument.{LawfulDocument, LawfulTrack}
 use Rattle.laws.proofs.Phases.{Holds, Keeps}
-use Rattle.laws.proofs.Run.{Safe, at-fault, goes-on, ends}
+use Rattle.laws.proofs.Run.{Safe, goes-on}
 use Rattle.laws.proofs.Documents.{turn-keeps, start-keeps}
 use Rattle.rules.proofs.TokenLaws.{tokens-start}
 use Rattle.ids.specs.Column.{column}
 use Rattle.tokens.specs.declared.Token.{Token as Found}
 use Rattle.tokens.specs.Seen.{tokensAt, found, isEnd, Seen, Within}
-use Rattle.constraints.specs.declared.steps.Counts.{Counts}
-use Rattle.constraints.specs.declared.steps.Step.{Step}
-use Rattle.constraints.specs.declared.steps.Step.the-variants.{On, Emit, Opened, Named, Listed, Finish, Fault}
-use Rattle.constraints.specs.declared.walks.Walked.{Walked}
+use Rattle.turns.specs.declared.steps.Counts.{Counts}
+use Rattle.turns.specs.declared.steps.Step.{Step}
+use Rattle.turns.specs.declared.steps.Step.the-variants.{On, Emit, Opened, Named, Listed, Finish, Fault}
 use Rattle.constraints.specs.declared.walks.Walked.the-variants.{Good, Refused}
 use Rattle.rules.specs.declared.sizes.Track.{Track}
-use Rattle.constraints.specs.Steps.{turned, countsOf, Tied, Ready}
-use Rattle.constraints.specs.Tables.{bumped, nexts, placed, written, outcome, Able, Walks, Filled}
-use Rattle.constraints.proofs.ByAction.{past-found}
+use Rattle.turns.specs.Steps.{turned, countsOf, Tied, Ready}
+use Rattle.constraints.specs.Tables.{bumped, nexts, placed, written, outcome, Able, Walks}
+use Rattle.turns.proofs.ByAction.{past-found}
 use Rattle.constraints.proofs.Filling.{flat-append, flat-length, over-length, over-more, track-long, tracks-held, ids-held, id-held, nexts-more, nexts-low, nexts-length, written-more, written-length}
 
 -- ---- no token comes after the text's end

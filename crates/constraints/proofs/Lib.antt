@@ -1,11 +1,5 @@
-pub mod Words
-pub mod Values
-pub mod Keys
-pub mod Rows
-pub mod ByAction
 pub mod Putting
 pub mod Filling
 pub mod Going
 pub mod ByKind
 pub mod Both
-pub mod Fifteen

@@ -1,20 +1,17 @@
-// constraints.json read into its two tables, and 15 over the timetable's rows.
+// constraints.json read into its two tables.
 ghost use Prim.Native.Nat.{_≤_};
 ghost use Rattle.rules.specs.Limits.{legWidth, mostLegs};
 ghost use Rattle.ids.specs.Column.{Records};
 ghost use Rattle.constraints.specs.Tables.{reading, Reads};
 use rules::answers::Refusal;
 use rules::sizes::Text;
+use tables::PLACES;
 use tables::starts_of;
 use walks::Walked;
 use walks::walk;
 
-pub mod actions; // what a token does in a phase
-pub mod steps; // each action
-pub mod turns; // one token
 pub mod tables; // entries into the lent tables
 pub mod walks; // the whole text
-pub mod subnets; // 15
 
 // What a reading comes to.
 pub enum Read {
@@ -38,7 +35,7 @@ pub fn read_constraints(
     if Text::MOST < text.len() {
         return Read::Refused(Refusal::TOO_LONG, 0);
     }
-    let mut counts = [0usize; 6];
+    let mut counts = [0usize; PLACES];
     match walk(text, legs, n, constraints, tracks, &mut counts, false) {
         Walked::Refused(number, place) => Read::Refused(number, place),
         Walked::Good(seen) => {

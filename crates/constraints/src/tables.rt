@@ -8,6 +8,7 @@ ghost use lib.Seq.{sets};
 ghost use Rattle.rules.specs.Limits.{constraintWidth, trackWidth, mostConstraints, mostTracks};
 ghost use Rattle.rules.specs.Constraints.{constraintNumbers};
 ghost use Rattle.constraints.specs.Tables.{bumped, placed, startsOf};
+use rules::kinds::Kind;
 use rules::sizes::Constraint;
 use rules::sizes::Track;
 
@@ -83,8 +84,11 @@ pub fn emit(write: bool, table: &mut [u32], next: &mut [usize], c: Constraint)
     bump(next, c.kind);
 }
 
+// A place for each kind, by its number.
+pub const PLACES: usize = Kind::COUNT + 1;
+
 // Kinds 1 to 5 by how many each has: where each starts.
-pub fn starts_of(counts: [usize; 6]) -> [usize; 6]
+pub fn starts_of(counts: [usize; PLACES]) -> [usize; PLACES]
     requires { ⌜ getD counts 1 0 + (getD counts 2 0 + (getD counts 3 0 + getD counts 4 0)) ≤ mostConstraints ⌝ }
     ensures { λ r. ⌜ r ≡ startsOf counts ⌝ }
 {

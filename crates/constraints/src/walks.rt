@@ -2,19 +2,20 @@
 ghost use mathlib.Core.Path.{_≡_};
 ghost use Rattle.rules.specs.Constraints.{start, plainRules};
 ghost use Rattle.constraints.specs.Tables.{Able, outcome, Walks};
-use crate::steps::Counts;
-use crate::steps::Room;
-use crate::steps::Step;
 use crate::tables::emit;
 use crate::tables::put_track;
-use crate::turns::turn;
 use rules::kinds::Key;
 use rules::sizes::Constraint;
+use rules::sizes::Subnet;
 use rules::tokens::Lists;
 use rules::tokens::Phase;
 use rules::tokens::Rules;
 use rules::tokens::State;
 use tokens::token_at;
+use turns::steps::Counts;
+use turns::steps::Room;
+use turns::steps::Step;
+use turns::turn;
 
 pub enum Walked {
     Good(Counts),
@@ -63,7 +64,7 @@ pub fn walk(
 {
     let room = Room::of(constraints.len(), tracks.len());
     let mut seen = Counts::none();
-    let mut ids = [0u32; 8];
+    let mut ids = [0u32; Subnet::MOST];
     let mut st = starting();
     let mut at: usize = 0;
     loop {

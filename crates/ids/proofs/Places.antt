@@ -1,6 +1,6 @@
 -- The first place of an id in a list, found by a walk, by parts, or because the ids rise. Assumes nothing.
 use Prim.Native.Nat.{ℕ, zero, suc, _+_, _<_}
-use mathlib.Core.Path.{_≡_, refl, ap}
+use mathlib.Core.Path.{_≡_, refl, ap, sym, _∙_}
 use mathlib.Core.Bool.{Bool, true, false, cond, _||_}
 use mathlib.Core.List.{List, [], _∷_, _++_}
 use mathlib.Core.Option.{Option, none, some}
@@ -9,7 +9,8 @@ use native.Mathlib.Nat.{add-zero}
 use lib.Dec.{eqb}
 use lib.ListN.{length, getD}
 use borrow.Author.Tests.{eq-eqb, ne-eqb}
-use Rattle.rules.specs.Lists.{any, placeFrom, isSome}
+use Rattle.rules.specs.Lists.{any, placeFrom, firstPlace, isSome}
+use Rattle.ids.specs.declared.Found.{Found}
 use Rattle.ids.specs.declared.Found.the-variants.{At, Nothing}
 use Rattle.ids.specs.Column.{foundOf, placeOf}
 
@@ -52,6 +53,20 @@ module _ (test : ℕ → Bool) where
       go : (b : Bool) → any test s ≡ isSome (placeFrom (suc n) test s) → b || any test s ≡ isSome (cond b (some n) (placeFrom (suc n) test s))
       go true rest = refl
       go false rest = rest
+
+-- ---- what a search says of an entry that has the id
+
+module _ (id : ℕ) (ids : List ℕ) (f : Found) (e : f ≡ placeOf id ids) where
+  place : Option ℕ
+  place = firstPlace (λ x. eqb x id) ids
+
+  pub some-there : (i : ℕ) → f ≡ At i → any (λ x. eqb x id) ids ≡ true
+  unfolding place
+  some-there i is = any-place (λ x. eqb x id) 0 ids ∙ ap isSome (found-at place i (sym is ∙ e))
+
+  pub none-there : f ≡ Nothing → any (λ x. eqb x id) ids ≡ false
+  unfolding place
+  none-there is = any-place (λ x. eqb x id) 0 ids ∙ ap isSome (found-nothing place (sym is ∙ e))
 
 -- ---- by the entries themselves
 

@@ -2,12 +2,14 @@
 use Prim.Native.Nat.{ℕ, _+_, _*_, _-_, _≤_, _<_}
 use mathlib.Core.Path.{_≡_}
 use mathlib.Core.Bool.{Bool, not}
-use mathlib.Core.List.{List}
+use mathlib.Core.List.{List, map}
 use mathlib.Core.Option.{Option, none, some}
 use lib.Dec.{eqb}
 use lib.ListN.{length, getD, take}
 use Rattle.rules.specs.Lists.{any, firstPlace}
 use Rattle.rules.specs.Energy.{tabulate}
+use Rattle.rules.specs.Profiles.{Curve}
+use Rattle.rules.specs.declared.sizes.Track.{Track}
 use Rattle.ids.specs.declared.Found.{Found}
 use Rattle.ids.specs.declared.Found.the-variants.{At, Nothing}
 
@@ -19,6 +21,13 @@ pub record Records (width n : ℕ) (table : List ℕ) : Type 0 where
 -- the ids of the first n records: each stands first in its record
 unfoldable pub column : (width n : ℕ) → List ℕ → List ℕ
 column width n table = tabulate n (λ i. getD table (i * width) 0)
+
+-- the ids of records
+abbrev pub curveIdsOf : List Curve → List ℕ
+curveIdsOf = map (λ c. c .id)
+
+abbrev pub trackIdsOf : List Track → List ℕ
+trackIdsOf = map (λ k. k .id)
 
 -- the first place of an id
 abbrev pub foundOf : Option ℕ → Found

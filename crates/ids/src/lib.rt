@@ -80,6 +80,24 @@ pub fn find(table: &[u32], width: usize, n: usize, rising: usize, id: u32) -> Fo
     }
 }
 
+// How many of n ids rise, from the first on.
+pub fn rising_of(table: &[u32], width: usize, n: usize) -> usize
+    requires { ⌜ Records width n (now table) ⌝ }
+    ensures { λ r. ⌜ Rising width n r (now (table .entry)) ⌝ }
+{
+    if n == 0 {
+        return 0;
+    }
+    let mut i = 1;
+    while i < n {
+        if table[i * width] <= table[(i - 1) * width] {
+            return i;
+        }
+        i += 1;
+    }
+    i
+}
+
 // No record has the id. `last` is the last of the rising ids: a table that rises to its end needs no search for a greater one.
 pub fn is_new(table: &[u32], width: usize, n: usize, rising: usize, last: u32, id: u32) -> bool
     requires { ⌜ Rising width n rising (now table) × Last (take rising (column width n (now table))) last ⌝ }

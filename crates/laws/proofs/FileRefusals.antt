@@ -153,7 +153,7 @@ curve-wrongs profiles samples before none = tt
 curve-wrongs profiles samples before (some c) = judged (In profilesLine) (Profiles.rowTests profiles samples before c) c (tt, (tt, (tt, (tt, tt))))
 
 module _ {P : Refusal → Type 0} where
-  timetable-refuses : (H legs configurations : ℕ) (s : List ℕ) → Allows P timetableLine → Refuses P (timetableOf H legs configurations s)
+  pub timetable-refuses : (H legs configurations : ℕ) (s : List ℕ) → Allows P timetableLine → Refuses P (timetableOf H legs configurations s)
   unfolding timetableOf
   timetable-refuses H legs configurations s allows =
       csv-refuses timetableLine allows (rowOf H (draftFits legs configurations)) tt
@@ -252,7 +252,7 @@ module _ (legs : List ℕ) (constraints tracks : ℕ) where
     run-refuses st d (t ∷ ts) =
         onward-refuses (turnOf legs constraints tracks st d t) _ (act-faults (actionOf (st .phase) (t .class)) st d t) (λ st d. run-refuses st d ts)
 
-    constraints-refuse : (rules : Rules) (s : List ℕ) → Refuses P (constraintsOf legs constraints tracks rules s)
+    pub constraints-refuse : (rules : Rules) (s : List ℕ) → Refuses P (constraintsOf legs constraints tracks rules s)
     unfolding constraintsOf
     constraints-refuse rules s =
         either (Refuses P) (leb (length s) mostText) (run-refuses (begin rules) empty (tokensOf s)) (refuses (allows .atStart tooLong tt))

@@ -26,6 +26,7 @@ use Rattle.profiles.specs.declared.reader.Tail.{Tail}
 use Rattle.profiles.specs.Near.{cap}
 use Rattle.profiles.specs.Open.{kwOf}
 use Rattle.profiles.specs.Holds.{inRange, Digits, Closes, ClosesTo}
+use Rattle.ids.proofs.More.{every-more}
 use Rattle.profiles.proofs.Tables.{over-more, samples-length}
 
 -- ---- kW
@@ -64,18 +65,6 @@ size : (negative : Bool) (k : ℕ) → natAbs (signed negative k) ≡ k
 size false k = refl
 size true zero = refl
 size true (suc k) = refl
-
-pub every-more : {A : Type 0} (p : A → Bool) (xs : List A) (x : A) → every p (xs ++ x ∷ []) ≡ every p xs && p x
-every-more p [] x = go (p x)
-  where
-    go : (t : Bool) → t && true ≡ t
-    go true = refl
-    go false = refl
-every-more p (y ∷ xs) x = rw (every-more p xs x) (go (p y))
-  where
-    go : (t : Bool) → t && (every p xs && p x) ≡ (t && every p xs) && p x
-    go true = refl
-    go false = refl
 
 range-in : (id : ℕ) (done : List ℤ) (negative : Bool) (k : ℕ) → k ≤ mostKw → inRange id (done ++ signed negative k ∷ []) ≡ inRange id done
 range-in id done negative k h =

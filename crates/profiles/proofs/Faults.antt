@@ -2,27 +2,27 @@
 use Prim.Native.Nat.{ℕ, _+_, _*_, _-_, _/_, _≤_, _<_}
 use mathlib.Core.Path.{_≡_, refl, ap, sym, _∙_}
 use mathlib.Core.Bool.{Bool, true, false, not, cond, _&&_}
-use mathlib.Core.List.{List, [], _∷_, _++_, map}
+use mathlib.Core.List.{List, [], _∷_, _++_}
 use native.Mathlib.Omega.{arith}
 use native.Mathlib.Nat.{div-mul-le-self}
 use lib.Dec.{leb, ltb, eqb}
-use lib.ListN.{length, getD, take, drop, length-append, length-map}
+use lib.ListN.{length, take, drop, length-append, length-map}
 use lib.Seq.{take-append-le, take-all, getD-append-seam}
 use lib.IntN.{ℤ, natAbs}
 use borrow.Author.Tests.{lt-ltb, le-ltb, le-leb, lt-leb, leb-true, not-true, not-false}
 use Rattle.rules.specs.Limits.{mostKw, mostId, mostProfiles, mostSampled, mostSamples, profileWidth}
 use Rattle.rules.specs.Lists.{any, every, over}
 use Rattle.rules.specs.Answers.{Judged, wrong, right, outOfRange, tooMany, alreadySeen, noRoom}
-use Rattle.rules.specs.Profiles.{Curve, sampled, profilesFrom, profileNumbers}
-use Rattle.rules.specs.declared.sizes.Profile.{Profile}
-use Rattle.ids.specs.Column.{column, isNew, Ascending, Last, Rising}
-use Rattle.ids.proofs.Written.{column-written, new-among}
+use Rattle.rules.specs.Profiles.{Curve, sampled}
+use Rattle.ids.specs.Column.{column, curveIdsOf, isNew, Ascending, Last, Rising}
+use Rattle.ids.proofs.Written.{new-among}
+use Rattle.ids.proofs.Curves.{curves-column}
 use Rattle.ids.proofs.Halves.{ascending-more}
 use Rattle.profiles.specs.declared.reader.Past.{Past}
 use Rattle.profiles.specs.declared.reader.Listed.{Listed}
 use Rattle.profiles.specs.Open.{curve}
-use Rattle.profiles.specs.Holds.{profileTable, inRange, idsOf, Climbs, Closed, Going, Ending, faultOr, Faults}
-use Rattle.profiles.proofs.Tables.{over-length, table-length, profiles-length}
+use Rattle.profiles.specs.Holds.{profileTable, inRange, Climbs, Closed, Going, Ending, faultOr, Faults}
+use Rattle.profiles.proofs.Tables.{over-length, table-length}
 
 -- ---- one id more
 
@@ -61,10 +61,6 @@ module _ (past : Past) (id : ℕ) where
 
 -- ---- the ids in the table
 
-pub ids-of : (first : ℕ) (curves : List Curve) → map (λ (p : Profile). getD (profileNumbers p) 0 0) (profilesFrom first curves) ≡ idsOf curves
-ids-of first [] = refl
-ids-of first (c ∷ curves) = ap (λ ids. c .id ∷ ids) (ids-of (first + length (c .samples)) curves)
-
 module _ {profiles₀ profiles : List ℕ} {samples₀ : List ℤ} {past : Past} {before : List Curve} (c : Closed profiles₀ samples₀ past profiles before) where
   pub room-times : length before * profileWidth ≤ length profiles₀
   room-times = omega (arith, c .room, div-mul-le-self (length profiles₀) profileWidth)
@@ -72,11 +68,10 @@ module _ {profiles₀ profiles : List ℕ} {samples₀ : List ℤ} {past : Past}
   pub same-length : length profiles ≡ length profiles₀
   same-length = ap length (c .entered) ∙ over-length (profileTable before) profiles₀ (rw (table-length before) room-times)
 
-  pub ids-column : column profileWidth (past .profiles) profiles ≡ idsOf before
+  pub ids-column : column profileWidth (past .profiles) profiles ≡ curveIdsOf before
   unfolding over
   ids-column =
-      rw (c .counted, c .entered, ← profiles-length 0 before)
-      (column-written profileNumbers profileWidth (omega arith) (λ p. refl) (profilesFrom 0 before) (drop (length (profileTable before)) profiles₀) ∙ ids-of 0 before)
+      rw (c .counted, c .entered) (curves-column before (drop (length (profileTable before)) profiles₀))
 
   pub rising : Rising profileWidth (past .profiles) (past .rising) profiles
   rising =

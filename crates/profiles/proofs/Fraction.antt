@@ -12,7 +12,6 @@ use borrow.Author.Tests.{eq-eqb, ne-eqb, le-leb, lt-leb, lt-ltb, le-ltb}
 use Rattle.rules.specs.Limits.{mostText, profileWidth}
 use Rattle.rules.specs.Answers.{badRow}
 use Rattle.rules.specs.Bytes.{lineFeed, space, digitZero, digitNine}
-use Rattle.lines.specs.Machine.{stopped}
 use Rattle.profiles.specs.declared.number.Number.the-variants.{Empty}
 use Rattle.profiles.specs.declared.reader.Past.{Past}
 use Rattle.profiles.specs.declared.reader.Listed.{Listed}

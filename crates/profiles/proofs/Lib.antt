@@ -12,5 +12,3 @@ pub mod Feed
 pub mod Text
 pub mod Leaps
 pub mod Looks
-pub mod Counts
-pub mod Holding

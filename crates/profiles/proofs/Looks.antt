@@ -5,7 +5,7 @@ use mathlib.Core.Bool.{Bool, true, false}
 use mathlib.Core.List.{List}
 use native.Mathlib.Omega.{arith}
 use lib.ListN.{length, getD}
-use Rattle.rules.specs.Bytes.{digitZero, digitNine, point, minus, space}
+use Rattle.rules.specs.Bytes.{digitZero, digitNine, point, minus}
 use Rattle.profiles.specs.declared.number.Number.{Number}
 use Rattle.profiles.specs.declared.number.Number.the-variants.{Empty, Zero, Digits}
 use Rattle.profiles.specs.declared.number.Pushed.the-variants.{To}

@@ -17,6 +17,7 @@ use Rattle.rules.specs.Lists.{any, over}
 use Rattle.rules.specs.Answers.{Judged, wrong, right, outOfRange, tooMany, alreadySeen, noRoom}
 use Rattle.rules.specs.Profiles.{Curve, sampled, judgeForm, sampleTable, profileNumbers}
 use Rattle.lines.specs.Machine.{inRow}
+use Rattle.ids.specs.Column.{curveIdsOf}
 use Rattle.profiles.specs.declared.number.Number.the-variants.{Empty}
 use Rattle.profiles.specs.declared.reader.Past.{Past}
 use Rattle.profiles.specs.declared.reader.Rise.{Rise}
@@ -24,7 +25,7 @@ use Rattle.profiles.specs.declared.reader.Listed.{Listed}
 use Rattle.profiles.specs.declared.reader.State.the-variants.{Id, Stopped}
 use Rattle.profiles.specs.Near.{empty-near}
 use Rattle.profiles.specs.Open.{start, curve}
-use Rattle.profiles.specs.Holds.{profileTable, inRange, idsOf, Climbs, Closed, Going, Holds, in-id, at-stop, Ending, Faults, Ends}
+use Rattle.profiles.specs.Holds.{profileTable, inRange, Climbs, Closed, Going, Holds, in-id, at-stop, Ending, Faults, Ends}
 use Rattle.profiles.proofs.Tables.{over-more, sampled-more, samples-more, table-more, table-length, entryOf}
 use Rattle.profiles.proofs.Faults.{same-length, told}
 
@@ -129,7 +130,7 @@ module _ {past : Past} {l : Listed} {profiles : List ℕ} {room fault : ℕ} (fa
           (omega (arith, table-length before, k .profiles-room, div-mul-le-self (length profiles₀) profileWidth))
           ∙ ap (λ w. over w profiles₀) (sym (table-more before (curve id done)))
 
-      ids-more : (xs : List Curve) → idsOf (xs ++ curve id done ∷ []) ≡ idsOf xs ++ id ∷ []
+      ids-more : (xs : List Curve) → curveIdsOf (xs ++ curve id done ∷ []) ≡ curveIdsOf xs ++ id ∷ []
       ids-more [] = refl
       ids-more (x ∷ xs) = ap (λ ids. x .id ∷ ids) (ids-more xs)
 
@@ -137,14 +138,14 @@ module _ {past : Past} {l : Listed} {profiles : List ℕ} {room fault : ℕ} (fa
       closed-more =
           let k = good lent c g in
           let n : length (before ++ curve id done ∷ []) ≡ length before + 1 = length-append before (curve id done ∷ []) in
-          let long : length (idsOf before) ≡ past .profiles = length-map before (λ (b : Curve). b .id) ∙ sym (c .counted) in
+          let long : length (curveIdsOf before) ≡ past .profiles = length-map before (λ (b : Curve). b .id) ∙ sym (c .counted) in
           record {
             counted = omega (arith, c .counted);
             summed = rw (sampled-more before (curve id done)) (omega (arith, c .summed, g .counted));
             room = omega (arith, k .profiles-room);
             samples-room = rw (sampled-more before (curve id done)) (k .samples-room);
             entered = entry-stands;
-            climb = rw (ids-more before, ← same-id) (climbs (idsOf before) long (c .climb));
+            climb = rw (ids-more before, ← same-id) (climbs (curveIdsOf before) long (c .climb));
           }
 
     pub row-good : Ends at past l profiles room (Id nextPast Empty) profiles′

@@ -1,6 +1,6 @@
 -- The tables of rows, one row more, and a table written at its front. Assumes nothing.
 use Prim.Native.Nat.{ℕ, suc, _+_, _*_, _≤_, _<_}
-use mathlib.Core.Path.{_≡_, refl, ap, sym}
+use mathlib.Core.Path.{_≡_, refl, sym}
 use mathlib.Core.List.{List, [], _∷_, _++_, append-assoc, append-nil}
 use native.Mathlib.Omega.{arith}
 use native.Mathlib.Nat.{add-zero, add-assoc, suc-mul}
@@ -67,7 +67,3 @@ entries-length first (c ∷ curves) = rw (suc-mul (length curves) profileWidth) 
 
 pub table-length : (curves : List Curve) → length (profileTable curves) ≡ length curves * profileWidth
 table-length = entries-length 0
-
-pub profiles-length : (first : ℕ) (curves : List Curve) → length (profilesFrom first curves) ≡ length curves
-profiles-length first [] = refl
-profiles-length first (c ∷ curves) = ap suc (profiles-length (first + length (c .samples)) curves)

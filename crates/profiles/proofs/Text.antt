@@ -2,10 +2,10 @@
 use Prim.Native.Nat.{ℕ, _/_, _≤_, _<_}
 use mathlib.Core.Path.{_≡_, refl, sym, _∙_}
 use mathlib.Core.Bool.{Bool, true, false, cond}
-use mathlib.Core.List.{List}
+use mathlib.Core.List.{List, _++_}
 use native.Mathlib.Omega.{arith}
 use lib.Dec.{eqb}
-use lib.ListN.{length}
+use lib.ListN.{length, length-append}
 use lib.IntN.{ℤ}
 use borrow.Author.Tests.{eq-eqb, ne-eqb, lt-leb}
 use Rattle.rules.specs.Limits.{mostText, profileWidth}
@@ -15,6 +15,7 @@ use Rattle.rules.specs.Rows.{csvOf}
 use Rattle.rules.specs.Profiles.{Curve, profilesOf, profilesHeader, judgeForm, formOf, sampleTable}
 use Rattle.lines.specs.Fold.{fold}
 use Rattle.lines.specs.Machine.{inHeader}
+use Rattle.lines.proofs.Fold.{fold-append}
 use Rattle.lines.proofs.Machine.{csv-by-bytes}
 use Rattle.profiles.specs.declared.number.Number.{Number}
 use Rattle.profiles.specs.declared.reader.Past.{Past}
@@ -48,6 +49,30 @@ starts = record { place = refl; nothing = λ profiles samples. in-header (omega 
 
 pub started : {reader : Reader} (profiles : List ℕ) (samples : List ℤ) → Starts reader → Live (reader .next) (reader .state) profiles samples
 started profiles samples s = record { profiles₀ = profiles; samples₀ = samples; reached = inHeader 0; holds = s .nothing profiles samples }
+
+-- ---- parts
+
+module _ {reader r : Reader} {profiles profiles′ part : List ℕ} {samples samples′ : List ℤ} (f : Feeds reader profiles samples part r profiles′ samples′) where
+  -- another part can follow
+  pub fed-live : Live (reader .next) (reader .state) profiles samples → Live (r .next) (r .state) profiles′ samples′
+  fed-live l =
+      record {
+        profiles₀ = l .profiles₀;
+        samples₀ = l .samples₀;
+        reached = _;
+        holds = f .reads (l .profiles₀) (l .samples₀) (l .reached) (l .holds);
+      }
+
+  -- and both are read as one
+  pub fed-both : {last : Reader} {profiles″ more : List ℕ} {samples″ : List ℤ} → Feeds r profiles′ samples′ more last profiles″ samples″
+      → Feeds reader profiles samples (part ++ more) last profiles″ samples″
+  fed-both {more = more} g =
+      record {
+        place = omega (arith, f .place, g .place, length-append part more);
+        reads =
+            λ profiles₀ samples₀ reached h.
+            rw (fold-append (reach (length profiles₀ / profileWidth) (length samples₀)) reached part more) (g .reads profiles₀ samples₀ _ (f .reads profiles₀ samples₀ reached h));
+      }
 
 -- ---- finish
 

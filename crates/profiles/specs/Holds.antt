@@ -2,7 +2,7 @@
 use Prim.Native.Nat.{ℕ, suc, _+_, _/_, _≤_, _<_, min}
 use mathlib.Core.Path.{_≡_}
 use mathlib.Core.Bool.{Bool, false, not, cond, _&&_}
-use mathlib.Core.List.{List, [], _∷_, _++_, map}
+use mathlib.Core.List.{List, [], _∷_, _++_}
 use mathlib.Core.Option.{some}
 use lib.Dec.{leb, eqb}
 use lib.ListN.{length, take, drop}
@@ -15,7 +15,7 @@ use Rattle.rules.specs.Profiles.{judgeForm, Curve, sampled, profilesFrom, profi
 use Rattle.lines.specs.Number.{Number as Whole}
 use Rattle.lines.specs.Fold.{fold}
 use Rattle.lines.specs.Machine.{inHeader, inRow, stopped, onLine}
-use Rattle.ids.specs.Column.{Ascending, Last}
+use Rattle.ids.specs.Column.{curveIdsOf, Ascending, Last}
 use Rattle.profiles.specs.declared.number.Number.{Number}
 use Rattle.profiles.specs.declared.number.Number.the-variants.{Empty}
 use Rattle.profiles.specs.declared.reader.Past.{Past}
@@ -35,9 +35,6 @@ profileTable curves = flat profileNumbers (profilesFrom 0 curves)
 
 abbrev pub inRange : ℕ → List ℤ → Bool
 inRange id samples = leb id mostId && every (λ x. leb (natAbs x) mostKw) samples
-
-abbrev pub idsOf : List Curve → List ℕ
-idsOf curves = map (λ (c : Curve). c .id) curves
 
 -- how many ids rise from the first on, and the last of these
 pub record Climb (rising last : ℕ) (ids : List ℕ) : Type 0 where
@@ -65,7 +62,7 @@ module _ (profiles₀ : List ℕ) (samples₀ : List ℤ) where
     pub room : length before ≤ length profiles₀ / profileWidth
     pub samples-room : sampled before ≤ length samples₀
     pub entered : profiles ≡ over (profileTable before) profiles₀
-    pub climb : Climb (past .rising) (past .last) (idsOf before)
+    pub climb : Climb (past .rising) (past .last) (curveIdsOf before)
 
   -- the open row past its id: its samples stand in the table as long as they are in range and fit
   pub record Going (past : Past) (l : Listed) (next : ℕ) (samples : List ℤ) (before : List Curve) (id : ℕ) (done : List ℤ) : Type 0 where

@@ -2,5 +2,4 @@ pub mod Open
 pub mod Near
 pub mod Holds
 pub mod Reads
-pub mod Counts
 pub mod Quick

@@ -3,7 +3,6 @@ use crate::number;
 use crate::number::Ended;
 use crate::number::Number;
 use crate::reader::Tail;
-ghost use mathlib.Core.Path.{_≡_};
 ghost use Prim.Native.Nat.{_≤_};
 ghost use lib.ListN.{length};
 ghost use Rattle.profiles.specs.Quick.{Runs, Points, Spaces, Fractions, Samples};

@@ -7,7 +7,7 @@ use mathlib.Core.Bool.{Bool, true, false}
 use mathlib.Core.List.{List, [], _∷_, _++_}
 use lib.ListN.{replicate, length}
 use lib.IntN.{ℤ, pos}
-use Rattle.rules.specs.Answers.{refusal, violation, badHeader, outOfRange, unknownName, noSubnet, timetableFile, profilesFile, constraintsFile, solutionFile}
+use Rattle.rules.specs.Answers.{refusal, violation, badHeader, outOfRange, unknownName, noSubnet, noRoom, timetableFile, profilesFile, constraintsFile, solutionFile}
 use Rattle.rules.specs.Bytes.{bytes, joined, comma}
 use Rattle.rules.specs.Timetable.{timetableHeader, configuration, inRange}
 use Rattle.rules.specs.Profiles.{profilesHeader}
@@ -225,8 +225,10 @@ unmarked =
     ∷ answers draft profiles (listed "" "" byDepartures oneSubnet) draft (Violated (violation connection 0 2 1 solutionFile))
     -- the table's order, not the file's
     ∷ answers draft profiles otherOrder draft (Violated (violation headway 0 1 1 solutionFile))
+    -- room for three constraints: the fourth finds none, though it is the first of its kind
+    ∷ answers draft profiles (listed headway3 dwellTwice byArrivals oneSubnet) draft (Refused (refusal noRoom constraintsFile 351))
     ∷ []
 
 unmarked-hold : All Right unmarked
 unfolding computed
-unmarked-hold = (refl, (refl, (refl, (refl, (refl, (refl, (refl, (refl, (refl, tt)))))))))
+unmarked-hold = (refl, (refl, (refl, (refl, (refl, (refl, (refl, (refl, (refl, (refl, tt))))))))))

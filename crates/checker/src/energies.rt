@@ -1,0 +1,56 @@
+// All four files are read, the solution is judged, and its energies are worked out where it is accepted.
+ghost use Rattle.files.specs.Promise.{texts, tables};
+ghost use Rattle.checker.specs.Reports.{Reports};
+use reports::Report;
+use tails::refusals;
+
+pub fn energy(
+    h: u32,
+    timetable: &[u8],
+    profiles: &[u8],
+    constraints: &[u8],
+    solution: &[u8],
+    legs: &mut [u32],
+    configurations: &mut [u32],
+    profile_table: &mut [u32],
+    samples: &mut [i32],
+    constraint_table: &mut [u32],
+    tracks: &mut [u32],
+    choices: &mut [u32],
+    curves: &mut [i32],
+) -> Report
+    ensures { λ r. ⌜ Reports h (texts (now (timetable .entry)) (now (profiles .entry)) (now (constraints .entry))) (now (solution .entry)) (tables (now (legs .entry)) (now (configurations .entry)) (now («profile_table» .entry)) (now (samples .entry)) (now («constraint_table» .entry)) (now (tracks .entry))) (now (choices .entry)) (now (curves .entry)) r (tables (now (legs .exit)) (now (configurations .exit)) (now («profile_table» .exit)) (now (samples .exit)) (now («constraint_table» .exit)) (now (tracks .exit))) (now (choices .exit)) (now (curves .exit)) ⌝ }
+{
+    let report = reports::read_and_report(
+        h,
+        timetable,
+        profiles,
+        constraints,
+        solution,
+        legs,
+        configurations,
+        profile_table,
+        samples,
+        constraint_table,
+        tracks,
+        choices,
+        curves,
+    );
+    let answer = report.answer;
+    if refusals::is_accepted(answer) {
+        return report;
+    }
+    fill::signed(curves);
+    if refusals::is_refusal(answer) {
+        refusals::fill_tables(
+            legs,
+            configurations,
+            profile_table,
+            samples,
+            constraint_table,
+            tracks,
+        );
+        fill::unsigned(choices);
+    }
+    report
+}

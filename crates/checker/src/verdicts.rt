@@ -1,0 +1,54 @@
+// All four files are read, and the solution is judged.
+ghost use Rattle.files.specs.Promise.{texts, tables};
+ghost use Rattle.checker.specs.Checks.{Checks};
+use rules::answers::Answer;
+use tails::refusals;
+
+pub struct Checked {
+    pub answer: Answer,
+}
+
+pub fn check(
+    h: u32,
+    timetable: &[u8],
+    profiles: &[u8],
+    constraints: &[u8],
+    solution: &[u8],
+    legs: &mut [u32],
+    configurations: &mut [u32],
+    profile_table: &mut [u32],
+    samples: &mut [i32],
+    constraint_table: &mut [u32],
+    tracks: &mut [u32],
+    choices: &mut [u32],
+) -> Checked
+    ensures { λ r. ⌜ Checks h (texts (now (timetable .entry)) (now (profiles .entry)) (now (constraints .entry))) (now (solution .entry)) (tables (now (legs .entry)) (now (configurations .entry)) (now («profile_table» .entry)) (now (samples .entry)) (now («constraint_table» .entry)) (now (tracks .entry))) (now (choices .entry)) r (tables (now (legs .exit)) (now (configurations .exit)) (now («profile_table» .exit)) (now (samples .exit)) (now («constraint_table» .exit)) (now (tracks .exit))) (now (choices .exit)) ⌝ }
+{
+    let judged = tails::read_and_judge(
+        h,
+        timetable,
+        profiles,
+        constraints,
+        solution,
+        legs,
+        configurations,
+        profile_table,
+        samples,
+        constraint_table,
+        tracks,
+        choices,
+    );
+    let answer = judged.answer;
+    if refusals::is_refusal(answer) {
+        refusals::fill_tables(
+            legs,
+            configurations,
+            profile_table,
+            samples,
+            constraint_table,
+            tracks,
+        );
+        fill::unsigned(choices);
+    }
+    Checked { answer }
+}

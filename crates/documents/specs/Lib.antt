@@ -1,0 +1,3 @@
+-- What a document of constraints is as a value, and how it is written.
+pub mod Value
+pub mod Written

@@ -1,0 +1,45 @@
+-- A part that is refused, and one that is read. Assumes nothing.
+use Prim.Native.Nat.{ℕ}
+use mathlib.Core.Path.{_≡_, refl, sym, _∙_}
+use native.Mathlib.Omega.{arith}
+use Rattle.rules.specs.Answers.{refusal, Reading, refused, good}
+use Rattle.rules.specs.declared.answers.Refusal.{Refusal}
+use Rattle.laws.proofs.GoodText.{never-good}
+use Rattle.files.specs.declared.Counts.{Counts}
+use Rattle.files.specs.declared.Filed.{Filed}
+use Rattle.files.specs.declared.Filed.the-variants.{Whole, Refused}
+use Rattle.files.specs.Promise.{filedBy}
+use Rattle.files.specs.Parts.{Part}
+
+-- a refusal by its three numbers
+pub same-refusal : {A : Type 0} (r : Refusal) {number file place : ℕ} → number ≡ r .number → r .file ≡ file → place ≡ r .place
+    → _≡_ {A = Reading A} (refused r) (refused (refusal number file place))
+same-refusal r n f p i = refused (record { number = sym n i; file = f i; place = sym p i })
+
+-- what was read, by the answer
+pub record WasGood {A : Type 0} (read : Reading A) (counts : A → Counts) (Written : A → Type 0) (k : Counts) : Type 0 where
+  pub what : A
+  pub was : read ≡ good what
+  pub counted : k ≡ counts what
+  pub there : Written what
+
+module _ {A : Type 0} {read : Reading A} {counts : A → Counts} {Written : A → Type 0} where
+  pub part-refused : (r : Refusal) → read ≡ refused r → Part read counts Written (Refused r)
+  part-refused r e = record { answers = rw e; writes = λ x g. never-good r x (sym e ∙ g) }
+
+  pub part-good : {k : Counts} (x : A) → read ≡ good x → k ≡ counts x → Written x → Part read counts Written (Whole k)
+  part-good x e q w = record { answers = rw (e, q); writes = λ y g. let same : x ≡ y = cc in rw (← same) w }
+
+  pub whole-good : (a : Filed) (k : Counts) → Part read counts Written a → a ≡ Whole k → WasGood read counts Written k
+  whole-good a k p e = go read refl (sym e ∙ p .answers)
+    where
+      go : (o : Reading A) → read ≡ o → Whole k ≡ filedBy counts o → WasGood read counts Written k
+      go (refused r) q f = let z : _≡_ {A = ℕ} 0 1 = cc in absurd (omega arith)
+      go (good x) q f = record { what = x; was = q; counted = cc; there = p .writes x q }
+
+  pub refused-refused : (a : Filed) (r : Refusal) → Part read counts Written a → a ≡ Refused r → read ≡ refused r
+  refused-refused a r p e = go read refl (sym e ∙ p .answers)
+    where
+      go : (o : Reading A) → read ≡ o → Refused r ≡ filedBy counts o → read ≡ refused r
+      go (refused s) q f = let same : r ≡ s = cc in rw same q
+      go (good x) q f = let z : _≡_ {A = ℕ} 0 1 = cc in absurd (omega arith)

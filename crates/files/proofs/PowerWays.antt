@@ -1,0 +1,101 @@
+-- Each way out of reading the profiles, 12 and 13. Assumes nothing.
+use Prim.Native.Nat.{ℕ, _/_}
+use mathlib.Core.Path.{_≡_, refl, sym, ap, _∙_}
+use mathlib.Core.List.{List}
+use mathlib.Core.Option.{Option, none, some}
+use native.Mathlib.Omega.{arith}
+use lib.ListN.{length}
+use lib.IntN.{ℤ}
+use Rattle.rules.specs.Limits.{profileWidth}
+use Rattle.rules.specs.Lists.{over}
+use Rattle.rules.specs.Answers.{timetableFile, refusal, Reading, refused, good}
+use Rattle.rules.specs.Rows.{RowFault, firstFault, placeOfRow}
+use Rattle.rules.specs.Timetable.{Row}
+use Rattle.rules.specs.Profiles.{Curve, sampled, profilesOf, profileFault}
+use Rattle.rules.specs.declared.answers.Refusal.{Refusal}
+use Rattle.ids.specs.Column.{Records}
+use Rattle.profiles.specs.declared.reader.Rows.{Rows}
+use Rattle.profiles.specs.declared.reader.Rows.the-variants.{Refused as NotRead, Read}
+use Rattle.rows.specs.declared.lists.Fault.{Fault}
+use Rattle.rows.specs.declared.lists.Fault.the-variants.{Row as AtRow, Nothing}
+use Rattle.profiles.specs.Reads.{rowsOf, Reads}
+use Rattle.profiles.specs.Holds.{profileTable}
+use Rattle.rows.specs.Counts.{Tables, Tabled, faultOf, FirstFault}
+use Rattle.rows.proofs.Holding.{tabled-tables, tabled-records}
+use Rattle.files.specs.declared.Counts.{Counts}
+use Rattle.files.specs.declared.Filed.the-variants.{Whole, Refused}
+use Rattle.files.specs.Parts.{powersOf, Draft, Lists, Listed, PowersRead}
+use Rattle.files.proofs.Parted.{part-refused, part-good}
+use Rattle.files.proofs.Fronts.{front-held}
+
+not-read : (o : Reading (List Curve)) (r : Refusal) → NotRead r ≡ rowsOf o → o ≡ refused r
+not-read (refused s) r e = cc
+not-read (good curves) r e = let z : _≡_ {A = ℕ} 0 1 = cc in absurd (omega arith)
+
+record WasRead (o : Reading (List Curve)) (m k : ℕ) : Type 0 where
+  curves : List Curve
+  was : o ≡ good curves
+  profiles-many : m ≡ length curves
+  samples-many : k ≡ sampled curves
+
+was-read : (o : Reading (List Curve)) (m k : ℕ) → Read m k ≡ rowsOf o → WasRead o m k
+was-read (refused r) m k e = let z : _≡_ {A = ℕ} 0 1 = cc in absurd (omega arith)
+was-read (good curves) m k e = record { curves = curves; was = refl; profiles-many = cc; samples-many = cc }
+
+no-fault : (o : Option RowFault) → Nothing ≡ faultOf o → o ≡ none
+no-fault none e = refl
+no-fault (some f) e = let z : _≡_ {A = ℕ} 0 1 = cc in absurd (omega arith)
+
+a-fault : (o : Option RowFault) (row number : ℕ) → AtRow row number ≡ faultOf o → o ≡ some (record { row = row; number = number })
+a-fault none row number e = let z : _≡_ {A = ℕ} 0 1 = cc in absurd (omega arith)
+a-fault (some f) row number e =
+    let parts : f ≡ record { row = f .row; number = f .number } = refl in
+    cc
+
+module _ (counts : Counts) (timetable text legs configurations profiles : List ℕ) (samples : List ℤ) (profiles′ : List ℕ) (samples′ : List ℤ)
+    {answer : Rows} (read : Reads text profiles samples answer profiles′ samples′) where
+  abbrev outcome : Reading (List Curve)
+  outcome = profilesOf (length profiles / profileWidth) (length samples) text
+
+  pub powers-refused : {r : Refusal} → answer ≡ NotRead r → PowersRead counts timetable text legs configurations profiles samples (Refused r) profiles′ samples′
+  unfolding powersOf
+  powers-refused {r} a rows draft lists = part-refused r (rw (not-read outcome r (sym a ∙ read .answer)))
+
+  module _ {m k : ℕ} (a : answer ≡ Read m k) where
+    got : WasRead outcome m k
+    got = was-read outcome m k (sym a ∙ read .answer)
+
+    table : profiles′ ≡ over (profileTable (got .curves)) profiles
+    table = read .profile-table (got .curves) (got .was)
+
+    tabled : (rows : List Row) → Draft timetable legs (counts .legs) rows → Lists configurations rows → Tabled legs (counts .legs) configurations profiles′ m rows (got .curves)
+    tabled rows draft lists =
+        record {
+          rows-many = draft .many;
+          legs-hold = draft .legs-hold;
+          configurations-hold = lists .lists-hold;
+          profiles-many = got .profiles-many;
+          profiles-hold = front-held (profileTable (got .curves)) profiles table;
+        }
+
+    -- what 12 and 13 are tested over
+    pub powers-able : Listed timetable legs (counts .legs) configurations → Tables legs (counts .legs) configurations × Records profileWidth m profiles′
+    powers-able l = (tabled-tables (tabled (l .rows) (l .draft) (l .lists)), tabled-records (tabled (l .rows) (l .draft) (l .lists)))
+
+    module _ {fault : Fault} (f : FirstFault legs (counts .legs) configurations profiles′ m fault) where
+      found : (rows : List Row) → Draft timetable legs (counts .legs) rows → Lists configurations rows → fault ≡ faultOf (firstFault 0 (profileFault (got .curves)) rows)
+      found rows draft lists = f rows (got .curves) (tabled rows draft lists)
+
+      pub powers-row : {row number : ℕ} {r : Refusal} → fault ≡ AtRow row number → r ≡ refusal number timetableFile (placeOfRow timetable row)
+          → PowersRead counts timetable text legs configurations profiles samples (Refused r) profiles′ samples′
+      unfolding powersOf
+      powers-row {row} {number} {r} q e rows draft lists =
+          part-refused r (rw (got .was, a-fault (firstFault 0 (profileFault (got .curves)) rows) row number (sym q ∙ found rows draft lists)) (ap refused (sym e)))
+
+      pub powers-whole : fault ≡ Nothing
+          → PowersRead counts timetable text legs configurations profiles samples
+          (Whole (record { legs = counts .legs; configurations = counts .configurations; profiles = m; samples = k; constraints = 0; tracks = 0; subnets = 0 })) profiles′ samples′
+      unfolding powersOf
+      powers-whole q rows draft lists =
+          part-good (got .curves) (rw (got .was, no-fault (firstFault 0 (profileFault (got .curves)) rows) (sym q ∙ found rows draft lists)))
+          (cc (got .profiles-many, got .samples-many)) (table, read .sample-table (got .curves) (got .was))

@@ -1,0 +1,62 @@
+// All that does not depend on a solution, in document 01's order: H; timetable; profiles; 12 and 13; constraints; 15.
+ghost use Rattle.files.specs.Promise.{texts, tables, FilesRead};
+use rules::answers::Refusal;
+
+pub mod places; // where a row starts
+pub mod parts; // the draft; profiles, 12 and 13; constraints, 15
+
+// How many entries the tables hold.
+pub struct Counts {
+    pub legs: usize,
+    pub configurations: usize,
+    pub profiles: usize,
+    pub samples: usize,
+    pub constraints: usize,
+    pub tracks: usize,
+    pub subnets: usize,
+}
+
+pub enum Filed {
+    Whole(Counts),
+    Refused(Refusal),
+}
+
+pub fn read_files(
+    h: u32,
+    timetable: &[u8],
+    profiles: &[u8],
+    constraints: &[u8],
+    legs: &mut [u32],
+    configurations: &mut [u32],
+    profile_table: &mut [u32],
+    samples: &mut [i32],
+    constraint_table: &mut [u32],
+    tracks: &mut [u32],
+) -> Filed
+    ensures { λ r. ⌜ FilesRead h (texts (now (timetable .entry)) (now (profiles .entry)) (now (constraints .entry))) (tables (now (legs .entry)) (now (configurations .entry)) (now («profile_table» .entry)) (now (samples .entry)) (now («constraint_table» .entry)) (now (tracks .entry))) r (tables (now (legs .exit)) (now (configurations .exit)) (now («profile_table» .exit)) (now (samples .exit)) (now («constraint_table» .exit)) (now (tracks .exit))) ⌝ }
+{
+    let draft = parts::read_draft(h, timetable, legs, configurations);
+    let Filed::Whole(drafted) = draft else {
+        return draft;
+    };
+    let power = parts::read_powers(
+        drafted,
+        timetable,
+        profiles,
+        legs,
+        configurations,
+        profile_table,
+        samples,
+    );
+    let Filed::Whole(powered) = power else {
+        return power;
+    };
+    parts::read_rules(
+        powered,
+        timetable,
+        constraints,
+        legs,
+        constraint_table,
+        tracks,
+    )
+}

@@ -1,0 +1,6 @@
+pub mod Standing
+pub mod Texts
+pub mod Verdicts
+pub mod Solutions
+pub mod OverFiles
+pub mod Ends

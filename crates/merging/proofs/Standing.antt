@@ -1,0 +1,58 @@
+-- What a merge leaves: where nothing is refused, the tables as they were read; short of acceptance, a text of zeros. Assumes nothing.
+use Prim.Native.Nat.{ℕ}
+use mathlib.Core.Path.{_≡_, refl}
+use mathlib.Core.Bool.{Bool, true, false, _&&_}
+use mathlib.Core.List.{List}
+use mathlib.Core.Option.{Option, none, some}
+use native.Mathlib.Omega.{arith}
+use lib.Dec.{leb}
+use lib.ListN.{length}
+use Rattle.rules.specs.Limits.{mostText, byteFill}
+use Rattle.rules.specs.Answers.{isRefusal, isAccepted, Reading, refused, good, _>>=_}
+use Rattle.rules.specs.Reading.{Files}
+use Rattle.rules.specs.Verdict.{Verdict, accepted, violated}
+use Rattle.rules.specs.Merge.{unequalFrom, chosen, textOf}
+use Rattle.rules.specs.Entries.{Tables, filled, writtenTables, writtenChoices, verdictOf, Both, Merged, mergeFitted, mergeTravel, mergeSecond, mergeFirst, mergeFrom}
+use Rattle.rules.specs.declared.sizes.Configuration.{Configuration}
+
+pub never : {A : Type 0} → true ≡ false → A
+never z = let q : _≡_ {A = ℕ} 0 1 = cc in absurd (omega arith)
+
+module _ (t : Tables) (c d text second : List ℕ) (merge : List Configuration → List Configuration → List Configuration) where
+  -- what was read stands in the tables where nothing is refused, and the text is zeroed short of acceptance
+  pub record Stands (b : Both) (o : Merged) : Type 0 where
+    pub tables : isRefusal (o .answer) ≡ false → o .tables ≡ writtenTables (b .files) t
+    pub choices : isRefusal (o .answer) ≡ false → o .choices ≡ writtenChoices (b .first) c
+    pub second-choices : isRefusal (o .answer) ≡ false → o .second ≡ writtenChoices (b .second) d
+    pub zeroed : isAccepted (o .answer) ≡ false → o .text ≡ filled byteFill text
+
+  fitted : (fits : Bool) (written : List ℕ) (b : Both) → Stands b (mergeFitted t c d text fits written b)
+  fitted false written b = record { tables = never; choices = never; second-choices = never; zeroed = λ z. refl }
+  fitted true written b = record { tables = λ z. refl; choices = λ z. refl; second-choices = λ z. refl; zeroed = never }
+
+  travelled : (o : Option ℕ) (b : Both) → Stands b (mergeTravel t c d text second merge o b)
+  travelled (some row) b = record { tables = never; choices = never; second-choices = never; zeroed = λ z. refl }
+  travelled none b =
+      let written = textOf (chosen (b .files .rows) (merge (b .first) (b .second))) in
+      fitted (leb (length written) (length text) && leb (length written) mostText) written b
+
+  judged-second : (v : Verdict) (b : Both) → Stands b (mergeSecond t c d text second merge v b)
+  judged-second accepted b = travelled (unequalFrom 0 (b .first) (b .second)) b
+  judged-second (violated k n i m) b = record { tables = λ z. refl; choices = λ z. refl; second-choices = λ z. refl; zeroed = λ z. refl }
+
+  pub judged-stands : (v : Verdict) (b : Both) → Stands b (mergeFirst t c d text second merge v b)
+  judged-stands accepted b = judged-second (verdictOf (b .files) (b .second)) b
+  judged-stands (violated k n i m) b = record { tables = λ z. refl; choices = λ z. refl; second-choices = λ z. refl; zeroed = λ z. refl }
+
+  -- the tables of the files stand, whatever two solutions say
+  pub files-stand : (f : Files) (p q : Reading (List Configuration))
+      → isRefusal (mergeFrom t c d text second merge (p >>= λ a. q >>= λ b. good (record { files = f; first = a; second = b })) .answer) ≡ false
+      → mergeFrom t c d text second merge (p >>= λ a. q >>= λ b. good (record { files = f; first = a; second = b })) .tables ≡ writtenTables f t
+  files-stand f (refused r) q = never
+  files-stand f (good a) (refused r) = never
+  files-stand f (good a) (good b) = judged-stands (verdictOf f a) (record { files = f; first = a; second = b }) .tables
+
+  pub text-zeroed : (m : Reading Both) → isAccepted (mergeFrom t c d text second merge m .answer) ≡ false
+      → mergeFrom t c d text second merge m .text ≡ filled byteFill text
+  text-zeroed (refused r) z = refl
+  text-zeroed (good b) z = judged-stands (verdictOf (b .files) (b .first)) b .zeroed z

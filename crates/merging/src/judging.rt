@@ -1,0 +1,106 @@
+// Two solutions over files that were read: "the verdict of the first, of the second", and then the merge.
+ghost use Rattle.tails.specs.Left.{Judgeable};
+ghost use Rattle.merging.specs.Left.{Disputable, Judges, Solves};
+use crate::Merged;
+use crate::not_written;
+use crate::writing;
+use files::Counts;
+use rules::answers::Answer;
+use rules::answers::File;
+use tails::Chosen;
+use tails::refusals;
+use writer::merge::Direction;
+
+// Both are read.
+fn merge_chosen(
+    direction: Direction,
+    counts: Counts,
+    second: &[u8],
+    legs: &[u32],
+    configurations: &[u32],
+    constraints: &[u32],
+    choices: &[u32],
+    second_choices: &[u32],
+    text: &mut [u8],
+) -> Merged
+    requires { ⌜ Disputable counts (now second) (now legs) (now configurations) (now constraints) (now choices) (now «second_choices») ⌝ }
+    ensures { λ r. ⌜ Judges direction counts (now (second .entry)) (now (legs .entry)) (now (configurations .entry)) (now (constraints .entry)) (now (choices .entry)) (now («second_choices» .entry)) (now (text .entry)) r (now (text .exit)) ⌝ }
+{
+    let one = tails::judge_choices(
+        counts,
+        legs,
+        configurations,
+        constraints,
+        choices,
+        File::SOLUTION,
+    );
+    if refusals::is_accepted(one) {
+        let two = tails::judge_choices(
+            counts,
+            legs,
+            configurations,
+            constraints,
+            second_choices,
+            File::SECOND_SOLUTION,
+        );
+        if refusals::is_accepted(two) {
+            return writing::write_merge(
+                direction,
+                counts,
+                second,
+                legs,
+                configurations,
+                choices,
+                second_choices,
+                text,
+            );
+        }
+        return not_written(two);
+    }
+    not_written(one)
+}
+
+// "A second solution's refusals come before both verdicts."
+pub fn merge_solutions(
+    h: u32,
+    direction: Direction,
+    counts: Counts,
+    first: &[u8],
+    second: &[u8],
+    legs: &[u32],
+    configurations: &[u32],
+    constraints: &[u32],
+    choices: &mut [u32],
+    second_choices: &mut [u32],
+    text: &mut [u8],
+) -> Merged
+    requires { ⌜ Judgeable h counts (now legs) (now configurations) (now constraints) ⌝ }
+    ensures { λ r. ⌜ Solves h direction counts (now (first .entry)) (now (second .entry)) (now (legs .entry)) (now (configurations .entry)) (now (constraints .entry)) (now (choices .entry)) (now («second_choices» .entry)) (now (text .entry)) r (now (choices .exit)) (now («second_choices» .exit)) (now (text .exit)) ⌝ }
+{
+    match tails::choose(first, h, File::SOLUTION, counts, legs, choices) {
+        Chosen::Refused(refusal) => not_written(Answer::Refused(refusal)),
+        Chosen::Whole => {
+            match tails::choose(
+                second,
+                h,
+                File::SECOND_SOLUTION,
+                counts,
+                legs,
+                second_choices,
+            ) {
+                Chosen::Refused(refusal) => not_written(Answer::Refused(refusal)),
+                Chosen::Whole => merge_chosen(
+                    direction,
+                    counts,
+                    second,
+                    legs,
+                    configurations,
+                    constraints,
+                    choices,
+                    second_choices,
+                    text,
+                ),
+            }
+        }
+    }
+}

@@ -1,0 +1,135 @@
+// The merges (document 01, "Merged texts"): both solutions are read, then judged, and the earlier or the later choices are written as a timetable.
+ghost use mathlib.Core.Path.{_≡_};
+ghost use Rattle.files.specs.Promise.{texts, tables};
+ghost use Rattle.writer.specs.Merges.{mergeOf};
+ghost use Rattle.merging.specs.Left.{notWritten};
+ghost use Rattle.merging.specs.Promise.{MergeRead, Merges};
+use files::Filed;
+use rules::answers::Answer;
+use tails::refusals;
+use writer::merge::Direction;
+
+pub mod writing; // 17, the text, 16
+pub mod judging; // the solutions, and their verdicts
+
+// The bytes that were written: none short of acceptance.
+pub struct Merged {
+    pub answer: Answer,
+    pub length: usize,
+}
+
+pub fn not_written(answer: Answer) -> Merged
+    ensures { λ r. ⌜ r ≡ notWritten answer ⌝ }
+{
+    Merged { answer, length: 0 }
+}
+
+// The files, both solutions, and the merge.
+fn read_and_merge(
+    direction: Direction,
+    h: u32,
+    timetable: &[u8],
+    profiles: &[u8],
+    constraints: &[u8],
+    first: &[u8],
+    second: &[u8],
+    legs: &mut [u32],
+    configurations: &mut [u32],
+    profile_table: &mut [u32],
+    samples: &mut [i32],
+    constraint_table: &mut [u32],
+    tracks: &mut [u32],
+    choices: &mut [u32],
+    second_choices: &mut [u32],
+    text: &mut [u8],
+) -> Merged
+    ensures { λ r. ⌜ MergeRead (mergeOf direction) h (texts (now (timetable .entry)) (now (profiles .entry)) (now (constraints .entry))) (now (first .entry)) (now (second .entry)) (tables (now (legs .entry)) (now (configurations .entry)) (now («profile_table» .entry)) (now (samples .entry)) (now («constraint_table» .entry)) (now (tracks .entry))) (now (choices .entry)) (now («second_choices» .entry)) (now (text .entry)) r (tables (now (legs .exit)) (now (configurations .exit)) (now («profile_table» .exit)) (now (samples .exit)) (now («constraint_table» .exit)) (now (tracks .exit))) (now (choices .exit)) (now («second_choices» .exit)) (now (text .exit)) ⌝ }
+{
+    match files::read_files(
+        h,
+        timetable,
+        profiles,
+        constraints,
+        legs,
+        configurations,
+        profile_table,
+        samples,
+        constraint_table,
+        tracks,
+    ) {
+        Filed::Refused(refusal) => not_written(Answer::Refused(refusal)),
+        Filed::Whole(counts) => judging::merge_solutions(
+            h,
+            direction,
+            counts,
+            first,
+            second,
+            legs,
+            configurations,
+            constraint_table,
+            choices,
+            second_choices,
+            text,
+        ),
+    }
+}
+
+// After a refusal every table is filled; short of acceptance the text is zeroed.
+pub fn merge(
+    direction: Direction,
+    h: u32,
+    timetable: &[u8],
+    profiles: &[u8],
+    constraints: &[u8],
+    first: &[u8],
+    second: &[u8],
+    legs: &mut [u32],
+    configurations: &mut [u32],
+    profile_table: &mut [u32],
+    samples: &mut [i32],
+    constraint_table: &mut [u32],
+    tracks: &mut [u32],
+    choices: &mut [u32],
+    second_choices: &mut [u32],
+    text: &mut [u8],
+) -> Merged
+    ensures { λ r. ⌜ Merges (mergeOf direction) h (texts (now (timetable .entry)) (now (profiles .entry)) (now (constraints .entry))) (now (first .entry)) (now (second .entry)) (tables (now (legs .entry)) (now (configurations .entry)) (now («profile_table» .entry)) (now (samples .entry)) (now («constraint_table» .entry)) (now (tracks .entry))) (now (choices .entry)) (now («second_choices» .entry)) (now (text .entry)) r (tables (now (legs .exit)) (now (configurations .exit)) (now («profile_table» .exit)) (now (samples .exit)) (now («constraint_table» .exit)) (now (tracks .exit))) (now (choices .exit)) (now («second_choices» .exit)) (now (text .exit)) ⌝ }
+{
+    let made = read_and_merge(
+        direction,
+        h,
+        timetable,
+        profiles,
+        constraints,
+        first,
+        second,
+        legs,
+        configurations,
+        profile_table,
+        samples,
+        constraint_table,
+        tracks,
+        choices,
+        second_choices,
+        text,
+    );
+    let answer = made.answer;
+    if refusals::is_accepted(answer) {
+        return made;
+    }
+    fill::bytes(text);
+    if refusals::is_refusal(answer) {
+        refusals::fill_tables(
+            legs,
+            configurations,
+            profile_table,
+            samples,
+            constraint_table,
+            tracks,
+        );
+        fill::unsigned(choices);
+        fill::unsigned(second_choices);
+        return made;
+    }
+    made
+}

@@ -1,0 +1,89 @@
+// The energies of texts that are read and judged: figures for accepted solutions only.
+ghost use mathlib.Core.Path.{_≡_};
+ghost use Rattle.files.specs.Promise.{texts, tables};
+ghost use Rattle.reports.specs.Promise.{noReport, ReportRead};
+use energy::desk;
+use rules::answers::Answer;
+use rules::figures::Desk;
+use rules::figures::Figures;
+use rules::figures::Peaks;
+use tails::refusals;
+
+pub mod working; // an accepted solution
+
+pub struct Report {
+    pub answer: Answer,
+    pub figures: Figures,
+    pub desk: Desk,
+}
+
+// Short of acceptance all figures are 0.
+pub fn no_report(answer: Answer) -> Report
+    ensures { λ r. ⌜ r ≡ noReport answer ⌝ }
+{
+    let figures = Figures {
+        before: 0,
+        drawn: 0,
+        lost: 0,
+        fluctuation: 0,
+        peaks: Peaks {
+            before: 0,
+            drawn: 0,
+        },
+    };
+    let desk = desk::for_desk(figures);
+    Report {
+        answer,
+        figures,
+        desk,
+    }
+}
+
+// The files, a solution and its verdict; and its energies, where it is accepted.
+pub fn read_and_report(
+    h: u32,
+    timetable: &[u8],
+    profiles: &[u8],
+    constraints: &[u8],
+    solution: &[u8],
+    legs: &mut [u32],
+    configurations: &mut [u32],
+    profile_table: &mut [u32],
+    samples: &mut [i32],
+    constraint_table: &mut [u32],
+    tracks: &mut [u32],
+    choices: &mut [u32],
+    curves: &mut [i32],
+) -> Report
+    ensures { λ r. ⌜ ReportRead h (texts (now (timetable .entry)) (now (profiles .entry)) (now (constraints .entry))) (now (solution .entry)) (tables (now (legs .entry)) (now (configurations .entry)) (now («profile_table» .entry)) (now (samples .entry)) (now («constraint_table» .entry)) (now (tracks .entry))) (now (choices .entry)) (now (curves .entry)) r (tables (now (legs .exit)) (now (configurations .exit)) (now («profile_table» .exit)) (now (samples .exit)) (now («constraint_table» .exit)) (now (tracks .exit))) (now (choices .exit)) (now (curves .exit)) ⌝ }
+{
+    let judged = tails::read_and_judge(
+        h,
+        timetable,
+        profiles,
+        constraints,
+        solution,
+        legs,
+        configurations,
+        profile_table,
+        samples,
+        constraint_table,
+        tracks,
+        choices,
+    );
+    let answer = judged.answer;
+    let counts = judged.counts;
+    if refusals::is_accepted(answer) {
+        return working::report_accepted(
+            h,
+            counts,
+            choices,
+            legs,
+            profile_table,
+            samples,
+            tracks,
+            curves,
+        );
+    }
+    no_report(answer)
+}

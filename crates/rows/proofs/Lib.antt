@@ -1,0 +1,3 @@
+pub mod Counts
+pub mod Holding
+pub mod Fifteen

@@ -1,0 +1,17 @@
+-- `rows::lists::see` meets its contract: an entry like the one before tells nothing new. Assumes nothing.
+use Rattle.rows.proofs.Counts.{counts}
+use borrow.Author.Needs.{needs}
+use Rattle.rows.proofs.lists.see.Statement.{statement}
+use Rattle.rows.proofs.lists.see.Tie as tie
+
+returns : tie.Need-returns
+returns c = search (counts, needs)
+
+look-requires : tie.Need-look-requires
+look-requires c κs = search needs
+
+returns-2 : tie.Need-returns-2
+returns-2 c = search needs
+
+pub see-spec : {M : Type 1} → statement M
+see-spec = tie.close (tie.spec returns look-requires returns-2)

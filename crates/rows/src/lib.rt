@@ -1,0 +1,3 @@
+// 12, 13 and 15, over the timetable's rows: the first row at fault by the profiles, or by the subnets.
+pub mod lists; // 12 and 13
+pub mod subnets; // 15

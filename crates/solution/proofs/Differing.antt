@@ -1,0 +1,181 @@
+-- 14: the first row that differs from the draft's is found row by row, from the leg table. Assumes nothing.
+use Prim.Native.Nat.{ℕ, zero, suc, _+_, _*_, _≤_, _<_}
+use mathlib.Core.Path.{_≡_, refl, ap, sym, _∙_}
+use mathlib.Core.Bool.{Bool, true, false, cond, _&&_}
+use mathlib.Core.List.{List, [], _∷_, _++_, append-assoc, append-nil}
+use mathlib.Core.Option.{Option, none, some}
+use native.Mathlib.Omega.{arith}
+use native.Mathlib.Numerals.{add-one}
+use lib.Dec.{ltb, eqb}
+use lib.ListN.{length, getD, take, drop, length-drop}
+use lib.Seq.{getD-drop, getD-take, drop-drop}
+use borrow.Author.Tests.{eq-eqb, ne-eqb, lt-ltb, le-ltb}
+use Rattle.rules.specs.Limits.{legWidth}
+use Rattle.rules.specs.Lists.{flat, over}
+use Rattle.rules.specs.Answers.{differs, good, _>>=_}
+use Rattle.rules.specs.Rows.{placeOfRow}
+use Rattle.rules.specs.Timetable.{Row, idsOf, legsFrom, legsOf, legNumbers, choicesOf}
+use Rattle.rules.specs.Reading.{sameLeg, differsFrom, matched}
+use Rattle.timetable.specs.RowOver.{heldIds}
+use Rattle.timetable.proofs.Words.{length-snoc}
+use Rattle.solution.specs.declared.compare.Compared.{Compared}
+use Rattle.solution.specs.declared.reader.Choices.{Choices}
+use Rattle.solution.specs.declared.reader.Choices.the-variants.{Fault, Read}
+use Rattle.solution.specs.Against.{sameAt, differsAt, comparedWith}
+use Rattle.solution.specs.Promise.{HoldsRows, choicesAnswer}
+use Rattle.solution.specs.Whole.{choicesAfter, comparedAnswer}
+
+-- ---- five columns
+
+module _ (a b c d e f g h i j : ℕ) where
+  abbrev five : Bool
+  five = eqb a f && (eqb b g && (eqb c h && (eqb d i && eqb e j)))
+
+  pub other-leg : (a ≡ f → ⊥) → false ≡ five
+  other-leg p = rw (ne-eqb a f p)
+
+  pub other-train : a ≡ f → (b ≡ g → ⊥) → false ≡ five
+  other-train p q = rw (eq-eqb a f p, ne-eqb b g q)
+
+  pub other-track : a ≡ f → b ≡ g → (c ≡ h → ⊥) → false ≡ five
+  other-track p q r = rw (eq-eqb a f p, eq-eqb b g q, ne-eqb c h r)
+
+  pub other-start : a ≡ f → b ≡ g → c ≡ h → (d ≡ i → ⊥) → false ≡ five
+  other-start p q r s = rw (eq-eqb a f p, eq-eqb b g q, eq-eqb c h r, ne-eqb d i s)
+
+  pub by-end : (t : Bool) → a ≡ f → b ≡ g → c ≡ h → d ≡ i → eqb e j ≡ t → t ≡ five
+  by-end t p q r s u = rw (eq-eqb a f p, eq-eqb b g q, eq-eqb c h r, eq-eqb d i s) (sym u)
+
+-- ---- one row more
+
+module _ (before : Compared) (numbers legs : List ℕ) (n row place : ℕ) where
+  pub keeps-first : before .differs ≡ true → before ≡ comparedWith before numbers legs n row place
+  keeps-first e = rw e
+
+  module _ (so-far : before .differs ≡ false) where
+    pub keeps-none : row < n → (t : Bool) → t ≡ sameAt numbers legs row → t ≡ true → before ≡ comparedWith before numbers legs n row place
+    keeps-none h t q u = rw (so-far, lt-ltb row n h, ← q, u)
+
+    pub finds-other : row < n → (t : Bool) → t ≡ sameAt numbers legs row → t ≡ false → differsAt place ≡ comparedWith before numbers legs n row place
+    finds-other h t q u = rw (so-far, lt-ltb row n h, ← q, u)
+
+    pub finds-more : n ≤ row → differsAt place ≡ comparedWith before numbers legs n row place
+    finds-more h = rw (so-far, le-ltb row n h)
+
+-- ---- the answer
+
+module _ (c : Compared) (rows n end : ℕ) where
+  pub answers-differs : c .differs ≡ true → Fault differs (c .place) ≡ comparedAnswer c rows n end
+  answers-differs e = rw e
+
+  pub answers-missing : c .differs ≡ false → rows < n → Fault differs end ≡ comparedAnswer c rows n end
+  answers-missing e h = rw (e, lt-ltb rows n h)
+
+  pub answers-read : c .differs ≡ false → n ≤ rows → Read rows ≡ comparedAnswer c rows n end
+  answers-read e h = rw (e, le-ltb rows n h)
+
+  -- no more rows than were read
+  pub read-all : (m : ℕ) (answer : Choices) → answer ≡ comparedAnswer c rows n end → answer ≡ Read m → m ≡ rows
+  read-all m answer e f = go (c .differs) (ltb rows n) (sym e ∙ f)
+    where
+      go : (t u : Bool) → cond t (Fault differs (c .place)) (cond u (Fault differs end) (Read rows)) ≡ Read m → m ≡ rows
+      go true u q = let z : _≡_ {A = ℕ} 0 1 = cc in absurd (omega arith)
+      go false true q = let z : _≡_ {A = ℕ} 0 1 = cc in absurd (omega arith)
+      go false false q = cc
+
+-- ---- the draft's rows in the leg table
+
+-- the ids of row k
+ids-in : (first k : ℕ) (rows : List Row) (a : Row) (more : List Row) (rest : List ℕ) → drop k rows ≡ a ∷ more
+    → take 5 (drop (k * legWidth) (flat legNumbers (legsFrom first rows) ++ rest)) ≡ idsOf a
+ids-in first zero [] a more rest e = let z : _≡_ {A = ℕ} 0 1 = cc in absurd (omega arith)
+ids-in first zero (r ∷ rows) a more rest e = let same : r ≡ a = cc in rw (← same)
+ids-in first (suc k) [] a more rest e = let z : _≡_ {A = ℕ} 0 1 = cc in absurd (omega arith)
+ids-in first (suc k) (r ∷ rows) a more rest e =
+    let at : suc k * legWidth ≡ suc (suc (suc (suc (suc (suc (suc (suc (k * legWidth)))))))) = omega arith in
+    rw at (ids-in (first + length (r .list)) k rows a more rest e)
+
+module _ {legs : List ℕ} {n : ℕ} {draft : List Row} (holds : HoldsRows legs n draft) where
+  ids-at : (k : ℕ) (a : Row) (more : List Row) → drop k draft ≡ a ∷ more → take 5 (drop (k * legWidth) legs) ≡ idsOf a
+  unfolding over
+  ids-at k a more e = rw (holds .front) (ids-in 0 k draft a more (drop (length (flat legNumbers (legsOf draft))) legs) e)
+
+  -- row k of the table differs where the draft's row does
+  same-leg : (k : ℕ) (a : Row) (more : List Row) (r : Row) (numbers : List ℕ) → drop k draft ≡ a ∷ more → heldIds numbers ≡ idsOf r → sameAt numbers legs k ≡ sameLeg a r
+  same-leg k a more r numbers e ids =
+      rw (first, column 1 (omega arith), column 2 (omega arith), column 3 (omega arith), column 4 (omega arith), id 0, id 1, id 2, id 3, id 4)
+    where
+      column : (j : ℕ) → j < 5 → getD legs (k * legWidth + j) 0 ≡ getD (idsOf a) j 0
+      column j h = sym (getD-drop (k * legWidth) legs j 0) ∙ sym (getD-take 5 (drop (k * legWidth) legs) j 0 h) ∙ ap (λ (l : List ℕ). getD l j 0) (ids-at k a more e)
+
+      first : getD legs (k * legWidth) 0 ≡ a .leg
+      first = let at : k * legWidth ≡ k * legWidth + 0 = omega arith in ap (λ (m : ℕ). getD legs m 0) at ∙ column 0 (omega arith)
+
+      id : (j : ℕ) → getD (heldIds numbers) j 0 ≡ getD (idsOf r) j 0
+      id j = ap (λ (l : List ℕ). getD l j 0) ids
+
+-- as many choices as rows
+pub choices-length : (rows : List Row) → length (choicesOf rows) ≡ length rows
+choices-length [] = refl
+choices-length (r ∷ rows) = ap suc (choices-length rows)
+
+-- ---- what is left to compare
+
+-- the comparison of all rows, whatever follows those before: what is found, or the comparison of those that follow
+abbrev pub Compares : (text : List ℕ) (draft before : List Row) → Compared → Type 0
+Compares text draft before c =
+    (rest : List Row) → differsFrom 0 text draft (before ++ rest) ≡ cond (c .differs) (some (c .place)) (differsFrom (length before) text (drop (length before) draft) rest)
+
+module _ {legs : List ℕ} {n : ℕ} {draft : List Row} (holds : HoldsRows legs n draft) (text : List ℕ) where
+  drop-next : (k : ℕ) (a : Row) (more : List Row) → drop k draft ≡ a ∷ more → drop (suc k) draft ≡ more
+  drop-next k a more e = ap (λ (m : ℕ). drop m draft) (sym (add-one k)) ∙ sym (drop-drop 1 k draft) ∙ ap (drop 1) e
+
+  past : (k : ℕ) → drop k draft ≡ [] → n ≤ k
+  past k e = omega (arith, length-drop k draft, ap length e, holds .many)
+
+  inside : (k : ℕ) (a : Row) (more : List Row) → drop k draft ≡ a ∷ more → k < n
+  inside k a more e = omega (arith, length-drop k draft, ap length e, holds .many)
+
+  pub compares-on : (before : List Row) (c : Compared) (r : Row) (numbers : List ℕ) (place : ℕ) → Compares text draft before c → heldIds numbers ≡ idsOf r → placeOfRow text (length before) ≡ place
+      → Compares text draft (before ++ r ∷ []) (comparedWith c numbers legs n (length before) place)
+  compares-on before c r numbers place h ids at rest =
+      rw (append-assoc before (r ∷ []) rest, length-snoc before r) (h (r ∷ rest) ∙ go (c .differs) refl)
+    where
+      k : ℕ
+      k = length before
+
+      onward : Compared → Option ℕ
+      onward x = cond (x .differs) (some (x .place)) (differsFrom (suc k) text (drop (suc k) draft) rest)
+
+      among : (rows : List Row) → drop k draft ≡ rows → c .differs ≡ false
+          → differsFrom k text rows (r ∷ rest) ≡ onward (cond (ltb k n && sameAt numbers legs k) c (differsAt place))
+      among [] e f = rw (le-ltb k n (past k e)) (ap some at)
+      among (a ∷ more) e f = rw (lt-ltb k n (inside k a more e), same-leg holds k a more r numbers e ids) (by-row (sameLeg a r))
+        where
+          by-row : (t : Bool) → cond t (differsFrom (suc k) text more rest) (some (placeOfRow text k)) ≡ onward (cond t c (differsAt place))
+          by-row true = rw (f, drop-next k a more e)
+          by-row false = ap some at
+
+      go : (t : Bool) → c .differs ≡ t → cond t (some (c .place)) (differsFrom k text (drop k draft) (r ∷ rest)) ≡ onward (cond t c (cond (ltb k n && sameAt numbers legs k) c (differsAt place)))
+      go true e = rw e
+      go false e = among (drop k draft) refl e
+
+  -- nothing is left
+  pub compares-end : (rows : List Row) (c : Compared) → Compares text draft rows c
+      → differsFrom 0 text draft rows ≡ cond (c .differs) (some (c .place)) (cond (ltb (length rows) n) (some (length text)) none)
+  compares-end rows c h = ap (differsFrom 0 text draft) (sym (append-nil rows)) ∙ h [] ∙ ap (cond (c .differs) (some (c .place))) (go (drop (length rows) draft) refl)
+    where
+      go : (left : List Row) → drop (length rows) draft ≡ left → differsFrom (length rows) text left [] ≡ cond (ltb (length rows) n) (some (length text)) none
+      go [] e = rw (le-ltb (length rows) n (past (length rows) e))
+      go (a ∷ more) e = rw (lt-ltb (length rows) n (inside (length rows) a more e))
+
+  -- the answer is the definition's
+  pub compared-right : (file : ℕ) (rows : List Row) (c : Compared) → Compares text draft rows c
+      → comparedAnswer c (length rows) n (length text) ≡ choicesAnswer (choicesAfter file draft text (good rows))
+  compared-right file rows c h = rw (compares-end rows c h) (go (c .differs) (ltb (length rows) n))
+    where
+      go : (t u : Bool) → cond t (Fault differs (c .place)) (cond u (Fault differs (length text)) (Read (length rows)))
+          ≡ choicesAnswer (matched file (cond t (some (c .place)) (cond u (some (length text)) none)) rows >>= (λ same. good (choicesOf rows)))
+      go true u = refl
+      go false true = refl
+      go false false = ap Read (sym (choices-length rows))

@@ -1,0 +1,219 @@
+-- The loop over a solution's lines: its invariant, kept by each turn, and what it gives at each return. Assumes nothing.
+use Prim.Native.Nat.{ℕ, suc, _+_, _*_, _-_, _/_, _≤_, _<_}
+use mathlib.Core.Path.{_≡_, refl, ap, sym, _∙_}
+use mathlib.Core.Bool.{true}
+use mathlib.Core.List.{List, [], _∷_, _++_}
+use native.Mathlib.Omega.{arith}
+use lib.Dec.{eqb}
+use lib.ListN.{length, take, drop, drop-of-length-le, length-drop, length-take}
+use lib.Seq.{drop-cons}
+use borrow.Author.Tests.{eqb-true}
+use Rattle.rules.specs.Limits.{legWidth, configurationWidth}
+use Rattle.rules.specs.Lists.{flat, over, startsWith}
+use Rattle.rules.specs.Answers.{refusal, badRow, Reading, refused, good, Judged, wrong, right}
+use Rattle.rules.specs.Bytes.{lineFeed, splitOn, startOf}
+use Rattle.rules.specs.Rows.{onRow, rowsFrom}
+use Rattle.rules.specs.Timetable.{Row, rowOf, solutionFits, timetableHeader}
+use Rattle.rules.proofs.Pieces.{split-not-empty, split-free}
+use Rattle.text.specs.Places.{upTo}
+use Rattle.text.proofs.Laws.{pieces-next, pieces-last}
+use Rattle.timetable.specs.declared.line.Line.{Line}
+use Rattle.timetable.specs.Text.{firstLine}
+use Rattle.timetable.proofs.Words.{length-snoc, over-length, and-left, and-right}
+use Rattle.solution.specs.declared.compare.Compared.{Compared}
+use Rattle.solution.specs.declared.reader.Choices.{Choices}
+use Rattle.solution.specs.declared.reader.Choices.the-variants.{Fault}
+use Rattle.solution.specs.Said.{Alone}
+use Rattle.solution.specs.Before.{packedRow, Counted, AfterRow, Turned, Roomy}
+use Rattle.solution.specs.Against.{noneDiffers, comparedWith}
+use Rattle.solution.specs.Promise.{HoldsRows}
+use Rattle.solution.specs.Whole.{Headed, rowsAfter, comparedAnswer, RowsRead}
+use Rattle.solution.proofs.Judging.{packed-length}
+use Rattle.solution.proofs.Differing.{Compares, compares-on, compared-right, read-all}
+
+-- ---- the header
+
+-- a text that begins with a name
+starts-front : (name s : List ℕ) → startsWith name s ≡ true → s ≡ name ++ drop (length name) s
+starts-front [] s e = refl
+starts-front (n ∷ name) [] e = let z : _≡_ {A = ℕ} 0 1 = cc in absurd (omega arith)
+starts-front (n ∷ name) (b ∷ s) e =
+    let same : b ≡ n = eqb-true b n (and-left (eqb b n) (startsWith name s) e) in
+    let rest : s ≡ name ++ drop (length name) s = starts-front name s (and-right (eqb b n) (startsWith name s) e) in
+    ap (λ (x : ℕ). x ∷ s) same ∙ ap (λ (t : List ℕ). n ∷ t) rest
+
+starts-long : (name s : List ℕ) → startsWith name s ≡ true → length name ≤ length s
+starts-long [] s e = omega arith
+starts-long (n ∷ name) [] e = let z : _≡_ {A = ℕ} 0 1 = cc in absurd (omega arith)
+starts-long (n ∷ name) (b ∷ s) e = let k : length name ≤ length s = starts-long name s (and-right (eqb b n) (startsWith name s) e) in omega arith
+
+-- the header is the text's first line
+header-line : (text : List ℕ) → startsWith timetableHeader text ≡ true → (k : ℕ)
+    → startOf (suc k) (splitOn lineFeed text) ≡ length timetableHeader + startOf k (splitOn lineFeed (drop (length timetableHeader) text))
+header-line text e k = ap (λ (t : List ℕ). startOf (suc k) (splitOn lineFeed t)) (starts-front timetableHeader text e)
+
+-- ---- the invariant
+
+-- a line that others follow is a row
+row-first : (file : ℕ) (judge : List Row → List ℕ → Judged Row) (place : ℕ) (before : List Row) (line : List ℕ) (lines : List (List ℕ)) → (lines ≡ [] → ⊥)
+    → rowsFrom file judge place before (line ∷ lines) ≡ onRow file judge place (judge before line) (λ r. rowsFrom file judge (place + length line + 1) (before ++ r ∷ []) lines)
+row-first file judge place before line [] h = absurd (h refl)
+row-first file judge place before line (next ∷ lines) h = refl
+
+abbrev judgeOf : (H : ℕ) (lent : List ℕ) → List Row → List ℕ → Judged Row
+judgeOf H lent = rowOf H (solutionFits (length lent / configurationWidth))
+
+-- the rows before; what is left of the text gives the rest of the reading, of the places and of the comparison
+pub record Going (H : ℕ) (text legs : List ℕ) (n : ℕ) (lent : List ℕ) (line : Line) (compared : Compared) (choices : List ℕ) (i : ℕ) : Type 0 where
+  pub headed : Headed H text legs n
+  pub within : i ≤ length text
+  pub past : length timetableHeader ≤ i
+  pub long : length choices ≡ length lent
+  pub before : List Row
+  pub counted : Counted H lent line choices before
+  pub left : (file : ℕ) → rowsFrom file (judgeOf H lent) i before (splitOn lineFeed (drop i text)) ≡ rowsAfter H file lent text
+  pub places : (k : ℕ) → startOf (suc (length before + k)) (splitOn lineFeed text) ≡ i + startOf k (splitOn lineFeed (drop i text))
+  pub compares : (draft : List Row) → HoldsRows legs n draft → Compares text draft before compared
+
+-- before the first row
+none-counted : (H : ℕ) (lent : List ℕ) → Counted H lent firstLine lent []
+unfolding over
+none-counted H lent =
+    record {
+      going = refl;
+      rows-are = refl;
+      configurations-are = refl;
+      below = tt;
+      in-range = tt;
+      few = omega arith;
+      many = omega arith;
+      fits = omega arith;
+      choices-are = refl;
+    }
+
+pub going-first : (H : ℕ) (text legs : List ℕ) (n : ℕ) (lent : List ℕ) (line : Line) (compared : Compared) → Headed H text legs n → line ≡ firstLine → compared ≡ noneDiffers
+    → Going H text legs n lent line compared lent (length timetableHeader)
+going-first H text legs n lent line compared h e d =
+    record {
+      headed = h;
+      within = starts-long timetableHeader text (h .header);
+      past = omega arith;
+      long = refl;
+      before = [];
+      counted = rw e (none-counted H lent);
+      left = λ file. refl;
+      places = λ k. let at : 0 + k ≡ k = omega arith in rw at (header-line text (h .header) k);
+      compares = λ draft holds rest. rw d;
+    }
+
+module _ {H : ℕ} {text legs : List ℕ} {n : ℕ} {lent : List ℕ} {line : Line} {compared : Compared} {choices : List ℕ} {i : ℕ}
+    (g : Going H text legs n lent line compared choices i) where
+  pub whole : n * legWidth ≤ length legs
+  whole = g .headed .able .whole
+
+  pub roomy : Roomy line choices
+  roomy = omega (arith, g .counted .rows-are, g .counted .fits, g .long)
+
+  -- the text is over
+  pub gone-over : (answer : Choices) → length text ≤ i → answer ≡ comparedAnswer compared (line .rows) n (length text) → RowsRead H text legs n lent answer choices
+  gone-over answer o e =
+      record {
+        answers = λ draft file holds.
+            rw (← all-read file)
+            (e ∙ ap (λ (m : ℕ). comparedAnswer compared m n (length text)) (g .counted .rows-are) ∙ compared-right holds text file (g .before) compared (g .compares draft holds));
+        packs = λ file rows q.
+            let same : g .before ≡ rows = cc (all-read file) in
+            rw (← same) (record { packed-are = g .counted .choices-are; in-range = g .counted .in-range });
+        fits = λ m q. omega (arith, read-all compared (line .rows) n (length text) m answer e q, g .counted .rows-are, g .counted .fits, g .long);
+      }
+    where
+      all-read : (file : ℕ) → good (g .before) ≡ rowsAfter H file lent text
+      all-read file = rw (drop-of-length-le text o) at (g .left file)
+
+  -- what is refused
+  refused-rows : (k : ℕ) (now : List ℕ) → ((file : ℕ) → refused (refusal k file i) ≡ rowsAfter H file lent text) → RowsRead H text legs n lent (Fault k i) now
+  refused-rows k now r =
+      record {
+        answers = λ draft file holds. rw (← r file);
+        packs = λ file rows q. let z : _≡_ {A = ℕ} 0 1 = cc (r file) in absurd (omega arith);
+        fits = λ m q. let z : _≡_ {A = ℕ} 0 1 = cc in absurd (omega arith);
+      }
+
+  module _ (e : ℕ) (found : e ≡ i + upTo lineFeed (drop i text)) where
+    -- a row that lacks its LF
+    pub gone-short : i < length text → length text ≤ e → RowsRead H text legs n lent (Fault badRow i) choices
+    gone-short a b = refused-rows badRow choices (λ file. rw (pieces-last text lineFeed i e found b, drop-cons text i 0 a) at (g .left file))
+
+    abbrev bytes : List ℕ
+    bytes = take (e - i) (drop i text)
+
+    module _ (inside : e < length text) where
+      bytes-length : length bytes ≡ e - i
+      bytes-length = length-take (e - i) (drop i text) ∙ omega (arith, length-drop i text, found)
+
+      pub alone : Alone H bytes
+      alone =
+          record {
+            horizon = g .headed .able .horizon;
+            unbroken = let f = split-free lineFeed (drop i text) in (rw (pieces-next text lineFeed i e found inside) at f) .0;
+            short = omega (arith, bytes-length, g .headed .short, g .past);
+          }
+
+      -- the lines from i on: this one, and those after it
+      abbrev onward : (file : ℕ) → Row → Reading (List Row)
+      onward file r = rowsFrom file (judgeOf H lent) (e + 1) (g .before ++ r ∷ []) (splitOn lineFeed (drop (e + 1) text))
+
+      next-line : (file : ℕ) → onRow file (judgeOf H lent) i (judgeOf H lent (g .before) bytes) (onward file) ≡ rowsAfter H file lent text
+      next-line file =
+          let at : i + length bytes + 1 ≡ e + 1 = omega (arith, bytes-length, found) in
+          let after : List (List ℕ) = splitOn lineFeed (drop (e + 1) text) in
+          let lines : rowsFrom file (judgeOf H lent) i (g .before) (bytes ∷ after) ≡ rowsAfter H file lent text =
+          rw (pieces-next text lineFeed i e found inside) at (g .left file) in
+          sym (row-first file (judgeOf H lent) i (g .before) bytes after (split-not-empty lineFeed (drop (e + 1) text)) ∙ rw at) ∙ lines
+
+      next-place : (r : Row) (k : ℕ) → startOf (suc (length (g .before ++ r ∷ []) + k)) (splitOn lineFeed text) ≡ e + 1 + startOf k (splitOn lineFeed (drop (e + 1) text))
+      next-place r k =
+          let at : length (g .before ++ r ∷ []) + k ≡ length (g .before) + suc k = omega (arith, length-snoc (g .before) r) in
+          let there = rw (pieces-next text lineFeed i e found inside) at (g .places (suc k)) in
+          ap (λ (m : ℕ). startOf (suc m) (splitOn lineFeed text)) at ∙ there ∙ omega (arith, bytes-length, found)
+
+      here : startOf (suc (length (g .before))) (splitOn lineFeed text) ≡ i
+      here =
+          let at : length (g .before) ≡ length (g .before) + 0 = omega arith in
+          ap (λ (m : ℕ). startOf (suc m) (splitOn lineFeed text)) at ∙ g .places 0 ∙ omega arith
+
+      module _ (line′ : Line) (choices′ : List ℕ) (turned : Turned H bytes line choices line′ choices′) where
+        judged : AfterRow H lent line′ choices′ (g .before) (judgeOf H lent (g .before) bytes)
+        judged = turned .turns lent (g .before) (g .counted)
+
+        pub goes-on : (compared′ : Compared) → line′ .fault ≡ 0 → compared′ ≡ comparedWith compared (line′ .numbers) legs n (line .rows) i
+            → Going H text legs n lent line′ compared′ choices′ (e + 1)
+        goes-on compared′ f d = go (judgeOf H lent (g .before) bytes) judged next-line
+          where
+            go : (j : Judged Row) → AfterRow H lent line′ choices′ (g .before) j → ((file : ℕ) → onRow file (judgeOf H lent) i j (onward file) ≡ rowsAfter H file lent text)
+                → Going H text legs n lent line′ compared′ choices′ (e + 1)
+            go (wrong k) a r = absurd (omega (arith, a .0, a .1, f))
+            go (right r) a l =
+                record {
+                  headed = g .headed;
+                  within = omega arith;
+                  past = omega (arith, g .past, found);
+                  long =
+                      ap length (a .0 .choices-are)
+                      ∙ over-length (flat packedRow (g .before ++ r ∷ [])) lent (omega (arith, packed-length (g .before ++ r ∷ []), a .0 .fits));
+                  before = g .before ++ r ∷ [];
+                  counted = a .0;
+                  left = l;
+                  places = next-place r;
+                  compares = λ draft holds.
+                      rw (d, g .counted .rows-are) (compares-on holds text (g .before) compared r (line′ .numbers) i (g .compares draft holds) (a .1) here);
+                }
+
+        -- the first fault
+        pub gone-fault : (line′ .fault ≡ 0 → ⊥) → RowsRead H text legs n lent (Fault (line′ .fault) i) choices′
+        gone-fault f = go (judgeOf H lent (g .before) bytes) judged next-line
+          where
+            go : (j : Judged Row) → AfterRow H lent line′ choices′ (g .before) j → ((file : ℕ) → onRow file (judgeOf H lent) i j (onward file) ≡ rowsAfter H file lent text)
+                → RowsRead H text legs n lent (Fault (line′ .fault) i) choices′
+            go (wrong k) a l = rw (a .0) (refused-rows k choices′ l)
+            go (right r) a l = absurd (f (a .0 .going))

@@ -1,0 +1,6 @@
+pub mod Said
+pub mod Judging
+pub mod Differing
+pub mod Going
+pub mod Unpacking
+pub mod Wholly

@@ -1,0 +1,187 @@
+-- A line that the timetable's machine reads after no rows: it breaks a row's form, or what is held says what the row's tests need.
+-- Assumes nothing.
+use Prim.Native.Nat.{ℕ, _+_, _≤_, _<_}
+use mathlib.Core.Path.{_≡_, refl, ap, sym, subst, _∙_}
+use mathlib.Core.Bool.{Bool, true, false}
+use mathlib.Core.List.{List, [], _∷_, _++_, append-nil}
+use mathlib.Core.Option.{Option, none, some}
+use native.Mathlib.Omega.{arith}
+use lib.Dec.{leb}
+use lib.ListN.{length, getD}
+use lib.Seq.{drop-length}
+use borrow.Author.Tests.{leb-true}
+use Rattle.rules.specs.Limits.{mostId}
+use Rattle.rules.specs.Lists.{_>>=_, every}
+use Rattle.rules.specs.Answers.{badRow, timetableFile}
+use Rattle.rules.specs.Bytes.{lineFeed}
+use Rattle.rules.specs.Timetable.{Row, formOf, configuration, idsOf, judgeForm, timetableHeader}
+use Rattle.rules.specs.Verdict.{All}
+use Rattle.rules.specs.declared.sizes.Configuration.{Configuration}
+use Rattle.lines.specs.Fold.{fold, run}
+use Rattle.lines.specs.Number as Row
+use Rattle.lines.specs.Machine.{Progress, inRow, stopped}
+use Rattle.lines.proofs.Lines.{Unbroken}
+use Rattle.lines.proofs.Machine.{in-line, opened}
+use Rattle.timetable.specs.declared.line.Line.{Line}
+use Rattle.timetable.specs.declared.number.Number.{Number}
+use Rattle.timetable.specs.declared.number.Number.the-variants.{Empty}
+use Rattle.timetable.specs.declared.reader.Reader.{Reader}
+use Rattle.timetable.specs.Digits.{numberHeld, isEmpty, valueOf}
+use Rattle.timetable.specs.Open.{Open, partly, start, openStep, openEnd, reach}
+use Rattle.timetable.specs.Held.{lastSlot, entrySlot, Shaped, inHead, inFirst, inSecond, inThird, stoppedWith, nominalOf, Tables, tables, InLine, Entered}
+use Rattle.timetable.specs.RowOver.{heldIds, draftRoom}
+use Rattle.timetable.specs.Text.{firstLine, Holds, drafted, Placed, Ran}
+use Rattle.timetable.proofs.Words.{and-left, and-right, exact}
+use Rattle.timetable.proofs.Close.{entry-slot}
+use Rattle.timetable.proofs.Form.{form-run}
+use Rattle.timetable.proofs.Feed.{first-row}
+use Rattle.timetable.proofs.Judge.{rowFrom, number-held, number-exact, range-same, ids-right, nominal-right, nominal-same}
+use Rattle.timetable.proofs.Ended.{end-row, end-none, not-empty, is-empty}
+use Rattle.solution.specs.Said.{Alone, rangeOf, Said, SaidOf, RowClosed}
+
+-- ---- a row that is over
+
+module _ (H : ℕ) (lent : Tables) (line : Line) (now : Tables) (place : ℕ) (closed : List ℕ) (list : List Configuration)
+    (g : InLine H lent line now place [] closed list []) (eight : length closed ≡ entrySlot) where
+  abbrev r : Row
+  r = rowFrom closed list
+
+  id-right : (k : ℕ) → k < 5 → rangeOf H r ≡ true → getD closed k 0 ≤ mostId → getD (line .numbers) k 0 ≡ getD closed k 0
+  id-right k h e i = number-exact H lent line now place [] closed list g eight k (omega arith) i
+
+  ids-held : rangeOf H r ≡ true → heldIds (line .numbers) ≡ idsOf r
+  ids-held a =
+      let i1 = ids-right H lent line now place [] closed list g eight a in
+      let i2 = and-right (leb (getD closed 0 0) mostId) _ i1 in
+      let i3 = and-right (leb (getD closed 1 0) mostId) _ i2 in
+      let i4 = and-right (leb (getD closed 2 0) mostId) _ i3 in
+      let i5 = and-right (leb (getD closed 3 0) mostId) _ i4 in
+      rw (
+        id-right 0 (omega arith) a (leb-true (getD closed 0 0) mostId (and-left (leb (getD closed 0 0) mostId) _ i1)),
+        id-right 1 (omega arith) a (leb-true (getD closed 1 0) mostId (and-left (leb (getD closed 1 0) mostId) _ i2)),
+        id-right 2 (omega arith) a (leb-true (getD closed 2 0) mostId (and-left (leb (getD closed 2 0) mostId) _ i3)),
+        id-right 3 (omega arith) a (leb-true (getD closed 3 0) mostId (and-left (leb (getD closed 3 0) mostId) _ i4)),
+        id-right 4 (omega arith) a (leb-true (getD closed 4 0) mostId (and-left (leb (getD closed 4 0) mostId) _ i5)),
+      )
+
+  nominal-held : rangeOf H r ≡ true → nominalOf (line .numbers) ≡ nominalOf closed
+  nominal-held a =
+      let e = exact H (nominalOf closed) (g .horizon) (nominal-right H lent line now place [] closed list g eight a) in
+      rw (
+        number-held H lent line now place [] closed list g eight 5 (omega arith),
+        number-held H lent line now place [] closed list g eight 6 (omega arith),
+        number-held H lent line now place [] closed list g eight 7 (omega arith),
+        e .0,
+        e .1,
+        e .2,
+      )
+
+  said : Said H r line
+  said =
+      record {
+        going = g .going;
+        range-is = range-same H lent line now place [] closed list g eight;
+        entries-are = g .opened .entries-are;
+        listed-is = nominal-same H lent line now place [] closed list g eight;
+        ids-are = ids-held;
+        nominal-is = nominal-held;
+      }
+
+-- ---- the line is over
+
+module _ (H : ℕ) (line : Line) (number : Number) (entries : List ℕ) (line′ : Line) (t : Bool) (empty-is : t ≡ isEmpty number) where
+  -- no digit is there where it ends
+  pub closed-empty : t ≡ true → line′ ≡ stoppedWith line badRow → RowClosed H line number entries line′
+  unfolding openEnd
+  closed-empty u l = record { closes = λ lent legs place o g x. rw (is-empty (o .number) number x (sym empty-is ∙ u), l) }
+
+  -- it ends before the third number of an entry
+  pub closed-short : t ≡ false → (line .slot ≡ lastSlot → ⊥) → line′ ≡ stoppedWith line badRow → RowClosed H line number entries line′
+  closed-short u s l =
+      record {
+        closes = λ lent legs place o g x.
+            let v = not-empty (o .number) number x (sym empty-is ∙ u) in
+            rw (end-none (o .closed) (o .list) (o .entry) (o .number) (v .0) (g .opened .shaped) (λ k. s (g .opened .slot-is ∙ k)) (v .1), l);
+      }
+
+  -- its last entry is closed
+  pub closed-entry : t ≡ false → line .slot ≡ lastSlot → (m : ℕ) → m ≡ valueOf number → (entries′ : List ℕ) → Entered H line m line′ entries entries′ → RowClosed H line number entries line′
+  closed-entry u s m mv entries′ entered = record { closes = λ lent legs place o g x. go lent legs place (o .closed) (o .list) (o .entry) (o .number) x g (g .opened .shaped) }
+    where
+      go : (lent : Tables) (legs : List ℕ) (place : ℕ) (closed : List ℕ) (list : List Configuration) (entry : List ℕ) (m₀ : Row.Number) → number ≡ numberHeld m₀
+          → InLine H lent line (tables legs entries) place [] closed list entry → Shaped closed list entry → SaidOf H (openEnd (partly closed list entry m₀)) line′
+      go lent legs place closed list entry m₀ x g (inHead h) = absurd (omega (arith, g .opened .slot-is, ap length (append-nil closed)))
+      go lent legs place closed list entry m₀ x g (inFirst h) = absurd (omega (arith, g .opened .slot-is, entry-slot closed [] 0 h refl))
+      go lent legs place closed list (d ∷ []) m₀ x g (inSecond h) = absurd (omega (arith, g .opened .slot-is, entry-slot closed (d ∷ []) 1 h refl))
+      go lent legs place closed list (d ∷ p ∷ []) m₀ x g (inThird h) =
+          let v = not-empty m₀ number x (sym empty-is ∙ u) in
+          let g′ = entered .entered lent legs place [] closed list d p (v .0) g (mv ∙ v .2) in
+          rw (end-row closed list d p (v .0) m₀ h (v .1)) (said H lent line′ (tables legs entries′) place closed (list ++ configuration d p (v .0) ∷ []) g′ h)
+
+-- ---- the line is read
+
+unbroken : (line : List ℕ) → All (λ b. b ≡ lineFeed → ⊥) line → Unbroken line
+unbroken [] h = tt
+unbroken (b ∷ line) h = (h .0, unbroken line (h .1))
+
+pub alone-placed : (H : ℕ) (line : List ℕ) (begun : Line) → begun ≡ firstLine → Alone H line → Placed (length timetableHeader) line 0 begun
+alone-placed H line begun e a =
+    record {
+      in-limit = a .short;
+      inside = omega arith;
+      past-header = λ h. omega arith;
+      no-fault = ap (λ (l : Line). l .fault) e;
+    }
+
+abbrev reached : List ℕ → Option Open → Progress Row Open
+reached line none = stopped badRow (length timetableHeader)
+reached line (some o) = inRow (length timetableHeader) (length timetableHeader + length line) [] o
+
+module _ (H : ℕ) (line : List ℕ) (begun : Line) (reader : Reader) (legs entries legs′ entries′ : List ℕ) (first : begun ≡ firstLine) (alone : Alone H line)
+    (ran : Ran H begun Empty (length timetableHeader) line 0 reader (tables legs entries) (tables legs′ entries′)) where
+  abbrev lent : Tables
+  lent = tables legs entries
+
+  abbrev now : Tables
+  now = tables legs′ entries′
+
+  by-line : fold (drafted H lent) (inRow (length timetableHeader) (length timetableHeader) [] start) line ≡ reached line (run openStep start line)
+  unfolding reach
+  by-line =
+      in-line timetableFile timetableHeader (judgeForm H (draftRoom lent)) start openStep openEnd (length timetableHeader) (length timetableHeader) [] start line (unbroken line (alone .unbroken))
+      ∙ go (run openStep start line)
+    where
+      go : (o : Option Open)
+          → opened timetableFile timetableHeader (judgeForm H (draftRoom lent)) start openStep openEnd (length timetableHeader) (length timetableHeader + length line) [] o
+          ≡ reached line o
+      go none = refl
+      go (some o) = refl
+
+  at-end : (n : ℕ) × Holds H lent n (reader .number) (reader .line) now (reached line (run openStep start line))
+  at-end =
+      let begins : Holds H lent (length timetableHeader + 0) Empty begun lent (inRow (length timetableHeader) (length timetableHeader) [] start) =
+      rw first (refl, refl, first-row H lent (omega (arith, alone .horizon)), omega arith) in
+      let a = ran .runs .leads lent (inRow (length timetableHeader) (length timetableHeader) [] start) begins in
+      let over : a .0 ≡ reached line (run openStep start line) =
+      ap (fold (drafted H lent) (a .0)) (sym (drop-length line)) ∙ a .2 ∙ by-line in
+      (length timetableHeader + length line, subst (λ (p : Progress Row Open). Holds H lent (length timetableHeader + length line) (reader .number) (reader .line) now p) over (a .1))
+
+  -- what holds of every end of the line holds of the line
+  by-end : (line′ : Line) → ((o : Option Open) (n : ℕ) → Holds H lent n (reader .number) (reader .line) now (reached line o) → SaidOf H (o >>= openEnd) line′) → SaidOf H (formOf line) line′
+  by-end line′ h = rw (form-run line) (h (run openStep start line) (at-end .0) (at-end .1))
+
+  -- it has stopped
+  pub said-stopped : (reader .line .fault ≡ 0 → ⊥) → SaidOf H (formOf line) (reader .line)
+  said-stopped fault = by-end (reader .line) go
+    where
+      go : (o : Option Open) (n : ℕ) → Holds H lent n (reader .number) (reader .line) now (reached line o) → SaidOf H (o >>= openEnd) (reader .line)
+      go none n h = h .0
+      go (some o) n h = absurd (fault (h .2 .going))
+
+  -- its last number is closed
+  pub said-closed : (line′ : Line) → reader .line .fault ≡ 0 → RowClosed H (reader .line) (reader .number) entries′ line′ → SaidOf H (formOf line) line′
+  said-closed line′ f closed = by-end line′ go
+    where
+      go : (o : Option Open) (n : ℕ) → Holds H lent n (reader .number) (reader .line) now (reached line o) → SaidOf H (o >>= openEnd) line′
+      go none n h = absurd (omega (arith, h .0, h .2, f))
+      go (some o) n h = closed .closes lent legs′ (length timetableHeader) o (h .2) (h .1)

@@ -1,0 +1,42 @@
+-- A line is what the timetable's machine says of it, after no rows. Assumes nothing.
+use borrow.Author.Needs.{needs}
+use Rattle.solution.proofs.Said.{alone-placed, said-stopped, said-closed}
+use Rattle.solution.proofs.row.read_row.Statement.{statement}
+use Rattle.solution.proofs.row.read_row.Tie as tie
+
+first-line-requires : tie.Need-first-line-requires
+first-line-requires c κs = search needs
+
+slice-aggregate-run-rows : tie.Need-slice-aggregate-run-rows
+slice-aggregate-run-rows c = search needs
+
+slice-aggregate-run-rows-2 : tie.Need-slice-aggregate-run-rows-2
+slice-aggregate-run-rows-2 c = search needs
+
+run-rows-requires : tie.Need-run-rows-requires
+run-rows-requires c κs = search (alone-placed, needs)
+
+returns : tie.Need-returns
+returns c = search (said-stopped, needs)
+
+slice-aggregate-close-row : tie.Need-slice-aggregate-close-row
+slice-aggregate-close-row c = search needs
+
+close-row-requires : tie.Need-close-row-requires
+close-row-requires c κs = search needs
+
+returns-2 : tie.Need-returns-2
+returns-2 c = search (said-closed, needs)
+
+pub read-row-spec : {M : Type 1} → statement M
+read-row-spec =
+    tie.close
+    (tie.spec
+    first-line-requires
+    slice-aggregate-run-rows
+    slice-aggregate-run-rows-2
+    run-rows-requires
+    returns
+    slice-aggregate-close-row
+    close-row-requires
+    returns-2)

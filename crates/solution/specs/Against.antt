@@ -1,0 +1,32 @@
+-- 14: a solution's rows against the draft's, as far as they are read.
+use Prim.Native.Nat.{ℕ, _+_, _*_, _≤_}
+use mathlib.Core.Bool.{Bool, true, false, cond, _&&_}
+use mathlib.Core.List.{List}
+use lib.Dec.{ltb, eqb}
+use lib.ListN.{length, getD}
+use Rattle.rules.specs.Limits.{legWidth}
+use Rattle.solution.specs.declared.compare.Compared.{Compared}
+
+-- the table has a whole row there
+abbrev pub InTable : (row : ℕ) (legs : List ℕ) → Type 0
+InTable row legs = row * legWidth + legWidth ≤ length legs
+
+-- a row's ids, as they are held, are those of a row of the leg table
+abbrev pub sameAt : (numbers legs : List ℕ) (row : ℕ) → Bool
+sameAt numbers legs row =
+    eqb (getD legs (row * legWidth) 0) (getD numbers 0 0)
+    && (eqb (getD legs (row * legWidth + 1) 0) (getD numbers 1 0)
+    && (eqb (getD legs (row * legWidth + 2) 0) (getD numbers 2 0)
+    && (eqb (getD legs (row * legWidth + 3) 0) (getD numbers 3 0)
+    && eqb (getD legs (row * legWidth + 4) 0) (getD numbers 4 0))))
+
+abbrev pub noneDiffers : Compared
+noneDiffers = record { differs = false; place = 0 }
+
+abbrev pub differsAt : (place : ℕ) → Compared
+differsAt place = record { differs = true; place = place }
+
+-- with one row more: the first that differs is kept
+abbrev pub comparedWith : Compared → (numbers legs : List ℕ) (n row place : ℕ) → Compared
+comparedWith before numbers legs n row place =
+    cond (before .differs) before (cond (ltb row n && sameAt numbers legs row) before (differsAt place))

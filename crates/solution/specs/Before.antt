@@ -1,0 +1,82 @@
+-- The rows before: what is held of them, and a row's tests after them. While a solution is read, an entry of its choices holds the row's id
+-- beside the choice, so that a repeated id is seen without a table of ids.
+use Prim.Native.Nat.{ℕ, suc, _+_, _*_, _/_, _≤_, _<_}
+use mathlib.Core.Path.{_≡_}
+use mathlib.Core.Bool.{Bool, true, cond}
+use mathlib.Core.List.{List, [], _∷_, _++_}
+use lib.Dec.{leb, ltb}
+use lib.ListN.{length, getD}
+use Rattle.rules.specs.Limits.{mostLegs, mostConfigurations, mostTravel, configurationWidth}
+use Rattle.rules.specs.Lists.{flat, over}
+use Rattle.rules.specs.Answers.{outOfRange, tooMany, alreadySeen, nominalNotListed, noRoom, Test, _needs_, Judged, wrong, right}
+use Rattle.rules.specs.Timetable.{Row, idsOf, inRange, listed, rowOf, solutionFits}
+use Rattle.rules.specs.Verdict.{All}
+use Rattle.rules.specs.declared.sizes.Configuration.{Configuration}
+use Rattle.ids.specs.Column.{column, isNew}
+use Rattle.timetable.specs.declared.line.Line.{Line}
+use Rattle.timetable.specs.RowOver.{heldIds, rangeHolds, countsHold}
+
+-- more than any travel time
+abbrev pub travels : ℕ
+travels = suc mostTravel
+
+-- an id and a choice in one entry
+abbrev pub packed : (id : ℕ) → Configuration → List ℕ
+packed id c = id ∷ (c .departure * travels + c .travel) ∷ c .profile ∷ []
+
+abbrev pub packedRow : Row → List ℕ
+packedRow r = packed (r .leg) (r .nominal)
+
+-- the open row, with the counts of the rows before
+abbrev pub countedAs : Line → (before : Line) → Line
+countedAs line before =
+    record {
+      fault = line .fault;
+      place = line .place;
+      slot = line .slot;
+      numbers = line .numbers;
+      entries = line .entries;
+      nominal = line .nominal;
+      wide = line .wide;
+      rows = before .rows;
+      configurations = before .configurations;
+      above = before .above;
+    }
+
+-- an id above all others is new without a search
+abbrev pub newAfter : (rows above id : ℕ) → (choices : List ℕ) → Bool
+newAfter rows above id choices = cond (leb above id) true (isNew id (column configurationWidth rows choices))
+
+abbrev pub choiceTests : (H : ℕ) → Line → (choices : List ℕ) → List Test
+choiceTests H line choices =
+    outOfRange needs rangeHolds H line
+    ∷ tooMany needs countsHold line
+    ∷ alreadySeen needs newAfter (line .rows) (line .above) (getD (line .numbers) 0 0) choices
+    ∷ nominalNotListed needs ltb (line .nominal) (line .entries)
+    ∷ noRoom needs ltb (line .rows) (length choices / configurationWidth)
+    ∷ []
+
+-- the counts of the rows before, and the table that holds them
+pub record Counted (H : ℕ) (lent : List ℕ) (line : Line) (choices : List ℕ) (before : List Row) : Type 0 where
+  pub going : line .fault ≡ 0
+  pub rows-are : line .rows ≡ length before
+  pub configurations-are : line .configurations ≡ listed before
+  pub below : All (λ r. r .leg < line .above) before
+  pub in-range : All (λ r. inRange H (r .nominal) ≡ true) before
+  pub few : length before ≤ mostLegs
+  pub many : listed before ≤ mostConfigurations
+  pub fits : length before * configurationWidth ≤ length lent
+  pub choices-are : choices ≡ over (flat packedRow before) lent
+
+-- what a row that is judged must give: its ids are at hand too
+abbrev pub AfterRow : (H : ℕ) (lent : List ℕ) (line : Line) (choices : List ℕ) → List Row → Judged Row → Type 0
+AfterRow H lent line choices before (wrong k) = (line .fault ≡ k) × (0 < k)
+AfterRow H lent line choices before (right r) = Counted H lent line choices (before ++ r ∷ []) × (heldIds (line .numbers) ≡ idsOf r)
+
+pub record Turned (H : ℕ) (bytes : List ℕ) (line : Line) (choices : List ℕ) (line′ : Line) (choices′ : List ℕ) : Type 0 where
+  pub turns : (lent : List ℕ) (before : List Row) → Counted H lent line choices before
+      → AfterRow H lent line′ choices′ before (rowOf H (solutionFits (length lent / configurationWidth)) before bytes)
+
+-- the table has the rows before, so that an id can be looked for
+abbrev pub Roomy : Line → (choices : List ℕ) → Type 0
+Roomy line choices = line .rows * configurationWidth ≤ length choices

@@ -1,0 +1,5 @@
+pub mod Said
+pub mod Before
+pub mod Against
+pub mod Promise
+pub mod Whole

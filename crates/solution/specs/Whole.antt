@@ -1,0 +1,65 @@
+-- The two passes over a solution: the rows after the header, each id and choice in one entry; then the choices alone.
+use Prim.Native.Nat.{ℕ, _+_, _*_, _/_, _%_, _≤_}
+use mathlib.Core.Path.{_≡_}
+use mathlib.Core.Bool.{true, cond}
+use mathlib.Core.List.{List, []}
+use lib.Dec.{ltb}
+use lib.ListN.{length, getD, drop}
+use Rattle.rules.specs.Limits.{mostText, configurationWidth}
+use Rattle.rules.specs.Lists.{flat, over, startsWith}
+use Rattle.rules.specs.Answers.{differs, Reading, good, _>>=_}
+use Rattle.rules.specs.Bytes.{lineFeed, splitOn}
+use Rattle.rules.specs.Rows.{rowsFrom}
+use Rattle.rules.specs.Timetable.{Row, configuration, inRange, rowOf, solutionFits, timetableHeader, choicesOf, configurationNumbers}
+use Rattle.rules.specs.Reading.{differsFrom, matched}
+use Rattle.rules.specs.Energy.{tabulate}
+use Rattle.rules.specs.Verdict.{All}
+use Rattle.rules.specs.declared.sizes.Configuration.{Configuration}
+use Rattle.solution.specs.declared.compare.Compared.{Compared}
+use Rattle.solution.specs.declared.reader.Choices.{Choices}
+use Rattle.solution.specs.declared.reader.Choices.the-variants.{Fault, Read}
+use Rattle.solution.specs.Before.{travels, packedRow}
+use Rattle.solution.specs.Promise.{Able, HoldsRows, choicesAnswer}
+
+-- ---- the rows
+
+-- a text with its header
+pub record Headed (H : ℕ) (text legs : List ℕ) (n : ℕ) : Type 0 where
+  pub able : Able H legs n
+  pub short : length text ≤ mostText
+  pub header : startsWith timetableHeader text ≡ true
+
+-- the rows after the header, for a table that is lent
+abbrev pub rowsAfter : (H file : ℕ) (lent text : List ℕ) → Reading (List Row)
+rowsAfter H file lent text =
+    rowsFrom file (rowOf H (solutionFits (length lent / configurationWidth))) (length timetableHeader) [] (splitOn lineFeed (drop (length timetableHeader) text))
+
+-- their choices, where they are the draft's rows
+abbrev pub choicesAfter : (file : ℕ) (draft : List Row) (text : List ℕ) → Reading (List Row) → Reading (List Configuration)
+choicesAfter file draft text reading = do
+  rows ← reading
+  same ← matched file (differsFrom 0 text draft rows) rows
+  good (choicesOf rows)
+
+-- the answer after the last row: what differs, or how many rows there are
+abbrev pub comparedAnswer : Compared → (rows n end : ℕ) → Choices
+comparedAnswer c rows n end = cond (c .differs) (Fault differs (c .place)) (cond (ltb rows n) (Fault differs end) (Read rows))
+
+-- ids and choices, and what unpacking them needs
+pub record Packed (H : ℕ) (lent : List ℕ) (rows : List Row) (choices : List ℕ) : Type 0 where
+  pub packed-are : choices ≡ over (flat packedRow rows) lent
+  pub in-range : All (λ r. inRange H (r .nominal) ≡ true) rows
+
+pub record RowsRead (H : ℕ) (text legs : List ℕ) (n : ℕ) (lent : List ℕ) (answer : Choices) (choices : List ℕ) : Type 0 where
+  pub answers : (draft : List Row) (file : ℕ) → HoldsRows legs n draft → answer ≡ choicesAnswer (choicesAfter file draft text (rowsAfter H file lent text))
+  pub packs : (file : ℕ) (rows : List Row) → rowsAfter H file lent text ≡ good rows → Packed H lent rows choices
+  pub fits : (rows : ℕ) → answer ≡ Read rows → rows * configurationWidth ≤ length choices
+
+-- ---- the choices
+
+abbrev pub unpackedAt : List ℕ → ℕ → Configuration
+unpackedAt table i =
+    configuration (getD table (i * configurationWidth + 1) 0 / travels) (getD table (i * configurationWidth + 1) 0 % travels) (getD table (i * configurationWidth + 2) 0)
+
+abbrev pub unpacked : (n : ℕ) → List ℕ → List ℕ
+unpacked n table = over (flat configurationNumbers (tabulate n (unpackedAt table))) table

@@ -1,0 +1,69 @@
+// 14: a solution's rows against the draft's, which stand in the leg table.
+ghost use mathlib.Core.Path.{_≡_};
+ghost use Prim.Native.Nat.{_*_, _≤_, _<_};
+ghost use lib.ListN.{length};
+ghost use Rattle.rules.specs.Limits.{legWidth};
+ghost use Rattle.solution.specs.Against.{sameAt, InTable, noneDiffers, comparedWith};
+use rules::sizes::Leg;
+
+// Whether a row so far differs from the draft's, and where the first that does starts.
+pub struct Compared {
+    pub differs: bool,
+    pub place: u32,
+}
+
+pub fn none_differs() -> Compared
+    ensures { λ r. ⌜ r ≡ noneDiffers ⌝ }
+{
+    Compared {
+        differs: false,
+        place: 0,
+    }
+}
+
+// A row's five ids are those of a row of the leg table.
+fn same_ids(numbers: [u32; 10], legs: &[u32], row: usize) -> bool
+    requires { ⌜ InTable row (now legs) ⌝ }
+    ensures { λ r. ⌜ r ≡ sameAt numbers (now (legs .entry)) row ⌝ }
+{
+    let from = row * Leg::WIDTH;
+    if legs[from] != numbers[0] {
+        return false;
+    }
+    if legs[from + 1] != numbers[1] {
+        return false;
+    }
+    if legs[from + 2] != numbers[2] {
+        return false;
+    }
+    if legs[from + 3] != numbers[3] {
+        return false;
+    }
+    legs[from + 4] == numbers[4]
+}
+
+// With one row more: a row past the draft's last differs too.
+pub fn compared_with(
+    before: Compared,
+    numbers: [u32; 10],
+    legs: &[u32],
+    n: usize,
+    row: usize,
+    place: u32,
+) -> Compared
+    requires { ⌜ n * legWidth ≤ length (now legs) ⌝ }
+    ensures { λ r. ⌜ r ≡ comparedWith before numbers (now (legs .entry)) n row place ⌝ }
+{
+    if before.differs {
+        return before;
+    }
+    if row < n {
+        if same_ids(numbers, legs, row) {
+            return before;
+        }
+    }
+    Compared {
+        differs: true,
+        place,
+    }
+}

@@ -1,0 +1,108 @@
+// A solution's text, which arrives whole: its header, then line by line.
+ghost use mathlib.Core.Path.{_≡_};
+ghost use Prim.Native.Nat.{_*_, _≤_};
+ghost use lib.ListN.{length};
+ghost use Rattle.rules.specs.Limits.{mostText, configurationWidth};
+ghost use Rattle.solution.specs.Promise.{Able, ChoicesRead};
+ghost use Rattle.solution.specs.Whole.{Headed, RowsRead, comparedAnswer, unpacked};
+use crate::after;
+use crate::compare;
+use crate::compare::Compared;
+use rules::answers::Refusal;
+use rules::sizes::Choice;
+use rules::sizes::Text;
+use text::pieces;
+use text::words;
+use timetable::line;
+use timetable::reader;
+
+const HEADER_LENGTH: usize = 114;
+
+const HEADER: [u8; HEADER_LENGTH] =
+    *b"leg_id,train_id,track_id,start_station_id,end_station_id,nominal_departure_configuration,departure_configurations\n";
+
+// The first fault's number and place, or how many choices there are.
+pub enum Choices {
+    Fault(u8, u32),
+    Read(u32),
+}
+
+// 14 comes after every other fault; where rows are missing its place is the text's end.
+fn compared_answer(compared: Compared, rows: u32, n: usize, end: usize) -> Choices
+    requires { ⌜ end ≤ mostText ⌝ }
+    ensures { λ r. ⌜ r ≡ comparedAnswer compared rows n end ⌝ }
+{
+    if compared.differs {
+        return Choices::Fault(Refusal::DIFFERS, compared.place);
+    }
+    if (rows as usize) < n {
+        return Choices::Fault(Refusal::DIFFERS, end as u32);
+    }
+    Choices::Read(rows)
+}
+
+// The rows after the header. The table holds ids and choices, packed.
+fn read_rows(text: &[u8], h: u32, legs: &[u32], n: usize, choices: &mut [u32]) -> Choices
+    requires { ⌜ Headed h (now text) (now legs) n ⌝ }
+    ensures { λ r. ⌜ RowsRead h (now (text .entry)) (now (legs .entry)) n (now (choices .entry)) r (now (choices .exit)) ⌝ }
+{
+    let mut line = reader::first_line();
+    let mut compared = compare::none_differs();
+    let mut i = HEADER_LENGTH;
+    while i < text.len() {
+        let place = i as u32;
+        let e = pieces::find(text, b'\n', i);
+        if text.len() <= e {
+            return Choices::Fault(Refusal::ROW_FORM, place);
+        }
+        let row = line.rows as usize;
+        line = after::turn(&text[i..e], h, line, choices);
+        if line.fault != 0 {
+            return Choices::Fault(line.fault, place);
+        }
+        let numbers = line.numbers;
+        compared = compare::compared_with(compared, numbers, legs, n, row, place);
+        i = e + 1;
+    }
+    compared_answer(compared, line.rows, n, text.len())
+}
+
+// The choices of n rows, out of ids and choices.
+fn unpack(choices: &mut [u32], n: usize)
+    requires { ⌜ n * configurationWidth ≤ length (now choices) ⌝ }
+    ensures { λ r. ⌜ now (choices .exit) ≡ unpacked n (now (choices .entry)) ⌝ }
+{
+    let mut i = 0;
+    while i < n {
+        let from = i * Choice::WIDTH;
+        let both = choices[from + 1];
+        let profile = choices[from + 2];
+        line::store(
+            choices,
+            i,
+            both / after::TRAVELS,
+            both % after::TRAVELS,
+            profile,
+        );
+        i += 1;
+    }
+}
+
+// A whole text, against the n rows of a draft's leg table.
+pub fn read_choices(text: &[u8], h: u32, legs: &[u32], n: usize, choices: &mut [u32]) -> Choices
+    requires { ⌜ Able h (now legs) n ⌝ }
+    ensures { λ r. ⌜ ChoicesRead h (now (text .entry)) (now (legs .entry)) n (now (choices .entry)) r (now (choices .exit)) ⌝ }
+{
+    if Text::MOST < text.len() {
+        return Choices::Fault(Refusal::TOO_LONG, 0);
+    }
+    if words::starts_with(text, &HEADER) {
+        let read = read_rows(text, h, legs, n, choices);
+        let Choices::Read(rows) = read else {
+            return read;
+        };
+        unpack(choices, rows as usize);
+        return Choices::Read(rows);
+    }
+    Choices::Fault(Refusal::HEADER, 0)
+}

@@ -1,0 +1,4 @@
+pub mod Choosing
+pub mod Judging
+pub mod Checking
+pub mod Filled

@@ -1,6 +1,5 @@
 pub mod Numbers
 pub mod Digest
 pub mod Block
-pub mod Rooms
 pub mod Lines
 pub mod Within

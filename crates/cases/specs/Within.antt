@@ -1,5 +1,5 @@
 -- What a run lends at most: "texts up to 16,384 bytes, tables up to 16,384 numbers, curves up to 65,536, lent text up to 16,384 bytes".
-use Prim.Native.Nat.{ℕ, _*_, _≤_}
+use Prim.Native.Nat.{ℕ, _*_}
 use mathlib.Core.Bool.{Bool, _&&_}
 use mathlib.Core.List.{[], _∷_}
 use lib.Dec.{leb}
@@ -28,27 +28,3 @@ lentFits l =
 
 abbrev pub fits : Case → Bool
 fits c = textsFit (c .texts) && lentFits (c .lent)
-
--- the same, size by size: what a caller that lends needs
-pub record TextsWithin (t : Texts) : Type 0 where
-  pub timetable : t .timetable ≤ roomBytes
-  pub profiles : t .profiles ≤ roomBytes
-  pub constraints : t .constraints ≤ roomBytes
-  pub solution : t .solution ≤ roomBytes
-  pub second : t .second ≤ roomBytes
-
-pub record LentWithin (l : Lent) : Type 0 where
-  pub legs : l .legs ≤ roomNumbers
-  pub configurations : l .configurations ≤ roomNumbers
-  pub profiles : l .profiles ≤ roomNumbers
-  pub samples : l .samples ≤ roomNumbers
-  pub constraints : l .constraints ≤ roomNumbers
-  pub tracks : l .tracks ≤ roomNumbers
-  pub choices : l .choices ≤ roomNumbers
-  pub second : l .second ≤ roomNumbers
-  pub curves : l .curves ≤ roomCurves
-  pub text : l .text ≤ roomBytes
-
-pub record Fits (c : Case) : Type 0 where
-  pub texts : TextsWithin (c .texts)
-  pub lent : LentWithin (c .lent)

@@ -2,6 +2,5 @@
 pub mod numbers; // a whole number below 2^32
 pub mod block; // the block that a case begins with
 pub mod within; // what a run lends at most
-pub mod rooms; // the lent rooms before a case
 pub mod digest; // the lent rooms after it
 pub mod lines; // the line that answers a case

@@ -8,3 +8,4 @@ pub mod Quarters
 pub mod Curves
 pub mod Before
 pub mod Worked
+pub mod Bits

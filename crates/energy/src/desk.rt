@@ -1,9 +1,11 @@
 // The operator's desk tool takes four doubles: whole kilojoules cast without loss, and divided once.
 ghost use mathlib.Core.Path.{_≡_};
 ghost use Prim.Native.Nat.{_≤_, _<_};
+ghost use lib.Ieee.{binary64, toBits};
 ghost use Rattle.rules.specs.Limits.{mostKj};
 ghost use Rattle.rules.specs.Energy.{quotient, deskOf};
 ghost use Rattle.energy.specs.Exact.{Exact};
+ghost use Rattle.energy.specs.Bits.{bitsOf};
 use rules::figures::Desk;
 use rules::figures::Figures;
 
@@ -30,5 +32,38 @@ pub fn for_desk(g: Figures) -> Desk
         drawn,
         lost,
         peak,
+    }
+}
+
+// The patterns of the four doubles, for callers that compare them or hand them on.
+pub struct Bits {
+    pub before: u64,
+    pub drawn: u64,
+    pub lost: u64,
+    pub peak: u64,
+}
+
+impl Bits {
+    // `for_desk` gives no double of this pattern; it has one all the same, so that nothing is asked of a caller.
+    const NOT_A_NUMBER: u64 = 0x7FF8_0000_0000_0000;
+}
+
+fn pattern(x: f64) -> u64
+    ensures { λ r. ⌜ r ≡ toBits binary64 x ⌝ }
+{
+    if x != x {
+        return Bits::NOT_A_NUMBER;
+    }
+    f64::to_bits(x)
+}
+
+pub fn bits_of(desk: Desk) -> Bits
+    ensures { λ r. ⌜ r ≡ bitsOf desk ⌝ }
+{
+    Bits {
+        before: pattern(desk.before),
+        drawn: pattern(desk.drawn),
+        lost: pattern(desk.lost),
+        peak: pattern(desk.peak),
     }
 }

@@ -1,0 +1,24 @@
+-- `cases::lines::put_named` meets its contract: the name, then the numbers. Assumes nothing.
+use native.Mathlib.Omega.{arith}
+use Rattle.writer.proofs.Writing.{written-then}
+use borrow.Author.Needs.{needs}
+use Rattle.cases.proofs.lines.put_named.Statement.{statement}
+use Rattle.cases.proofs.lines.put_named.Tie as tie
+
+put-bytes-requires : tie.Need-put-bytes-requires
+put-bytes-requires c κs = search needs
+
+put-numbers-requires : tie.Need-put-numbers-requires
+put-numbers-requires c κs = search needs
+
+same-length : tie.Need-same-length
+same-length c = search needs
+
+returns : tie.Need-returns
+returns c =
+    let numbers = c .before .before in
+    let name = numbers .before .before .before .before in
+    written-then (name .put-bytes .ensures) (numbers .put-numbers .ensures) (omega arith)
+
+pub put-named-spec : {M : Type 1} → statement M
+put-named-spec = tie.close (tie.spec put-bytes-requires put-numbers-requires same-length returns)

@@ -1,0 +1,5 @@
+pub mod Numbers
+pub mod Digest
+pub mod Block
+pub mod Lines
+pub mod Within

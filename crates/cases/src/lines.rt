@@ -1,0 +1,90 @@
+// The line that answers a case: a word, and numbers with a space before each.
+ghost use mathlib.Core.Path.{_≡_};
+ghost use mathlib.Core.List.{_++_};
+ghost use Rattle.rules.specs.Bytes.{spelled};
+ghost use Rattle.io.specs.Digits.{digits as digitsIn};
+ghost use Rattle.writer.specs.Written.{Written};
+ghost use Rattle.cases.specs.Lines.{spaced, patterned, answered, endOf};
+use rules::answers::Answer;
+use writer::bytes;
+
+// A whole number: its digits, with no needless zero.
+fn put_number(buffer: &mut [u8], at: usize, n: u64) -> usize
+    ensures { λ r. ⌜ Written (now (buffer .entry)) at (spelled n) (now (buffer .exit)) r ⌝ }
+{
+    let mut digits = [0u8; 20];
+    let k = io::decimal(n, &mut digits);
+    bytes::put_bytes(buffer, at, &digits[..k])
+}
+
+// Sixteen hexadecimal digits.
+fn put_pattern(buffer: &mut [u8], at: usize, n: u64) -> usize
+    ensures { λ r. ⌜ Written (now (buffer .entry)) at (digitsIn 16 16 n) (now (buffer .exit)) r ⌝ }
+{
+    let mut digits = [0u8; 16];
+    let k = io::hex(n, 16, &mut digits);
+    bytes::put_bytes(buffer, at, &digits[..k])
+}
+
+pub fn put_numbers(buffer: &mut [u8], at: usize, ns: &[u64]) -> usize
+    ensures { λ r. ⌜ Written (now (buffer .entry)) at (spaced (now (ns .entry))) (now (buffer .exit)) r ⌝ }
+{
+    let mut place = at;
+    let mut i = 0;
+    while i < ns.len() {
+        let space = bytes::put_byte(buffer, place, b' ');
+        place = put_number(buffer, space, ns[i]);
+        i += 1;
+    }
+    place
+}
+
+pub fn put_patterns(buffer: &mut [u8], at: usize, ns: &[u64]) -> usize
+    ensures { λ r. ⌜ Written (now (buffer .entry)) at (patterned (now (ns .entry))) (now (buffer .exit)) r ⌝ }
+{
+    let mut place = at;
+    let mut i = 0;
+    while i < ns.len() {
+        let space = bytes::put_byte(buffer, place, b' ');
+        place = put_pattern(buffer, space, ns[i]);
+        i += 1;
+    }
+    place
+}
+
+pub fn put_named(buffer: &mut [u8], at: usize, name: &[u8], ns: &[u64]) -> usize
+    ensures { λ r. ⌜ Written (now (buffer .entry)) at (now (name .entry) ++ spaced (now (ns .entry))) (now (buffer .exit)) r ⌝ }
+{
+    let after = bytes::put_bytes(buffer, at, name);
+    put_numbers(buffer, after, ns)
+}
+
+pub fn put_answer(buffer: &mut [u8], at: usize, answer: Answer) -> usize
+    ensures { λ r. ⌜ Written (now (buffer .entry)) at (answered answer) (now (buffer .exit)) r ⌝ }
+{
+    match answer {
+        Answer::Accepted => bytes::put_bytes(buffer, at, b"accepted"),
+        Answer::Violated(v) => {
+            let ns = [
+                v.kind as u64,
+                v.position as u64,
+                v.inequality as u64,
+                v.shortfall as u64,
+                v.file as u64,
+            ];
+            put_named(buffer, at, b"violated", &ns)
+        }
+        Answer::Refused(r) => {
+            let ns = [r.number as u64, r.file as u64, r.place as u64];
+            put_named(buffer, at, b"refused", &ns)
+        }
+    }
+}
+
+// The rooms' digests, and LF.
+pub fn put_end(buffer: &mut [u8], at: usize, digests: &[u64]) -> usize
+    ensures { λ r. ⌜ Written (now (buffer .entry)) at (endOf (now (digests .entry))) (now (buffer .exit)) r ⌝ }
+{
+    let end = put_named(buffer, at, b" |", digests);
+    bytes::put_byte(buffer, end, b'\n')
+}

@@ -1,0 +1,14 @@
+-- `replay::rooms::bytes` meets its contract. Assumes nothing.
+use borrow.Author.Needs.{needs}
+use Rattle.replay.proofs.Fronts.{front}
+use Rattle.replay.proofs.rooms.bytes.Statement.{statement}
+use Rattle.replay.proofs.rooms.bytes.Tie as tie
+
+least-requires : tie.Need-least-requires
+least-requires c κs = search needs
+
+returns : tie.Need-returns
+returns c = search (front, needs)
+
+pub bytes-spec : {M : Type 1} → statement M
+bytes-spec = tie.close (tie.spec least-requires returns)

@@ -70,15 +70,21 @@ fn batch(plan: &Plan, number: usize) -> Option<Vec<Named>> {
     }
     let first = (number - 1) * BATCH;
     let last = plan.count.min(first + BATCH);
-    (first < last).then(|| cases::calls(plan.seed, first..last, &plan.entries))
+    (first < last).then(|| small(cases::calls(plan.seed, first..last, &plan.entries)))
+}
+
+/// Those that `replay` does not skip.
+fn small(mut calls: Vec<Named>) -> Vec<Named> {
+    calls.retain(|named| block::fits(&named.call));
+    calls
 }
 
 /// The calls that no seed changes.
 pub fn fixed(entries: &[Entry]) -> Vec<Named> {
     let mut calls = cases::examples::worked();
     calls.extend(cases::edges::edges());
-    calls.retain(|named| entries.contains(&named.call.entry) && block::fits(&named.call));
-    calls
+    calls.retain(|named| entries.contains(&named.call.entry));
+    small(calls)
 }
 
 fn compare_batch(executor: &dyn Executor, batch: &[Named], plan: &Plan, outcome: &Mutex<Outcome>) -> Result<(), String> {

@@ -4,7 +4,7 @@ use mathlib.Core.Path.{_≡_, refl, sym, ap, ap₂, _∙_, subst}
 use mathlib.Core.List.{List}
 use lib.ListN.{length, take}
 use lib.Seq.{take-append-seam}
-use lib.IntN.{ℤ, _+ℤ_}
+use lib.IntN.{_+ℤ_}
 use borrow.Author.Tests.{le-leb}
 use Rattle.rules.specs.Limits.{configurationWidth}
 use Rattle.rules.specs.Lists.{over}

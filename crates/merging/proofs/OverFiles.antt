@@ -1,10 +1,10 @@
 -- Each way out of reading the files, two solutions, and merging them. Assumes nothing.
 use Prim.Native.Nat.{ℕ}
 use mathlib.Core.Path.{_≡_, refl, sym, ap, _∙_}
-use mathlib.Core.Bool.{true, false}
+use mathlib.Core.Bool.{true}
 use mathlib.Core.List.{List}
 use lib.ListN.{length}
-use Rattle.rules.specs.Answers.{solutionFile, secondFile, isRefusal, Reading, refused, good}
+use Rattle.rules.specs.Answers.{solutionFile, secondFile, isRefusal, Reading, refused}
 use Rattle.rules.specs.Reading.{Texts, Files, filesOf, choicesRead}
 use Rattle.rules.specs.Entries.{Tables, roomsOf, writtenTables, bothRead, mergeRefused, mergeFrom, merged}
 use Rattle.rules.specs.Entries as entries

@@ -1,12 +1,11 @@
 -- Each way out of reading two solutions over the files. Assumes nothing.
 use Prim.Native.Nat.{ℕ}
-use mathlib.Core.Path.{_≡_, refl, sym, ap, _∙_, subst}
-use mathlib.Core.Bool.{true, false}
+use mathlib.Core.Path.{_≡_, refl, sym, ap, _∙_}
 use mathlib.Core.List.{List}
 use lib.ListN.{length}
 use Rattle.rules.specs.Answers.{solutionFile, secondFile, isRefusal, Reading, refused, good}
 use Rattle.rules.specs.Reading.{Files, choicesRead}
-use Rattle.rules.specs.Entries.{verdictOf, writtenChoices, Both, mergeRefused, mergeFrom}
+use Rattle.rules.specs.Entries.{verdictOf, Both, mergeFrom}
 use Rattle.rules.specs.declared.sizes.Configuration.{Configuration}
 use Rattle.rules.specs.declared.answers.Refusal.{Refusal}
 use Rattle.rules.specs.declared.answers.Answer.the-variants.{Refused}
@@ -18,7 +17,7 @@ use Rattle.tails.proofs.Checking.{was-chosen, not-chosen}
 use Rattle.writer.specs.Merges.{mergeOf}
 use Rattle.writer.specs.declared.merge.Direction.{Direction}
 use Rattle.merging.specs.declared.Merged.{Merged}
-use Rattle.merging.specs.Left.{notWritten, Made, Mergeable, Disputable, Judges, solutionsRead, Solved}
+use Rattle.merging.specs.Left.{notWritten, Disputable, Judges, solutionsRead, Solved}
 use Rattle.merging.proofs.Standing.{never, judged-stands}
 
 module _ {H : ℕ} (way : Direction) {counts : Counts} {legs configurations constraints : List ℕ} (first second c d text : List ℕ)
@@ -38,9 +37,6 @@ module _ {H : ℕ} (way : Direction) {counts : Counts} {legs configurations cons
 
   abbrev choosable : Choosable H counts legs
   choosable = record { left = k .left; legs-are = k .legs-are }
-
-  pub files-choosable : Choosable H counts legs
-  files-choosable = choosable
 
   module _ {p : Chosen} {c′ : List ℕ} (h : Chooses H solutionFile counts first legs c p c′) where
     abbrev one : Reading (List Configuration)

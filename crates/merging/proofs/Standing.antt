@@ -1,10 +1,9 @@
 -- What a merge leaves: where nothing is refused, the tables as they were read; short of acceptance, a text of zeros. Assumes nothing.
 use Prim.Native.Nat.{ℕ}
 use mathlib.Core.Path.{_≡_, refl}
-use mathlib.Core.Bool.{Bool, true, false, _&&_}
+use mathlib.Core.Bool.{Bool, true, false, _&&_, true≢false}
 use mathlib.Core.List.{List}
 use mathlib.Core.Option.{Option, none, some}
-use native.Mathlib.Omega.{arith}
 use lib.Dec.{leb}
 use lib.ListN.{length}
 use Rattle.rules.specs.Limits.{mostText, byteFill}
@@ -16,7 +15,7 @@ use Rattle.rules.specs.Entries.{Tables, filled, writtenTables, writtenChoices, 
 use Rattle.rules.specs.declared.sizes.Configuration.{Configuration}
 
 pub never : {A : Type 0} → true ≡ false → A
-never z = let q : _≡_ {A = ℕ} 0 1 = cc in absurd (omega arith)
+never z = absurd (true≢false z)
 
 module _ (t : Tables) (c d text second : List ℕ) (merge : List Configuration → List Configuration → List Configuration) where
   -- what was read stands in the tables where nothing is refused, and the text is zeroed short of acceptance

@@ -14,9 +14,9 @@ use Rattle.rules.specs.Rows.{placeOfRow}
 use Rattle.rules.specs.Reading.{Files}
 use Rattle.rules.specs.Merge.{unequalFrom, chosen, textOf}
 use Rattle.rules.specs.Entries.{roomsOf, writtenTables, writtenChoices, mergeFitted, mergeTravel}
-use Rattle.rules.specs.declared.sizes.Configuration.{Configuration}
 use Rattle.rules.specs.declared.answers.Refusal.{Refusal}
 use Rattle.rules.specs.declared.answers.Answer.the-variants.{Accepted, Refused}
+use Rattle.laws.proofs.DocumentWords.{and-first}
 use Rattle.laws.proofs.GoodFiles.{choices-good}
 use Rattle.tables.specs.View.{configurationsIn}
 use Rattle.files.specs.declared.Counts.{Counts}
@@ -30,6 +30,7 @@ use Rattle.writer.proofs.Writing.{written-length}
 use Rattle.writer.proofs.Filled.{unequal-seen, merged-fits, merged-whole}
 use Rattle.merging.specs.declared.Merged.{Merged}
 use Rattle.merging.specs.Left.{notWritten, Made, Mergeable, bothOf, mergedEqual}
+use Rattle.merging.proofs.Standing.{never}
 
 -- ---- the answer of the test for travel times
 
@@ -40,13 +41,6 @@ was-unequal (some n) row e = cc
 was-equal : (o : Option ℕ) → Equal ≡ travelsOf o → o ≡ none
 was-equal none e = refl
 was-equal (some n) e = let z : _≡_ {A = ℕ} 0 1 = cc in absurd (omega arith)
-
-never : {A : Type 0} → false ≡ true → A
-never z = let q : _≡_ {A = ℕ} 0 1 = cc in absurd (omega arith)
-
-both-true : (a b : Bool) → a && b ≡ true → a ≡ true
-both-true true b e = refl
-both-true false b e = e
 
 -- ---- over what was left
 
@@ -83,7 +77,7 @@ module _ {counts : Counts} {second legs configurations choices secondChoices : L
     unequal-way {row} {x} {r} {text′} e q s =
         subst (λ o. Made (mergeTravel (k .left .lent) (k .lent) (k .lentSecond) text second (mergeOf d) o (bothOf k)) r text′)
         (sym (was-unequal (unequalFrom 0 (k .a) (k .b)) row (sym e ∙ told ∙ ap travelsOf travels-seen)))
-        (rw (s, q) (record { answer = refl; size = refl; puts = never }))
+        (rw (s, q) (record { answer = refl; size = refl; puts = λ z. never (sym z) }))
 
     module _ (e : v ≡ Equal) {text′ : List ℕ} {n : ℕ} (small : length text < lastPlace)
         (put : Written text 0 (textOf (mergedIn d (counts .legs) legs configurations choices secondChoices)) text′ n)
@@ -116,10 +110,10 @@ module _ {counts : Counts} {second legs configurations choices secondChoices : L
       -- the text
       pub text-way : fits ≡ true → Made (mergedEqual k d text) (record { answer = Accepted; length = n }) text′
       text-way h =
-          let room : n ≤ length text = leb-true n (length text) (both-true (leb n (length text)) (leb n mostText) (sym fits-at ∙ h)) in
+          let room : n ≤ length text = leb-true n (length text) (and-first (leb n (length text)) (leb n mostText) (sym fits-at ∙ h)) in
           let whole = merged-whole (f .rows) (k .left .lent .legs) (k .left .lent .configurations) (k .a) (k .b) (k .lent) (k .lentSecond) a-many b-many d text text′ n put-left small room in
           fitted (rw h (record { answer = refl; size = whole .0; puts = λ z. whole .1 }))
 
       -- 16
       pub room-way : {x : Refusal} {r : Merged} → fits ≡ false → x ≡ refusal noRoom noFile 0 → r ≡ notWritten (Refused x) → Made (mergedEqual k d text) r text′
-      room-way h q s = fitted (rw (h, s, q) (record { answer = refl; size = refl; puts = never }))
+      room-way h q s = fitted (rw (h, s, q) (record { answer = refl; size = refl; puts = λ z. never (sym z) }))

@@ -1,7 +1,7 @@
 -- Each way out of the two verdicts. Assumes nothing.
 use Prim.Native.Nat.{ℕ}
 use mathlib.Core.Path.{_≡_, refl, sym, ap, _∙_, subst}
-use mathlib.Core.Bool.{Bool, true, false}
+use mathlib.Core.Bool.{true, false}
 use mathlib.Core.List.{List}
 use native.Mathlib.Omega.{arith}
 use lib.ListN.{length}
@@ -17,6 +17,7 @@ use Rattle.writer.specs.Merges.{mergeOf}
 use Rattle.writer.specs.declared.merge.Direction.{Direction}
 use Rattle.merging.specs.declared.Merged.{Merged}
 use Rattle.merging.specs.Left.{notWritten, Made, Mergeable, Disputable, bothOf, mergedEqual, mergedJudged}
+use Rattle.merging.proofs.Standing.{never}
 
 fair : (file : ℕ) (v : Verdict) → isAccepted (answerOf file v) ≡ true → v ≡ accepted
 fair file accepted e = refl
@@ -71,7 +72,7 @@ module _ {counts : Counts} {second legs configurations constraints choices secon
         → (v : Verdict) (a : Answer) → a ≡ answerOf file v → isAccepted a ≡ false → {r : Merged} {text′ : List ℕ} → r ≡ notWritten a → Made (on v) r text′
     stop file on is accepted a e h q = let z : _≡_ {A = ℕ} 0 1 = cc in absurd (omega arith)
     stop file on is (violated k n i s) a e h q =
-        rw (is k n i s, q) (record { answer = e; size = refl; puts = λ z. let q : _≡_ {A = ℕ} 0 1 = cc in absurd (omega arith) })
+        rw (is k n i s, q) (record { answer = e; size = refl; puts = λ z. never (sym z ∙ h) })
 
     module _ {a : Answer} (judged : tails.Judges counts legs configurations constraints choices solutionFile a) where
       -- the first is violated

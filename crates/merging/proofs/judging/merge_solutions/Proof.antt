@@ -1,5 +1,5 @@
 -- `merging::judging::merge_solutions` meets its contract: both solutions are read, and each way out has its law. Assumes nothing.
-use Rattle.merging.proofs.Solutions.{files-choosable, first-refused, second-refused, both-disputable, both-merged}
+use Rattle.merging.proofs.Solutions.{first-refused, second-refused, both-disputable, both-merged}
 use borrow.Author.Needs.{needs}
 use Rattle.merging.proofs.judging.merge_solutions.Statement.{statement}
 use Rattle.merging.proofs.judging.merge_solutions.Tie as tie

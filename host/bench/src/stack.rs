@@ -13,7 +13,7 @@ const ENTRIES: [&str; 5] = ["nothing", "check", "energy", "merge", "row"];
 const STACK: usize = 4 << 20;
 const FRAME: usize = 256;
 /// More legs take no more stack if nothing recurses over them.
-const LEGS: [usize; 2] = [40, 4_000];
+const LEGS: [usize; 2] = [40, 600];
 
 /// Bytes of each entry, for each number of legs.
 pub fn print() -> Result<(), String> {

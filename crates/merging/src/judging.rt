@@ -1,4 +1,4 @@
-// Two solutions over files that were read: "the verdict of the first, of the second", and then the merge.
+// Two solutions over files that were read: the verdict of the first, of the second, and then the merge.
 ghost use Rattle.tails.specs.Left.{Judgeable};
 ghost use Rattle.merging.specs.Left.{Disputable, Judges, Solves};
 use crate::Merged;
@@ -60,7 +60,7 @@ fn merge_chosen(
     not_written(one)
 }
 
-// "A second solution's refusals come before both verdicts."
+// A second solution's refusals come before both verdicts.
 pub fn merge_solutions(
     h: u32,
     direction: Direction,

@@ -1,4 +1,4 @@
-// "After a refusal every lent table holds only a number that no field can have" (document 01): the tables of the files in one place.
+// After a refusal each lent table holds only a number that no field can have (demand 1): the tables of the files in one place.
 ghost use mathlib.Core.Path.{_≡_};
 ghost use Rattle.rules.specs.Answers.{isRefusal, isAccepted};
 ghost use Rattle.rules.specs.Entries.{filledTables};

@@ -16,7 +16,8 @@ use mir.Facts.{toZ-ofZ}
 use borrow.Author.Tests.{ltb-true, ltb-false}
 use Rattle.rules.specs.Limits.{mostSubnets, mostHorizon}
 use Rattle.rules.specs.Lists.{sumOf, over}
-use Rattle.rules.specs.Energy.{sumTo, sumToZ, above, below, extreme, power, legAt, before, beforeAt, drawn, drawnAt, lost, total, fluctuation, quarterSums, peak}
+use Rattle.rules.specs.Energy.{sumTo, sumToZ, above, below, extreme, power, legAt, before, beforeAt, drawn, drawnAt, lost, total, fluctuation, quarterSums, peakOf}
+use Rattle.rules.specs.declared.figures.Peak.{Peak}
 use Rattle.rules.specs.declared.sizes.Configuration.{Configuration}
 use Rattle.rules.specs.declared.figures.Figures.{Figures}
 use Rattle.tables.specs.View.{configurationAt}
@@ -46,7 +47,7 @@ table-short H n P t = subst (λ m. m ≤ mostSubnets * mostHorizon) (sym (t .row
 
 pub figures-made : (H : ℕ) (r : Runs) (n : ℕ) (P : List ℤ) → CurveTable H n P → (l : Before) → l ≡ beforeSums H r (r .counts .legs)
     → (s : Sides) → s ≡ sidesOf P → (q : List ℤ) → q ≡ quartersIn H P n → (z : ℤ) → z ≡ fluctuationIn H P n
-    → (a : ℕ) → a ≡ greatestSum (l .quarters) → (b : ℕ) → b ≡ greatestSum q
+    → (a : Peak) → a ≡ greatestSum (l .quarters) → (b : Peak) → b ≡ greatestSum q
     → record { before = l .whole; drawn = s .above; lost = s .below; fluctuation = toZ w64 (ofZ w64 z); peaks = record { before = a; drawn = b } }
     ≡ figuresIn H r n P
 unfolding figuresIn
@@ -130,7 +131,7 @@ module _ (H : ℕ) (g : Given) (readable : Readable H g) where
   total-at : (t : ℕ) → t < H → totalIn H P n t ≡ total samples (homes g) n cs t
   total-at t h = sumZ-same _ _ n (λ s hs. power-at s t hs h)
 
-  peak-drawn : greatestSum (quartersIn H P n) ≡ peak (drawnAt samples (homes g) n cs) H
+  peak-drawn : greatestSum (quartersIn H P n) ≡ peakOf (drawnAt samples (homes g) n cs) H
   unfolding quartersIn
   peak-drawn = peak-is (drawnIn H P n) H (quarterSums (drawnIn H P n) H) refl ∙ peak-same (drawnIn H P n) (drawnAt samples (homes g) n cs) H drawn-at
 
@@ -151,7 +152,7 @@ module _ (H : ℕ) (g : Given) (readable : Readable H g) where
   before-whole =
       sym (sum-tabulated (λ (c : Configuration). sumOf above (samples (c .profile))) (g .runs .counts .legs) (configurationAt (g .runs .choices)))
 
-  peak-before : greatestSum (beforeSums H (g .runs) (g .runs .counts .legs) .quarters) ≡ peak (beforeAt samples cs) H
+  peak-before : greatestSum (beforeSums H (g .runs) (g .runs .counts .legs) .quarters) ≡ peakOf (beforeAt samples cs) H
   unfolding beforeSums
   peak-before =
       let by-legs : ℕ → ℕ = λ t. sumTo (beforeThen (g .runs) t) (g .runs .counts .legs) in

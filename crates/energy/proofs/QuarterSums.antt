@@ -14,13 +14,14 @@ use mir.Syntax.{w64}
 use mir.Val.{toZ, ofZ}
 use mir.Facts.{toZ-ofZ}
 use borrow.Author.Needs.{sfits-of}
-use borrow.Author.Tests.{leb-true, ltb-true, ltb-false}
+use borrow.Author.Tests.{leb-true, ltb-true, ltb-false, lt-ltb, le-ltb}
 use Rattle.rules.specs.Limits.{quarterSeconds, mostQuarters}
-use Rattle.rules.specs.Energy.{maxTo, above, tabulate, secondsOf, quarter, quarterSums, peak}
+use Rattle.rules.specs.Energy.{maxTo, maxAt, above, tabulate, secondsOf, quarter, quarterSums, peakOf}
+use Rattle.rules.specs.declared.figures.Peak.{Peak}
 use Rattle.laws.specs.Laying.{Within}
 use Rattle.laws.proofs.Sums.{sum-ext, sum-add, sum-zero}
 use Rattle.laws.proofs.Tabulate.{quarters-length, quarters-at}
-use Rattle.energy.specs.Quarters.{drawnBy, withRun, greatestSum}
+use Rattle.energy.specs.Quarters.{drawnBy, withRun, peakTo, higherOf, greatestSum}
 use Rattle.energy.proofs.QuarterSteps.{quarter-most}
 
 -- values that agree below n make the same list
@@ -81,26 +82,59 @@ max-same : (f g : ℕ → ℕ) (n : ℕ) → ((i : ℕ) → i < n → f i ≡ g 
 max-same f g zero e = refl
 max-same f g (suc n) e = ap₂ max (max-same f g n (λ i h. e i (omega arith))) (e n (omega arith))
 
--- the greatest of the first k sums
-abbrev pub greatestTo : List ℤ → ℕ → ℕ
-greatestTo sums = maxTo (λ j. above (getD sums j (pos 0)))
+first-same : (f g : ℕ → ℕ) (n : ℕ) → ((i : ℕ) → i < n → f i ≡ g i) → maxAt f n ≡ maxAt g n
+first-same f g zero e = refl
+first-same f g (suc n) e =
+    let below : (i : ℕ) → i < n → f i ≡ g i = λ i h. e i (omega arith) in
+    λ j. cond (ltb (max-same f g n below j) (e n (omega arith) j)) n (first-same f g n below j)
 
-pub one-compared : (sums : List ℤ) (k best a r : ℕ) → best ≡ greatestTo sums k → mag (getD sums k (pos 0)) < 2 ^ 63
-    → a ≡ above (toZ w64 (ofZ w64 (getD sums k (pos 0)))) → r ≡ max best a → r ≡ greatestTo sums (k + 1)
+peaks-same : (f g : ℕ → ℕ) (n : ℕ) → ((i : ℕ) → i < n → f i ≡ g i) → peakTo f n ≡ peakTo g n
+peaks-same f g n e = λ j. record { kj = max-same f g n e j; quarter = first-same f g n e j }
+
+-- a higher number, and one that is not
+module _ (p : Peak) (kj k : ℕ) where
+  pub goes-higher : p .kj < kj → record { kj = kj; quarter = k } ≡ higherOf p kj k
+  goes-higher h = sym (ap (λ b. cond b (record { kj = kj; quarter = k }) p) (lt-ltb (p .kj) kj h))
+
+  pub stays : kj ≤ p .kj → p ≡ higherOf p kj k
+  stays h = sym (ap (λ b. cond b (record { kj = kj; quarter = k }) p) (le-ltb (p .kj) kj h))
+
+-- one number more
+peak-grows : (f : ℕ → ℕ) (n : ℕ) → higherOf (peakTo f n) (f n) n ≡ peakTo f (suc n)
+peak-grows f n = go (ltb (maxTo f n) (f n)) refl
+  where
+    go : (b : Bool) → ltb (maxTo f n) (f n) ≡ b
+        → cond b (record { kj = f n; quarter = n }) (peakTo f n) ≡ record { kj = max (maxTo f n) (f n); quarter = cond b n (maxAt f n) }
+    go true e = λ j. record { kj = sym (max-right (ltb-true (maxTo f n) (f n) e)) j; quarter = n }
+      where
+        max-right : {a b : ℕ} → a < b → max a b ≡ b
+        max-right h = omega arith
+    go false e = λ j. record { kj = sym (max-left (ltb-false (maxTo f n) (f n) e)) j; quarter = maxAt f n }
+      where
+        max-left : {a b : ℕ} → b ≤ a → max a b ≡ a
+        max-left h = omega arith
+
+-- the peak of the first k sums
+abbrev pub greatestTo : List ℤ → ℕ → Peak
+greatestTo sums = peakTo (λ j. above (getD sums j (pos 0)))
+
+pub one-compared : (sums : List ℤ) (k : ℕ) (best : Peak) (a : ℕ) (r : Peak) → best ≡ greatestTo sums k → mag (getD sums k (pos 0)) < 2 ^ 63
+    → a ≡ above (toZ w64 (ofZ w64 (getD sums k (pos 0)))) → r ≡ higherOf best a k → r ≡ greatestTo sums (k + 1)
 one-compared sums k best a r eb fits ea er =
     er
-    ∙ ap₂ max eb (ea ∙ ap above (toZ-ofZ {w = w64} {z = getD sums k (pos 0)} (sfits-of fits)))
+    ∙ ap₂ (λ p n. higherOf p n k) eb (ea ∙ ap above (toZ-ofZ {w = w64} {z = getD sums k (pos 0)} (sfits-of fits)))
+    ∙ peak-grows (λ j. above (getD sums j (pos 0))) k
     ∙ sym (ap (greatestTo sums) (add-one k))
 
-pub all-compared : (sums : List ℤ) (k best : ℕ) → (k ≤ mostQuarters) × (best ≡ greatestTo sums k) → mostQuarters ≤ k → best ≡ greatestSum sums
+pub all-compared : (sums : List ℤ) (k : ℕ) (best : Peak) → (k ≤ mostQuarters) × (best ≡ greatestTo sums k) → mostQuarters ≤ k → best ≡ greatestSum sums
 unfolding greatestSum
 all-compared sums k best h l = h .1 ∙ ap (greatestTo sums) (le-antisymm (h .0) l)
 
-pub peak-is : (f : ℕ → ℕ) (H : ℕ) (sums : List ℤ) → sums ≡ quarterSums f H → greatestSum sums ≡ peak f H
+pub peak-is : (f : ℕ → ℕ) (H : ℕ) (sums : List ℤ) → sums ≡ quarterSums f H → greatestSum sums ≡ peakOf f H
 unfolding greatestSum
 peak-is f H sums e =
-    max-same (λ k. above (getD sums k (pos 0))) (quarter f H) mostQuarters
+    peaks-same (λ k. above (getD sums k (pos 0))) (quarter f H) mostQuarters
     (λ k h. ap (λ s. above (getD s k (pos 0))) e ∙ ap above (quarters-at f H k h))
 
-pub peak-same : (f g : ℕ → ℕ) (H : ℕ) → ((t : ℕ) → t < H → f t ≡ g t) → peak f H ≡ peak g H
-peak-same f g H e = max-same (quarter f H) (quarter g H) mostQuarters (λ k h. quarter-same f g H e k)
+pub peak-same : (f g : ℕ → ℕ) (H : ℕ) → ((t : ℕ) → t < H → f t ≡ g t) → peakOf f H ≡ peakOf g H
+peak-same f g H e = peaks-same (quarter f H) (quarter g H) mostQuarters (λ k h. quarter-same f g H e k)

@@ -7,4 +7,4 @@ pub record Exact (g : Figures) : Type 0 where
   pub before : g .before ≤ mostKj
   pub drawn : g .drawn ≤ mostKj
   pub lost : g .lost ≤ mostKj
-  pub peak : g .peaks .drawn ≤ mostKj
+  pub peak : g .peaks .drawn .kj ≤ mostKj

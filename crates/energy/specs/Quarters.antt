@@ -2,11 +2,12 @@
 use Prim.Native.Nat.{ℕ, _+_, _*_, _-_, _≤_, _^_}
 use mathlib.Core.Bool.{cond}
 use mathlib.Core.List.{List}
-use lib.Dec.{leb}
+use lib.Dec.{leb, ltb}
 use lib.ListN.{length, getD}
 use lib.IntN.{ℤ, pos, _+ℤ_}
 use Rattle.rules.specs.Limits.{quarterSeconds, mostQuarters, mostHorizon}
-use Rattle.rules.specs.Energy.{sumTo, maxTo, above, tabulate, quarter}
+use Rattle.rules.specs.Energy.{sumTo, maxTo, maxAt, above, tabulate, quarter}
+use Rattle.rules.specs.declared.figures.Peak.{Peak}
 use Rattle.laws.specs.Sized.{mostPower}
 use Rattle.laws.specs.Laying.{Within}
 
@@ -25,9 +26,17 @@ quarterTaken start run k = sumTo (λ j. drawnBy start run (quarterSeconds * k + 
 unfoldable pub withRun : (start : ℕ) → List ℤ → (H : ℕ) → (sums : List ℤ) → List ℤ
 withRun start run H sums = tabulate mostQuarters (λ k. getD sums k (pos 0) +ℤ pos (quarter (drawnBy start run) H k))
 
--- the greatest of the sums, 0 if none is above it
-unfoldable pub greatestSum : (sums : List ℤ) → ℕ
-greatestSum sums = maxTo (λ k. above (getD sums k (pos 0))) mostQuarters
+-- the greatest of f 0 .. f (n - 1), and where it first stands
+abbrev pub peakTo : (ℕ → ℕ) → (n : ℕ) → Peak
+peakTo f n = record { kj = maxTo f n; quarter = maxAt f n }
+
+-- a peak, and the sum of a later quarter
+abbrev pub higherOf : Peak → (kj quarter : ℕ) → Peak
+higherOf p kj k = cond (ltb (p .kj) kj) (record { kj = kj; quarter = k }) p
+
+-- the greatest of the sums and its first quarter, both 0 if none is above 0
+unfoldable pub greatestSum : (sums : List ℤ) → Peak
+greatestSum sums = peakTo (λ k. above (getD sums k (pos 0))) mostQuarters
 
 -- what adding asks: the run lies within the horizon, and no number leaves 64 bits
 pub record RunRoom (start H : ℕ) (run sums : List ℤ) : Type 0 where

@@ -5,7 +5,7 @@ use mathlib.Core.List.{List}
 use mathlib.Core.Option.{Option}
 use lib.IntN.{ℤ}
 use Rattle.rules.specs.Lists.{over}
-use Rattle.rules.specs.Energy.{before, beforeAt, drawn, drawnAt, lost, fluctuation, peak}
+use Rattle.rules.specs.Energy.{before, beforeAt, drawn, drawnAt, lost, fluctuation, peakOf}
 use Rattle.rules.specs.declared.sizes.Configuration.{Configuration}
 use Rattle.rules.specs.declared.figures.Figures.{Figures}
 use Rattle.energy.specs.Parts.{sidesOf}
@@ -37,7 +37,7 @@ figuresBy H samples homes n cs =
       drawn = drawn samples homes n cs H;
       lost = lost samples homes n cs H;
       fluctuation = fluctuation samples homes n cs H;
-      peaks = record { before = peak (beforeAt samples cs) H; drawn = peak (drawnAt samples homes n cs) H };
+      peaks = record { before = peakOf (beforeAt samples cs) H; drawn = peakOf (drawnAt samples homes n cs) H };
     }
 
 unfoldable pub figuresSeen : (H : ℕ) → Given → Figures

@@ -7,11 +7,12 @@ use crate::quarters;
 use crate::runs;
 use crate::runs::Counts;
 use crate::sides;
+use rules::sizes::Horizon;
 
 // In kilojoules.
 pub struct Before {
     pub whole: u64,
-    pub quarters: [i64; 196],
+    pub quarters: [i64; Horizon::QUARTERS],
 }
 
 // Leg `i`, after those before it.
@@ -50,7 +51,7 @@ pub fn add_legs(
     requires { ⌜ tables.ReadableRuns h (tables.runs counts (now choices) (now profiles) (now samples)) ⌝ }
     ensures { λ r. ⌜ r ≡ beforeSums h (tables.runs counts (now (choices .entry)) (now (profiles .entry)) (now (samples .entry))) (counts .legs) ⌝ }
 {
-    let quarters = [0i64; 196];
+    let quarters = [0i64; Horizon::QUARTERS];
     let mut sum = Before { whole: 0, quarters };
     let mut i: usize = 0;
     while i < counts.legs {

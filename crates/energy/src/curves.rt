@@ -5,13 +5,14 @@ ghost use mathlib.Core.Bool.{cond};
 ghost use lib.Signed.{leZ};
 ghost use Rattle.energy.specs.Curves.{CurveTable, quartersIn, totalIn, fluctuationIn};
 use crate::quarters;
+use rules::sizes::Horizon;
 
 // The quarter sums, subnet by subnet.
-pub fn drawn_quarters(curves: &[i32], n: usize, h: usize) -> [i64; 196]
+pub fn drawn_quarters(curves: &[i32], n: usize, h: usize) -> [i64; Horizon::QUARTERS]
     requires { ⌜ CurveTable h n (now curves) ⌝ }
     ensures { λ r. ⌜ r ≡ quartersIn h (now (curves .entry)) n ⌝ }
 {
-    let mut sums = [0i64; 196];
+    let mut sums = [0i64; Horizon::QUARTERS];
     let mut s: usize = 0;
     while s < n {
         let from = s * h;

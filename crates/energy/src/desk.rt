@@ -23,10 +23,11 @@ pub fn for_desk(g: Figures) -> Desk
     ensures { λ r. ⌜ r ≡ deskOf g ⌝ }
 {
     let peaks = g.peaks;
+    let drawn_peak = peaks.drawn;
     let before = divided(g.before, Figures::KJ_A_MWH);
     let drawn = divided(g.drawn, Figures::KJ_A_MWH);
     let lost = divided(g.lost, Figures::KJ_A_MWH);
-    let peak = divided(peaks.drawn, Figures::KJ_A_MW);
+    let peak = divided(drawn_peak.kj, Figures::KJ_A_MW);
     Desk {
         before,
         drawn,

@@ -1,13 +1,14 @@
 // Quarter hours: quarter k covers the seconds 900 k to 900 k + 899, and one that the horizon cuts is left out.
 // The 196 quarter sums are carried through as one array.
 ghost use mathlib.Core.Path.{_≡_};
-ghost use Prim.Native.Nat.{_+_, _/_, _≤_, _<_, min, max};
+ghost use Prim.Native.Nat.{_+_, _/_, _≤_, _<_, min};
 ghost use lib.ListN.{length};
 ghost use Rattle.rules.specs.Energy as energy;
 ghost use Rattle.rules.specs.Limits.{quarterSeconds, mostQuarters, mostHorizon};
-ghost use Rattle.energy.specs.Quarters.{quarterTaken, withRun, greatestSum, RunRoom};
+ghost use Rattle.energy.specs.Quarters.{quarterTaken, withRun, higherOf, greatestSum, RunRoom};
 use crate::runs;
 use crate::sides;
+use rules::figures::Peak;
 use rules::sizes::Horizon;
 
 // What a run's powers, the first of which falls on second `start`, draw in quarter `k`.
@@ -34,7 +35,12 @@ fn quarters_before(second: usize, h: usize) -> usize
 }
 
 // The sums with what a run draws added: a leg's samples, or a subnet's powers.
-pub fn add_run(sums: [i64; 196], run: &[i32], start: usize, h: usize) -> [i64; 196]
+pub fn add_run(
+    sums: [i64; Horizon::QUARTERS],
+    run: &[i32],
+    start: usize,
+    h: usize,
+) -> [i64; Horizon::QUARTERS]
     requires { ⌜ RunRoom start h (now run) sums ⌝ }
     ensures { λ r. ⌜ r ≡ withRun start (now (run .entry)) h sums ⌝ }
 {
@@ -56,20 +62,25 @@ fn above(x: i64) -> u64
     if 0 < x { x as u64 } else { 0 }
 }
 
-fn greater(a: u64, b: u64) -> u64
-    ensures { λ r. ⌜ r ≡ max a b ⌝ }
+// The greatest sum so far, and that of quarter `k`.
+fn higher(best: Peak, kj: u64, k: u32) -> Peak
+    ensures { λ r. ⌜ r ≡ higherOf best kj k ⌝ }
 {
-    if a < b { b } else { a }
+    if best.kj < kj {
+        Peak { kj, quarter: k }
+    } else {
+        best
+    }
 }
 
-// The peak quarter, 0 if there is no quarter.
-pub fn greatest_of(sums: [i64; 196]) -> u64
+// The peak quarter.
+pub fn greatest_of(sums: [i64; Horizon::QUARTERS]) -> Peak
     ensures { λ r. ⌜ r ≡ greatestSum sums ⌝ }
 {
-    let mut best: u64 = 0;
+    let mut best = Peak { kj: 0, quarter: 0 };
     let mut k: usize = 0;
     while k < Horizon::QUARTERS {
-        best = greater(best, above(sums[k]));
+        best = higher(best, above(sums[k]), k as u32);
         k += 1;
     }
     best

@@ -65,8 +65,8 @@ pub record Moderate (g : Figures) : Type 0 where
   pub drawn : g .drawn ≤ mostKj
   pub lost : g .lost ≤ mostKj
   pub fluctuation : natAbs (g .fluctuation) ≤ 2 * mostPower
-  pub peakBefore : g .peaks .before ≤ mostKj
-  pub peakDrawn : g .peaks .drawn ≤ mostKj
+  pub peakBefore : g .peaks .before .kj ≤ mostKj
+  pub peakDrawn : g .peaks .drawn .kj ≤ mostKj
 
 -- and so are the curves; what is lost follows from the other energies and what the runs give back
 pub record BoundedFigures (H : ℕ) (f : Files) (cs : List Configuration) : Type 0 where

@@ -61,13 +61,15 @@ pub enum State {
     Stopped(u8, u32),
 }
 
-const HEADER: [u8; 30] = *b"profile_id,power_consumptions\n";
-
 fn header_at(place: u32) -> u8
     ensures { λ r. ⌜ r ≡ getD profilesHeader place 0 ⌝ }
 {
     let i = place as usize;
-    if i < 30 { HEADER[i] } else { 0 }
+    if i < Profile::HEADER_LENGTH {
+        Profile::HEADER[i]
+    } else {
+        0
+    }
 }
 
 fn header_step(at: u32, b: u8) -> State
@@ -75,7 +77,7 @@ fn header_step(at: u32, b: u8) -> State
     ensures { λ r. ⌜ Free at State.Header b r ⌝ }
 {
     if b == header_at(at) {
-        if at + 1 < 30 {
+        if at + 1 < Profile::HEADER_LENGTH as u32 {
             return State::Header;
         }
         let past = Past {

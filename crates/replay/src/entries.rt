@@ -66,13 +66,17 @@ fn from_zero(x: i64) -> u64 {
 
 fn put_figures(line: &mut [u8], g: Figures, d: Desk) -> usize {
     let peaks = g.peaks;
+    let before_peak = peaks.before;
+    let drawn_peak = peaks.drawn;
     let figures = [
         g.before,
         g.drawn,
         g.lost,
         from_zero(g.fluctuation),
-        peaks.before,
-        peaks.drawn,
+        before_peak.kj,
+        drawn_peak.kj,
+        before_peak.quarter as u64,
+        drawn_peak.quarter as u64,
     ];
     let after = lines::put_named(line, 0, b"accepted", &figures);
     let bits = desk::bits_of(d);

@@ -6,6 +6,7 @@ use energy::desk;
 use rules::answers::Answer;
 use rules::figures::Desk;
 use rules::figures::Figures;
+use rules::figures::Peak;
 use rules::figures::Peaks;
 use tails::refusals;
 
@@ -27,8 +28,8 @@ pub fn no_report(answer: Answer) -> Report
         lost: 0,
         fluctuation: 0,
         peaks: Peaks {
-            before: 0,
-            drawn: 0,
+            before: Peak { kj: 0, quarter: 0 },
+            drawn: Peak { kj: 0, quarter: 0 },
         },
     };
     let desk = desk::for_desk(figures);

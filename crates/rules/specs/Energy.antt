@@ -16,6 +16,7 @@ use Rattle.rules.specs.Constraints.{subnetOf}
 use Rattle.rules.specs.Reading.{Files}
 use Rattle.rules.specs.declared.sizes.Configuration.{Configuration}
 use Rattle.rules.specs.declared.sizes.Track.{Track}
+use Rattle.rules.specs.declared.figures.Peak.{Peak}
 use Rattle.rules.specs.declared.figures.Figures.{Figures}
 use Rattle.rules.specs.declared.figures.Desk.{Desk}
 
@@ -28,6 +29,11 @@ sumTo f (suc n) = sumTo f n + f n
 abbrev pub maxTo : (ℕ → ℕ) → ℕ → ℕ
 maxTo f zero = 0
 maxTo f (suc n) = max (maxTo f n) (f n)
+
+-- the first of 0 .. n - 1 at which f is greatest, 0 if it is 0 throughout
+abbrev pub maxAt : (ℕ → ℕ) → ℕ → ℕ
+maxAt f zero = 0
+maxAt f (suc n) = cond (ltb (maxTo f n) (f n)) n (maxAt f n)
 
 abbrev pub sumToZ : (ℕ → ℤ) → ℕ → ℤ
 sumToZ f zero = pos 0
@@ -121,6 +127,10 @@ quarter f H k = sumTo (λ j. f (quarterSeconds * k + j)) (secondsOf H k)
 abbrev pub peak : (ℕ → ℕ) → (H : ℕ) → ℕ
 peak f H = maxTo (quarter f H) mostQuarters
 
+-- with the first quarter that has it
+abbrev pub peakOf : (ℕ → ℕ) → (H : ℕ) → Peak
+peakOf f H = record { kj = peak f H; quarter = maxAt (quarter f H) mostQuarters }
+
 -- the 196 quarter sums as the array holds them
 abbrev pub quarterSums : (ℕ → ℕ) → (H : ℕ) → List ℤ
 quarterSums f H = tabulate mostQuarters (λ k. pos (quarter f H k))
@@ -147,7 +157,7 @@ figuresOf H f cs =
       drawn = drawn samples homes n cs H;
       lost = lost samples homes n cs H;
       fluctuation = fluctuation samples homes n cs H;
-      peaks = record { before = peak (beforeAt samples cs) H; drawn = peak (drawnAt samples homes n cs) H };
+      peaks = record { before = peakOf (beforeAt samples cs) H; drawn = peakOf (drawnAt samples homes n cs) H };
     }
 
 unfoldable pub curvesOf : (H : ℕ) → Files → List Configuration → List ℤ
@@ -164,5 +174,5 @@ deskOf g =
       before = quotient (g .before) kjAMwh;
       drawn = quotient (g .drawn) kjAMwh;
       lost = quotient (g .lost) kjAMwh;
-      peak = quotient (g .peaks .drawn) kjAMw;
+      peak = quotient (g .peaks .drawn .kj) kjAMw;
     }

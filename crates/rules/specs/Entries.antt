@@ -21,6 +21,7 @@ use Rattle.rules.specs.declared.sizes.Configuration.{Configuration}
 use Rattle.rules.specs.declared.answers.Refusal.{Refusal}
 use Rattle.rules.specs.declared.answers.Answer.{Answer}
 use Rattle.rules.specs.declared.answers.Answer.the-variants.{Accepted, Refused}
+use Rattle.rules.specs.declared.figures.Peaks.{Peaks}
 use Rattle.rules.specs.declared.figures.Figures.{Figures}
 use Rattle.rules.specs.declared.figures.Desk.{Desk}
 
@@ -111,8 +112,11 @@ checked H x solution t c = checkedFrom (allRead H x solution (roomsOf t) (length
 
 -- ---- energy: figures for accepted solutions only
 
+abbrev pub noPeaks : Peaks
+noPeaks = record { before = record { kj = 0; quarter = 0 }; drawn = record { kj = 0; quarter = 0 } }
+
 abbrev pub noFigures : Figures
-noFigures = record { before = 0; drawn = 0; lost = 0; fluctuation = pos 0; peaks = record { before = 0; drawn = 0 } }
+noFigures = record { before = 0; drawn = 0; lost = 0; fluctuation = pos 0; peaks = noPeaks }
 
 pub record Reported : Type 0 where
   pub answer : Answer

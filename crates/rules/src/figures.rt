@@ -1,9 +1,15 @@
 // The energies of an accepted solution, and the record that the operator's desk tool takes.
 
-// The greatest quarter sum, before recuperation and drawn.
+// The greatest quarter sum in kilojoules, and the first quarter that has it; both are 0 where there is no quarter.
+pub struct Peak {
+    pub kj: u64,
+    pub quarter: u32,
+}
+
+// Before recuperation, and drawn.
 pub struct Peaks {
-    pub before: u64,
-    pub drawn: u64,
+    pub before: Peak,
+    pub drawn: Peak,
 }
 
 // Whole kilojoules, exact; the fluctuation is in kilowatts.

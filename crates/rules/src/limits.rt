@@ -1,6 +1,8 @@
 // The code's constants are the numbers of document 01, as ../specs has them: an edit of either side alone is refused.
 ghost use mathlib.Core.Path.{_≡_};
 ghost use Rattle.rules.specs.Ties.{limits, signedFills, numbers, names};
+ghost use Rattle.rules.specs.Timetable.{timetableHeader};
+ghost use Rattle.rules.specs.Profiles.{profilesHeader};
 use crate::answers::File;
 use crate::answers::Refusal;
 use crate::figures::Figures;
@@ -133,4 +135,17 @@ pub fn names_are_the_laws() -> [u64; 28]
         Constraint::ARRIVAL as u64,
         Constraint::DEPARTURE as u64,
     ]
+}
+
+// The headers.
+pub fn timetable_header_is_the_law() -> [u8; Leg::HEADER_LENGTH]
+    ensures { λ r. ⌜ r ≡ timetableHeader ⌝ }
+{
+    Leg::HEADER
+}
+
+pub fn profiles_header_is_the_law() -> [u8; Profile::HEADER_LENGTH]
+    ensures { λ r. ⌜ r ≡ profilesHeader ⌝ }
+{
+    Profile::HEADER
 }

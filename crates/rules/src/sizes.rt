@@ -127,6 +127,12 @@ impl Leg {
 
     pub const MOST: usize = 32_768;
 
+    // The first line of a timetable or solution, its LF too.
+    pub const HEADER_LENGTH: usize = 114;
+
+    pub const HEADER: [u8; Leg::HEADER_LENGTH] =
+        *b"leg_id,train_id,track_id,start_station_id,end_station_id,nominal_departure_configuration,departure_configurations\n";
+
     pub const LEAST_CONFIGURATIONS: u32 = 1;
 
     pub const MOST_CONFIGURATIONS: u32 = 64;
@@ -188,6 +194,11 @@ impl Profile {
     pub const WIDTH: usize = 3;
 
     pub const MOST: usize = 16_384;
+
+    // The first line of the profiles, its LF too.
+    pub const HEADER_LENGTH: usize = 30;
+
+    pub const HEADER: [u8; Profile::HEADER_LENGTH] = *b"profile_id,power_consumptions\n";
 
     pub const LEAST_SAMPLES: u32 = 1;
 

@@ -10,16 +10,12 @@ use crate::compare;
 use crate::compare::Compared;
 use rules::answers::Refusal;
 use rules::sizes::Choice;
+use rules::sizes::Leg;
 use rules::sizes::Text;
 use text::pieces;
 use text::words;
 use timetable::line;
 use timetable::reader;
-
-const HEADER_LENGTH: usize = 114;
-
-const HEADER: [u8; HEADER_LENGTH] =
-    *b"leg_id,train_id,track_id,start_station_id,end_station_id,nominal_departure_configuration,departure_configurations\n";
 
 // The first fault's number and place, or how many choices there are.
 pub enum Choices {
@@ -48,7 +44,7 @@ fn read_rows(text: &[u8], h: u32, legs: &[u32], n: usize, choices: &mut [u32]) -
 {
     let mut line = reader::first_line();
     let mut compared = compare::none_differs();
-    let mut i = HEADER_LENGTH;
+    let mut i = Leg::HEADER_LENGTH;
     while i < text.len() {
         let place = i as u32;
         let e = pieces::find(text, b'\n', i);
@@ -96,7 +92,7 @@ pub fn read_choices(text: &[u8], h: u32, legs: &[u32], n: usize, choices: &mut [
     if Text::MOST < text.len() {
         return Choices::Fault(Refusal::TOO_LONG, 0);
     }
-    if words::starts_with(text, &HEADER) {
+    if words::starts_with(text, &Leg::HEADER) {
         let read = read_rows(text, h, legs, n, choices);
         let Choices::Read(rows) = read else {
             return read;

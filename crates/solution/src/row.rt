@@ -2,14 +2,12 @@
 ghost use Rattle.rules.specs.Timetable.{formOf};
 ghost use Rattle.solution.specs.Said.{Alone, SaidOf, RowClosed};
 use rules::answers::Refusal;
+use rules::sizes::Leg;
 use timetable::line;
 use timetable::line::Line;
 use timetable::number;
 use timetable::number::Number;
 use timetable::reader;
-
-// The first byte that may stand in a row.
-const FIRST: usize = 114;
 
 // The third number of an entry: where a row may end.
 const LAST: usize = 10;
@@ -37,7 +35,7 @@ pub fn read_row(bytes: &[u8], h: u32) -> Line
     let read = reader::run_rows(
         begun,
         Number::Empty,
-        FIRST,
+        Leg::HEADER_LENGTH,
         bytes,
         0,
         h,

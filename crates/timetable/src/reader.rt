@@ -12,12 +12,8 @@ use crate::line::Line;
 use crate::number;
 use crate::number::Number;
 use rules::answers::Refusal;
+use rules::sizes::Leg;
 use rules::sizes::Text;
-
-const HEADER_LENGTH: usize = 114;
-
-const HEADER: [u8; HEADER_LENGTH] =
-    *b"leg_id,train_id,track_id,start_station_id,end_station_id,nominal_departure_configuration,departure_configurations\n";
 
 // After so many bytes: the open number, and the rest of the state.
 pub struct Reader {
@@ -43,7 +39,7 @@ pub fn first_line() -> Line
 {
     Line {
         fault: 0,
-        place: 114,
+        place: Leg::HEADER_LENGTH as u32,
         slot: 0,
         numbers: [0; 10],
         entries: 0,
@@ -72,13 +68,13 @@ fn header(part: &[u8], read: usize) -> Headed
     let mut i = 0;
     while i < part.len() {
         let k = read + i;
-        if HEADER_LENGTH <= k {
+        if Leg::HEADER_LENGTH <= k {
             return Headed {
                 next: i,
                 right: true,
             };
         }
-        if part[i] != HEADER[k] {
+        if part[i] != Leg::HEADER[k] {
             return Headed {
                 next: i,
                 right: false,
@@ -184,7 +180,7 @@ pub fn finish(reader: Reader) -> Rows
     if line.fault != 0 {
         return Rows::Fault(line.fault, line.place);
     }
-    if reader.read < HEADER_LENGTH {
+    if reader.read < Leg::HEADER_LENGTH {
         return Rows::Fault(Refusal::HEADER, 0);
     }
     if line.place as usize != reader.read {

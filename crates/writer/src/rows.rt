@@ -12,11 +12,7 @@ use rules::sizes::Leg;
 pub fn put_header(buffer: &mut [u8], at: usize) -> usize
     ensures { λ r. ⌜ Written (now (buffer .entry)) at timetableHeader (now (buffer .exit)) r ⌝ }
 {
-    bytes::put_bytes(
-        buffer,
-        at,
-        b"leg_id,train_id,track_id,start_station_id,end_station_id,nominal_departure_configuration,departure_configurations\n",
-    )
+    bytes::put_bytes(buffer, at, &Leg::HEADER)
 }
 
 // A number and the sign after it.

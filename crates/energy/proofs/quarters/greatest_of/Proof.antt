@@ -1,4 +1,4 @@
--- `energy::quarters::greatest_of` meets its contract. The loop's invariant: the greatest of the sums passed. Assumes nothing.
+-- `energy::quarters::greatest_of` meets its contract. The loop's invariant: the peak of the sums passed. Assumes nothing.
 use Prim.Native.Nat.{_-_, _≤_}
 use native.Mathlib.Omega.{arith}
 use mathlib.Core.Path.{_≡_, refl}
@@ -26,8 +26,11 @@ array-copy-out-above c = search needs
 above-requires : tie.Need-above-requires Inv-loop μ-loop
 above-requires c κs = search needs
 
-greater-requires : tie.Need-greater-requires Inv-loop μ-loop
-greater-requires c κs = search needs
+cast-higher : tie.Need-cast-higher Inv-loop μ-loop
+cast-higher c = search needs
+
+higher-requires : tie.Need-higher-requires Inv-loop μ-loop
+higher-requires c κs = search needs
 
 add-k : tie.Need-add-k Inv-loop μ-loop
 add-k c = search needs
@@ -51,7 +54,8 @@ greatest-of-spec =
     mul-above
     array-copy-out-above
     above-requires
-    greater-requires
+    cast-higher
+    higher-requires
     add-k
     loop-less
     loop-again

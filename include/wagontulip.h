@@ -1,7 +1,8 @@
 /*
  * Wagontulip for C: a checker for metro timetables whose answers are proved.
  *
- * Link the library's archive (x86-64 Linux), which `rt staticlib` writes to target/staticlib from the crate with the exports; `host/build` does it.
+ * Link the library's archive (x86-64 Linux), target/staticlib/libexports.a, which `rt staticlib exports` writes; `host/build` does it. Of other
+ * libraries the archive needs C's memcpy and memset alone.
  *
  *     LABEL, to be printed above every result: no violation shown is not no violation.
  *
@@ -94,8 +95,8 @@ enum {
 };
 
 /*
- * How much room each table can need, for any texts within document 01's sizes. With this much room, and texts that are not refused otherwise, 16 is never
- * given. Less may be lent: then 16 says which entry does not fit.
+ * The room of each table at document 01's sizes: the most entries times the numbers of one; for the curves the most subnets times the greatest H; for the
+ * text the greatest size of a text. Less may be lent, and more; what does not fit is refusal 16.
  */
 void wagontulip_rooms(uint64_t rooms[WAGONTULIP_NUMBERS]);
 

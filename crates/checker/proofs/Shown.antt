@@ -1,16 +1,17 @@
 -- When a row starts at a place, and what is shown of it. Assumes nothing.
 use Prim.Native.Nat.{ℕ, _+_, _-_, _≤_, _<_}
 use native.Mathlib.Omega.{arith}
-use mathlib.Core.Path.{_≡_, refl, sym, ap}
-use mathlib.Core.Bool.{Bool, true, false, _&&_}
+use mathlib.Core.Path.{_≡_, refl, sym, ap, _∙_}
+use mathlib.Core.Bool.{Bool, true, false, _&&_, true≢false}
 use mathlib.Core.List.{List, [], _∷_}
-use borrow.Author.Tests.{eq-eqb, ne-eqb, lt-ltb, le-ltb}
-use lib.Dec.{ltb}
+use borrow.Author.Tests.{ltb-true, lt-ltb, le-ltb}
+use lib.Dec.{ltb, eqb}
 use lib.ListN.{length, take, drop, getD}
 use Rattle.rules.specs.Lists.{lead}
 use Rattle.rules.specs.Bytes.{lineFeed}
 use Rattle.rules.specs.Display.{startsRow, rowIn}
 use Rattle.text.specs.Places.{isOther, upTo}
+use Rattle.text.proofs.Laws.{found-within}
 
 -- the beginning that `lead` takes is a beginning
 take-lead : {A : Type 0} (p : A → Bool) (s : List A) → take (length (lead p s)) s ≡ lead p s
@@ -26,23 +27,38 @@ and-false true b h = h
 and-false false b h = refl
 
 module _ (s : List ℕ) (place : ℕ) where
-  none : startsRow s place ≡ false → rowIn s place ≡ []
-  unfolding rowIn
-  none h = rw h
+  -- ---- whether a row starts there: each test in turn
 
-  pub row-at-start : place ≡ 0 → [] ≡ rowIn s place
-  row-at-start e = sym (none (rw (le-ltb 0 place (omega arith))))
+  pub starts-at-0 : place ≡ 0 → false ≡ startsRow s place
+  starts-at-0 e = rw (le-ltb 0 place (omega arith))
 
-  pub row-past : length s ≤ place → [] ≡ rowIn s place
-  row-past h = sym (none (and-false (ltb 0 place) _ (rw (le-ltb place (length s) h))))
+  pub starts-past : length s ≤ place → false ≡ startsRow s place
+  starts-past h = sym (and-false (ltb 0 place) _ (rw (le-ltb place (length s) h)))
 
-  pub row-within : (getD s (place - 1) 0 ≡ lineFeed → ⊥) → [] ≡ rowIn s place
-  row-within h = sym (none (and-false (ltb 0 place) _ (and-false (ltb place (length s)) _ (ne-eqb _ _ h))))
+  pub starts-after : (place ≡ 0 → ⊥) → place < length s → eqb (getD s (place - 1) 0) lineFeed ≡ startsRow s place
+  starts-after a b = let above : 0 < place = omega arith in rw (lt-ltb 0 place above, lt-ltb place (length s) b)
 
-  pub row-here :
-      (end : ℕ) → 0 < place → place < length s → getD s (place - 1) 0 ≡ lineFeed → end ≡ place + upTo lineFeed (drop place s)
-      → take (end - place) (drop place s) ≡ rowIn s place
-  unfolding rowIn
-  row-here end a b e q =
-      let n : end - place ≡ length (lead (isOther lineFeed) (drop place s)) = omega arith in
-      rw (n, lt-ltb 0 place a, lt-ltb place (length s) b, eq-eqb _ _ e) (take-lead (isOther lineFeed) (drop place s))
+  -- ---- the row
+
+  started : startsRow s place ≡ true → place < length s
+  started e = go (ltb 0 place) (ltb place (length s)) refl e
+    where
+      go : (a b : Bool) → ltb place (length s) ≡ b → (a && (b && eqb (getD s (place - 1) 0) lineFeed)) ≡ true → place < length s
+      go a true l h = ltb-true place (length s) l
+      go a false l h = absurd (true≢false (sym h ∙ and-false a _ refl))
+
+  -- b: whether a row starts there, as the code has it
+  module _ (b : Bool) (is : b ≡ startsRow s place) where
+    pub row-none : b ≡ false → [] ≡ rowIn s place
+    unfolding rowIn
+    row-none none = rw (sym is ∙ none)
+
+    module _ (starts : b ≡ true) (end : ℕ) (found : end ≡ place + upTo lineFeed (drop place s)) where
+      pub row-within : end ≤ length s
+      row-within = found-within s lineFeed place end found (omega (arith, started (sym is ∙ starts)))
+
+      pub row-here : take (end - place) (drop place s) ≡ rowIn s place
+      unfolding rowIn
+      row-here =
+          let n : end - place ≡ length (lead (isOther lineFeed) (drop place s)) = omega arith in
+          rw (n, sym is ∙ starts) (take-lead (isOther lineFeed) (drop place s))

@@ -2,22 +2,29 @@
 use rules::answers::File;
 use text::pieces;
 ghost use mathlib.Core.Path.{_≡_};
-ghost use Rattle.rules.specs.Display.{rowIn, rowAt};
+ghost use Rattle.rules.specs.Display.{startsRow, rowIn, rowAt};
 
 const LINE_FEED: u8 = b'\n';
 
-// The row below the header that starts at `place`, without its LF; empty where none does.
+// Whether a row below the header starts at `place`.
+pub fn starts_row(s: &[u8], place: usize) -> bool
+    ensures { λ r. ⌜ r ≡ startsRow (now (s .entry)) place ⌝ }
+{
+    if place == 0 {
+        return false;
+    }
+    if s.len() <= place {
+        return false;
+    }
+    let before = place - 1;
+    s[before] == LINE_FEED
+}
+
+// The row that starts at `place`, without its LF; empty where none does.
 fn row_in<'a>(s: &'a [u8], place: usize) -> &'a [u8]
     ensures { λ r. ⌜ now r ≡ rowIn (now (s .entry)) place ⌝ }
 {
-    if place == 0 {
-        return &s[0..0];
-    }
-    if s.len() <= place {
-        return &s[0..0];
-    }
-    let before = place - 1;
-    if s[before] == LINE_FEED {
+    if starts_row(s, place) {
         let end = pieces::find(s, LINE_FEED, place);
         return &s[place..end];
     }

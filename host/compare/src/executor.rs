@@ -3,13 +3,23 @@
 use crate::block::written;
 use crate::expected::full_line;
 use crate::lines::LABEL;
-use independent::Call;
+use independent::{Call, Said};
 use std::io::Write;
 use std::process::{Command, Stdio};
 
-/// Something that runs calls in the order given, and answers each by a line in `replay`'s words.
+/// Something that runs calls in the order given, and answers each by a line.
 pub trait Executor: Sync {
     fn run(&self, calls: &[&Call]) -> Result<Vec<String>, String>;
+
+    /// What the call answers, and its line: in `replay`'s words, where the executor has none of its own.
+    fn expected(&self, call: &Call) -> (Said, String) {
+        full_line(call)
+    }
+
+    /// How many calls go through at once.
+    fn batch(&self) -> usize {
+        1_000
+    }
 }
 
 /// The program `replay`, by the words of its command: on a machine of another kind an emulator and a loader stand before it.

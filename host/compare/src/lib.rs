@@ -1,6 +1,7 @@
 //! The proved programs beside the independent one, call by call: the same texts, the same lent rooms, line by line.
 
 pub mod block;
+pub mod command;
 pub mod comparison;
 pub mod coverage;
 pub mod executor;

@@ -56,7 +56,7 @@ fn digests(lent: &Lent) -> [u32; 10] {
 }
 
 /// d = 0, then d = (d × 31 + the number) mod 2^32.
-fn digest(numbers: impl Iterator<Item = u32>) -> u32 {
+pub fn digest(numbers: impl Iterator<Item = u32>) -> u32 {
     numbers.fold(0, |digest: u32, number| digest.wrapping_mul(31).wrapping_add(number))
 }
 

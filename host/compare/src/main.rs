@@ -1,5 +1,6 @@
 //! The comparison of the proved programs with the independent one.
 
+use compare::command::Command;
 use compare::comparison::{self, Plan};
 use compare::executor::{Nobody, Replay};
 use compare::{expected, folder, input, stored};
@@ -9,6 +10,7 @@ use std::path::{Path, PathBuf};
 use std::process::ExitCode;
 
 const USAGE: &str = "compare replay SEED COUNT [ENTRIES] -- PROGRAM...   seeded calls through the program replay
+compare command SEED COUNT [ENTRIES] -- PROGRAM...  seeded calls through the command, one process each
 compare cover SEED COUNT [ENTRIES]                  the same calls through no program: their coverage alone
 compare stored DIR [ENTRIES]                        writes the stored run of replay
 compare answers [ENTRIES]                           standard input as replay reads it, answered by the independent program
@@ -32,6 +34,7 @@ fn main() -> ExitCode {
 fn run(words: &[String]) -> Result<String, String> {
     let end = words.iter().position(|word| word == "--").unwrap_or(words.len());
     let program = words.get(end + 1..).unwrap_or_default().to_vec();
+    let command = Command { words: program.clone() };
     let replay = Replay { words: program };
     let words: Vec<&str> = words[..end].iter().map(String::as_str).collect();
     match words[..] {
@@ -41,6 +44,7 @@ fn run(words: &[String]) -> Result<String, String> {
             input::compare(&replay)?;
             Ok(told)
         }
+        ["command", seed, count, ref rest @ ..] => comparison::told(&command, &Plan { whole: false, ..plan(seed, count, rest)? }),
         ["cover", seed, count, ref rest @ ..] => comparison::told(&Nobody, &plan(seed, count, rest)?),
         ["stored", dir, ref rest @ ..] => stored::write(Path::new(dir), &entries(rest)?),
         ["answers", ref rest @ ..] => answers(&entries(rest)?),
@@ -56,7 +60,13 @@ fn answers(offered: &[Entry]) -> Result<String, String> {
 }
 
 fn plan(seed: &str, count: &str, rest: &[&str]) -> Result<Plan, String> {
-    Ok(Plan { seed: number(seed)?, count: number(count)? as usize, entries: entries(rest)?, folder: PathBuf::from("target/differences") })
+    Ok(Plan {
+        seed: number(seed)?,
+        count: number(count)? as usize,
+        entries: entries(rest)?,
+        whole: true,
+        folder: PathBuf::from("target/differences"),
+    })
 }
 
 fn entries(rest: &[&str]) -> Result<Vec<Entry>, String> {

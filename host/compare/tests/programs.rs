@@ -1,6 +1,7 @@
 //! The comparison tried on itself: through a program that is right, and through ones that are not.
 
 use cases::Named;
+use compare::command::Command;
 use compare::comparison::{compare, Plan};
 use compare::executor::{Executor, Nobody, Replay};
 use compare::expected::output;
@@ -20,7 +21,7 @@ fn temporary(name: &str) -> PathBuf {
 }
 
 fn plan(count: usize, name: &str) -> Plan {
-    Plan { seed: 3, count, entries: Entry::ALL.to_vec(), folder: temporary(name) }
+    Plan { seed: 3, count, entries: Entry::ALL.to_vec(), whole: true, folder: temporary(name) }
 }
 
 /// A program that is wrong in one line.
@@ -64,6 +65,15 @@ fn a_program_that_leaves_the_last_room_alone_differs() {
         format!("{} {last}", kept[1])
     };
     assert!(differing(&Wrong(leaving), "leaving") > 50);
+}
+
+/// `true` ends with status 0, whatever it is asked, and says nothing.
+#[test]
+fn a_command_that_says_nothing_differs() {
+    let plan = Plan { whole: false, ..plan(40, "silent") };
+    let outcome = compare(&Command { words: vec![String::from("true")] }, &plan).unwrap();
+    assert_eq!((outcome.calls, outcome.differences.len()), (40, 40));
+    std::fs::remove_dir_all(&plan.folder).unwrap();
 }
 
 #[test]

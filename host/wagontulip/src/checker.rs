@@ -22,7 +22,7 @@ pub struct Checker {
 const NO_POWER: i32 = i32::MIN;
 
 impl Checker {
-    /// With room for everything that document 01's sizes allow.
+    /// With the room of each table at document 01's sizes.
     pub fn new() -> Checker {
         Checker::with_rooms(&Rooms::at_the_limits())
     }

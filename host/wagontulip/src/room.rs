@@ -57,7 +57,7 @@ impl Table {
 pub struct Rooms([usize; Table::ALL.len()]);
 
 impl Rooms {
-    /// Room for everything that document 01's sizes allow, as the library says it.
+    /// The room of each table at document 01's sizes, as the library says it.
     pub fn at_the_limits() -> Rooms {
         let numbers = exports::rooms();
         let mut rooms = Rooms([0; Table::ALL.len()]);

@@ -1,0 +1,4 @@
+pub mod Complement
+pub mod Told
+pub mod Defined
+pub mod Unique

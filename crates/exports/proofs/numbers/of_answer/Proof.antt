@@ -1,0 +1,41 @@
+-- `exports::numbers::of_answer` meets its contract: case by case. Assumes nothing.
+use borrow.Author.Needs.{needs}
+use Rattle.exports.proofs.numbers.of_answer.Statement.{statement}
+use Rattle.exports.proofs.numbers.of_answer.Tie as tie
+
+enum-told : tie.Need-enum-told
+enum-told c = search needs
+
+enum-known-answer : tie.Need-enum-known-answer
+enum-known-answer c = search needs
+
+of-violation-requires : tie.Need-of-violation-requires
+of-violation-requires c κs = search needs
+
+enum-known-answer-2 : tie.Need-enum-known-answer-2
+enum-known-answer-2 c = search needs
+
+of-refusal-requires : tie.Need-of-refusal-requires
+of-refusal-requires c κs = search needs
+
+returns : tie.Need-returns
+returns c = search needs
+
+returns-2 : tie.Need-returns-2
+returns-2 c = simp (c .before .before .answer .given .1) (c .of-violation .ensures)
+
+returns-3 : tie.Need-returns-3
+returns-3 c = simp (c .before .before .answer2 .given .1) (c .of-refusal .ensures)
+
+pub of-answer-spec : {M : Type 1} → statement M
+of-answer-spec =
+    tie.close
+    (tie.spec
+    enum-told
+    enum-known-answer
+    of-violation-requires
+    enum-known-answer-2
+    of-refusal-requires
+    returns
+    returns-2
+    returns-3)

@@ -1,0 +1,105 @@
+// The two merges for C.
+ghost use mathlib.Core.Path.{_≡_};
+ghost use Rattle.rules.specs.Merge.{earlier, later};
+ghost use Rattle.files.specs.Promise.{texts, tables};
+ghost use Rattle.merging.specs.Promise.{Merges};
+ghost use Rattle.exports.specs.Numbers.{mergeNumbers};
+ghost use Rattle.exports.specs.Exported.{Exported};
+use crate::numbers;
+use crate::numbers::Code;
+use crate::numbers::Numbers;
+use crate::numbers::UNUSED;
+use checker::merges;
+use checker::merges::Merged;
+
+fn of_merge(merged: Merged) -> Numbers
+    ensures { λ r. ⌜ r ≡ mergeNumbers merged ⌝ }
+{
+    let answer = merged.answer;
+    let mut accepted = UNUSED;
+    accepted[0] = Code::ACCEPTED;
+    accepted[1] = merged.length as u64;
+    numbers::of_answer(answer, accepted)
+}
+
+#[no_mangle]
+pub extern "C" fn wagontulip_merge_earlier(
+    h: u32,
+    timetable: &[u8],
+    profiles: &[u8],
+    constraints: &[u8],
+    first: &[u8],
+    second: &[u8],
+    legs: &mut [u32],
+    configurations: &mut [u32],
+    profile_table: &mut [u32],
+    samples: &mut [i32],
+    constraint_table: &mut [u32],
+    tracks: &mut [u32],
+    choices: &mut [u32],
+    second_choices: &mut [u32],
+    text: &mut [u8],
+    answer: &mut Numbers,
+)
+    ensures { λ _. ⌜ Exported (λ r. Merges earlier h (texts (now (timetable .entry)) (now (profiles .entry)) (now (constraints .entry))) (now (first .entry)) (now (second .entry)) (tables (now (legs .entry)) (now (configurations .entry)) (now («profile_table» .entry)) (now (samples .entry)) (now («constraint_table» .entry)) (now (tracks .entry))) (now (choices .entry)) (now («second_choices» .entry)) (now (text .entry)) r (tables (now (legs .exit)) (now (configurations .exit)) (now («profile_table» .exit)) (now (samples .exit)) (now («constraint_table» .exit)) (now (tracks .exit))) (now (choices .exit)) (now («second_choices» .exit)) (now (text .exit))) mergeNumbers (now (answer .exit)) ⌝ }
+{
+    let merged = merges::merge_earlier(
+        h,
+        timetable,
+        profiles,
+        constraints,
+        first,
+        second,
+        legs,
+        configurations,
+        profile_table,
+        samples,
+        constraint_table,
+        tracks,
+        choices,
+        second_choices,
+        text,
+    );
+    *answer = of_merge(merged);
+}
+
+#[no_mangle]
+pub extern "C" fn wagontulip_merge_later(
+    h: u32,
+    timetable: &[u8],
+    profiles: &[u8],
+    constraints: &[u8],
+    first: &[u8],
+    second: &[u8],
+    legs: &mut [u32],
+    configurations: &mut [u32],
+    profile_table: &mut [u32],
+    samples: &mut [i32],
+    constraint_table: &mut [u32],
+    tracks: &mut [u32],
+    choices: &mut [u32],
+    second_choices: &mut [u32],
+    text: &mut [u8],
+    answer: &mut Numbers,
+)
+    ensures { λ _. ⌜ Exported (λ r. Merges later h (texts (now (timetable .entry)) (now (profiles .entry)) (now (constraints .entry))) (now (first .entry)) (now (second .entry)) (tables (now (legs .entry)) (now (configurations .entry)) (now («profile_table» .entry)) (now (samples .entry)) (now («constraint_table» .entry)) (now (tracks .entry))) (now (choices .entry)) (now («second_choices» .entry)) (now (text .entry)) r (tables (now (legs .exit)) (now (configurations .exit)) (now («profile_table» .exit)) (now (samples .exit)) (now («constraint_table» .exit)) (now (tracks .exit))) (now (choices .exit)) (now («second_choices» .exit)) (now (text .exit))) mergeNumbers (now (answer .exit)) ⌝ }
+{
+    let merged = merges::merge_later(
+        h,
+        timetable,
+        profiles,
+        constraints,
+        first,
+        second,
+        legs,
+        configurations,
+        profile_table,
+        samples,
+        constraint_table,
+        tracks,
+        choices,
+        second_choices,
+        text,
+    );
+    *answer = of_merge(merged);
+}

@@ -1,0 +1,56 @@
+// `check` for C.
+ghost use mathlib.Core.Path.{_≡_};
+ghost use Rattle.files.specs.Promise.{texts, tables};
+ghost use Rattle.checker.specs.Checks.{Checks};
+ghost use Rattle.exports.specs.Numbers.{checkNumbers};
+ghost use Rattle.exports.specs.Exported.{Exported};
+use crate::numbers;
+use crate::numbers::Code;
+use crate::numbers::Numbers;
+use crate::numbers::UNUSED;
+use checker::verdicts;
+use checker::verdicts::Checked;
+
+fn of_check(checked: Checked) -> Numbers
+    ensures { λ r. ⌜ r ≡ checkNumbers checked ⌝ }
+{
+    let answer = checked.answer;
+    let mut accepted = UNUSED;
+    accepted[0] = Code::ACCEPTED;
+    numbers::of_answer(answer, accepted)
+}
+
+#[no_mangle]
+pub extern "C" fn wagontulip_check(
+    h: u32,
+    timetable: &[u8],
+    profiles: &[u8],
+    constraints: &[u8],
+    solution: &[u8],
+    legs: &mut [u32],
+    configurations: &mut [u32],
+    profile_table: &mut [u32],
+    samples: &mut [i32],
+    constraint_table: &mut [u32],
+    tracks: &mut [u32],
+    choices: &mut [u32],
+    answer: &mut Numbers,
+)
+    ensures { λ _. ⌜ Exported (λ r. Checks h (texts (now (timetable .entry)) (now (profiles .entry)) (now (constraints .entry))) (now (solution .entry)) (tables (now (legs .entry)) (now (configurations .entry)) (now («profile_table» .entry)) (now (samples .entry)) (now («constraint_table» .entry)) (now (tracks .entry))) (now (choices .entry)) r (tables (now (legs .exit)) (now (configurations .exit)) (now («profile_table» .exit)) (now (samples .exit)) (now («constraint_table» .exit)) (now (tracks .exit))) (now (choices .exit))) checkNumbers (now (answer .exit)) ⌝ }
+{
+    let checked = verdicts::check(
+        h,
+        timetable,
+        profiles,
+        constraints,
+        solution,
+        legs,
+        configurations,
+        profile_table,
+        samples,
+        constraint_table,
+        tracks,
+        choices,
+    );
+    *answer = of_check(checked);
+}

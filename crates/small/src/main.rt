@@ -1,31 +1,64 @@
 // The small program of document 01: it runs the library on texts of up to 16 KiB each. Its arguments come in groups,
 //     check H TIMETABLE PROFILES CONSTRAINTS SOLUTION
+//     energy H TIMETABLE PROFILES CONSTRAINTS SOLUTION
+//     merge-earlier H TIMETABLE PROFILES CONSTRAINTS FIRST SECOND OUT
+//     merge-later H TIMETABLE PROFILES CONSTRAINTS FIRST SECOND OUT
 // and each group is answered in turn: the label, what was found, and a last line that a script can read.
-mod rooms; // how much room is lent
-mod files; // files, whole or not at all
-mod arguments; // the words of a group
-mod checks; // `check`
+mod groups; // the groups
 
 ghost use Prim.Native.Nat.{_+_, _<_, _^_};
+use groups::Asked;
+use groups::Entry;
+use groups::Words;
 use told::say;
+use writer::merge::Direction;
 
-// The group that starts at argument `at`, of the `left` that are left: how many it takes. What follows a word that is not known cannot be told apart.
+// The group that starts at argument `at`, of the `left` that are left: how many it takes.
+fn solution_group(at: usize, left: usize, asked: Asked) -> usize
+    requires { ⌜ 0 < left ⌝ }
+    requires { ⌜ at + left < 2 ^ 64 ⌝ }
+    ensures { λ r. ⌜ 0 < r ⌝ }
+{
+    if left < Words::OF_SOLUTION {
+        say::no_answer(
+            b"arguments are missing: check or energy, H TIMETABLE PROFILES CONSTRAINTS SOLUTION",
+        );
+        return left;
+    }
+    groups::answer_solution(at, asked);
+    Words::OF_SOLUTION
+}
+
+fn merge_group(at: usize, left: usize, direction: Direction) -> usize
+    requires { ⌜ 0 < left ⌝ }
+    requires { ⌜ at + left < 2 ^ 64 ⌝ }
+    ensures { λ r. ⌜ 0 < r ⌝ }
+{
+    if left < Words::OF_TWO {
+        say::no_answer(
+            b"arguments are missing: merge-earlier or merge-later, H TIMETABLE PROFILES CONSTRAINTS FIRST SECOND OUT",
+        );
+        return left;
+    }
+    groups::answer_two(at, direction);
+    Words::OF_TWO
+}
+
+// What follows a word that is not known cannot be told apart.
 fn answer_group(at: usize, left: usize) -> usize
     requires { ⌜ 0 < left ⌝ }
     requires { ⌜ at + left < 2 ^ 64 ⌝ }
     ensures { λ r. ⌜ 0 < r ⌝ }
 {
     say::label();
-    if !arguments::is_word(at, b"check") {
-        say::no_answer(b"the word is not known: check H TIMETABLE PROFILES CONSTRAINTS SOLUTION");
-        return left;
+    match groups::entry_at(at) {
+        Entry::OfSolution(asked) => solution_group(at, left, asked),
+        Entry::OfTwo(direction) => merge_group(at, left, direction),
+        Entry::Unknown => {
+            say::no_answer(b"the word is not known: check, energy, merge-earlier or merge-later");
+            left
+        }
     }
-    if left < checks::WORDS {
-        say::no_answer(b"arguments are missing: check H TIMETABLE PROFILES CONSTRAINTS SOLUTION");
-        return left;
-    }
-    checks::answer_check(at);
-    checks::WORDS
 }
 
 fn main() {

@@ -2,6 +2,7 @@
 pub mod say; // standard output
 pub mod refusals; // refused: number and meaning, file, place, row
 pub mod readings; // accepted: how much was read
+pub mod energies; // the energies of an accepted solution
 pub mod violations; // violated: the inequality, both legs, what was needed
 
 use rules::answers::Answer;

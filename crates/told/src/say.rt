@@ -27,6 +27,18 @@ pub fn time(seconds: u64) {
     front(&line, end);
 }
 
+pub fn mwh(kj: u64) {
+    let mut line = [0u8; LINE];
+    let end = words::energies::put_mwh(&mut line, 0, kj);
+    front(&line, end);
+}
+
+pub fn mw(kj: u64) {
+    let mut line = [0u8; LINE];
+    let end = words::energies::put_mw(&mut line, 0, kj);
+    front(&line, end);
+}
+
 pub fn kind(kind: u8) {
     let mut line = [0u8; LINE];
     let end = words::names::put_kind(&mut line, 0, kind);

@@ -1,11 +1,11 @@
--- `small::files::read_all` meets its contract, and ends: a read that is neither the end nor a failure brings at least one byte. Assumes nothing.
+-- `given::files::read_all` meets its contract, and ends: a read that is neither the end nor a failure brings at least one byte. Assumes nothing.
 use lib.ListN.{length}
 use Prim.Native.Nat.{_-_, _≤_}
 use mathlib.Core.Path.{_≡_}
 use borrow.Author.Needs.{needs}
-use Rattle.small.proofs.Fronts.{counted}
-use Rattle.small.proofs.files.read_all.Statement.{statement}
-use Rattle.small.proofs.files.read_all.Tie as tie
+use Rattle.given.proofs.Fronts.{counted}
+use Rattle.given.proofs.files.read_all.Statement.{statement}
+use Rattle.given.proofs.files.read_all.Tie as tie
 
 abbrev Inv-loop : tie.InvT-loop
 Inv-loop fd room₀ done₀ room done = (done ≤ length room) × (length room ≡ length room₀)

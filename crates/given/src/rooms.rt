@@ -1,5 +1,8 @@
 // Room for whatever texts of 16 KiB can hold, so that the program never answers 16. The shortest row of a timetable has 22 bytes, an entry of a list 6,
 // the shortest row of the profiles 6, a sample 4, a record 35; track numbers are distinct.
+use rules::sizes::Horizon;
+use rules::sizes::Subnet;
+
 const KIB: usize = 1_024;
 
 pub struct Room {}
@@ -23,4 +26,7 @@ impl Room {
     pub const TRACKS: usize = 8 * KIB;
 
     pub const CHOICES: usize = 4 * KIB;
+
+    // The greatest curves that there are.
+    pub const CURVES: usize = Subnet::MOST * Horizon::MOST as usize;
 }

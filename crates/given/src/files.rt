@@ -1,4 +1,4 @@
-// Files, read whole or not at all.
+// Files, read whole or not at all, and written.
 ghost use Rattle.io.specs.Counts.{Counts};
 use crate::rooms::Room;
 use told::say;
@@ -100,4 +100,32 @@ pub fn load(at: usize, file: u8, room: &mut [u8]) -> Loaded
     let loaded = read_named(&path[..length], room);
     complain(loaded, file, &path[..length]);
     loaded
+}
+
+// Whether the file has the whole text now. What stood there before is lost either way.
+fn write_named(path: &[u8], text: &[u8]) -> bool {
+    let fd = os::open_overwrite(path);
+    if fd < 0 {
+        return false;
+    }
+    let whole = io::write_all(fd, text);
+    let closed = libc::close(fd);
+    whole && closed == 0
+}
+
+// Writes the file that argument `at` names, says so, and answers whether it has the whole text.
+pub fn store(at: usize, text: &[u8]) -> bool {
+    let mut path = io::buffer();
+    let length = os::arg(at, &mut path);
+    let whole = write_named(&path[..length], text);
+    say::text(b"merged timetable: ");
+    say::text(&path[..length]);
+    if whole {
+        say::text(b", bytes ");
+        say::number(text.len() as u64);
+        say::text(b"\n");
+    } else {
+        say::text(b" could not be written\n");
+    }
+    whole
 }

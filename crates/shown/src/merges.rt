@@ -1,0 +1,169 @@
+// `merge-earlier H TIMETABLE PROFILES CONSTRAINTS FIRST SECOND OUT`, and `merge-later`: the merged timetable goes to OUT and the report to standard output.
+use checker::display;
+use checker::merges;
+use checker::merges::Merged;
+use given::files;
+use given::rooms::Room;
+use rules::answers::Answer;
+use rules::answers::File;
+use rules::sizes::Fill;
+use told::say;
+use writer::merge::Direction;
+
+// The row that a refusal shows, in whichever of the three texts; empty for another answer.
+fn refused_row<'a>(
+    answer: Answer,
+    timetable: &'a [u8],
+    first: &'a [u8],
+    second: &'a [u8],
+) -> &'a [u8] {
+    match answer {
+        Answer::Refused(r) => if r.file == File::SECOND_SOLUTION {
+            display::row_at(timetable, second, File::SOLUTION, r.place)
+        } else {
+            display::row_at(timetable, first, r.file, r.place)
+        },
+        Answer::Violated(_) => &timetable[0..0],
+        Answer::Accepted => &timetable[0..0],
+    }
+}
+
+// The choices that a violation speaks of: those of the solution that it names.
+fn shown_choices<'a>(answer: Answer, first: &'a [u32], second: &'a [u32]) -> &'a [u32] {
+    match answer {
+        Answer::Violated(v) => if v.file == File::SECOND_SOLUTION {
+            second
+        } else {
+            first
+        },
+        Answer::Accepted => first,
+        Answer::Refused(_) => first,
+    }
+}
+
+// Writes an accepted merge to the file that argument `out` names. Where that fails there is no answer.
+fn hand_over(out: usize, text: &[u8], length: usize) {
+    if length <= text.len() && files::store(out, &text[0..length]) {
+        say::answer(b"accepted");
+    } else {
+        say::answer(b"none");
+    }
+}
+
+fn close(answer: Answer, out: usize, text: &[u8], length: usize) {
+    match answer {
+        Answer::Accepted => hand_over(out, text, length),
+        Answer::Violated(_) => told::close(answer),
+        Answer::Refused(_) => told::close(answer),
+    }
+}
+
+// The entry of a direction.
+fn call(
+    direction: Direction,
+    h: u32,
+    timetable: &[u8],
+    profiles: &[u8],
+    constraints: &[u8],
+    first: &[u8],
+    second: &[u8],
+    legs: &mut [u32],
+    configurations: &mut [u32],
+    profile_table: &mut [u32],
+    samples: &mut [i32],
+    constraint_table: &mut [u32],
+    tracks: &mut [u32],
+    choices: &mut [u32],
+    second_choices: &mut [u32],
+    text: &mut [u8],
+) -> Merged {
+    match direction {
+        Direction::Earlier => merges::merge_earlier(
+            h,
+            timetable,
+            profiles,
+            constraints,
+            first,
+            second,
+            legs,
+            configurations,
+            profile_table,
+            samples,
+            constraint_table,
+            tracks,
+            choices,
+            second_choices,
+            text,
+        ),
+        Direction::Later => merges::merge_later(
+            h,
+            timetable,
+            profiles,
+            constraints,
+            first,
+            second,
+            legs,
+            configurations,
+            profile_table,
+            samples,
+            constraint_table,
+            tracks,
+            choices,
+            second_choices,
+            text,
+        ),
+    }
+}
+
+// Every table is lent full of a number that no field can have. The text has room for any merge: a merged row differs from the draft's in its nominal alone,
+// which stands in its list too, so it is not twice as long.
+pub fn merge<'a>(
+    direction: Direction,
+    h: u32,
+    timetable: &'a [u8],
+    profiles: &[u8],
+    constraints: &[u8],
+    first: &'a [u8],
+    second: &'a [u8],
+    out: usize,
+) {
+    let mut legs = [Fill::UNSIGNED; Room::LEGS];
+    let mut configurations = [Fill::UNSIGNED; Room::CONFIGURATIONS];
+    let mut profile_table = [Fill::UNSIGNED; Room::PROFILES];
+    let mut samples = [Fill::SIGNED; Room::SAMPLES];
+    let mut constraint_table = [Fill::UNSIGNED; Room::CONSTRAINTS];
+    let mut tracks = [Fill::UNSIGNED; Room::TRACKS];
+    let mut choices = [Fill::UNSIGNED; Room::CHOICES];
+    let mut second_choices = [Fill::UNSIGNED; Room::CHOICES];
+    let mut text = io::large_buffer();
+    let merged = call(
+        direction,
+        h,
+        timetable,
+        profiles,
+        constraints,
+        first,
+        second,
+        &mut legs,
+        &mut configurations,
+        &mut profile_table,
+        &mut samples,
+        &mut constraint_table,
+        &mut tracks,
+        &mut choices,
+        &mut second_choices,
+        &mut text,
+    );
+    let answer = merged.answer;
+    told::tell(
+        answer,
+        refused_row(answer, timetable, first, second),
+        &legs,
+        &configurations,
+        &profile_table,
+        &constraint_table,
+        &tracks,
+        shown_choices(answer, &choices, &second_choices),
+    );
+    close(answer, out, &text, merged.length);
+}

@@ -1,0 +1,41 @@
+// The energies of an accepted solution: the exact kilojoules, and beside them what people count in.
+use crate::say;
+use rules::figures::Figures;
+
+fn energy(name: &[u8], kj: u64) {
+    say::text(name);
+    say::number(kj);
+    say::text(b" kJ, ");
+    say::mwh(kj);
+    say::text(b" MWh\n");
+}
+
+// A quarter hour's energy, and its average power.
+fn peak(name: &[u8], kj: u64) {
+    say::text(name);
+    say::number(kj);
+    say::text(b" kJ, ");
+    say::mw(kj);
+    say::text(b" MW\n");
+}
+
+fn above(x: i64) -> u64 {
+    if 0 < x { x as u64 } else { 0 }
+}
+
+// The greatest less the least, which is never below 0.
+fn fluctuation(kw: i64) {
+    say::text(b"fluctuation: ");
+    say::number(above(kw));
+    say::text(b" kW\n");
+}
+
+pub fn tell(g: Figures) {
+    let peaks = g.peaks;
+    energy(b"before recuperation: ", g.before);
+    energy(b"drawn: ", g.drawn);
+    energy(b"lost: ", g.lost);
+    fluctuation(g.fluctuation);
+    peak(b"peak quarter before recuperation: ", peaks.before);
+    peak(b"peak quarter drawn: ", peaks.drawn);
+}

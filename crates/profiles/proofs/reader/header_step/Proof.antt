@@ -10,6 +10,9 @@ header-at-requires c κs = search needs
 add-if2 : tie.Need-add-if2
 add-if2 c = search needs
 
+cast-if2 : tie.Need-cast-if2
+cast-if2 c = search needs
+
 returns : tie.Need-returns
 returns c = search (ways, needs)
 
@@ -24,4 +27,4 @@ returns-3 c = search (ways, needs)
 
 pub header-step-spec : {M : Type 1} → statement M
 header-step-spec =
-    tie.close (tie.spec header-at-requires add-if2 returns add-t6 returns-2 returns-3)
+    tie.close (tie.spec header-at-requires add-if2 cast-if2 returns add-t6 returns-2 returns-3)

@@ -44,12 +44,24 @@ array-write-accepted-10 c = search needs
 array-write-accepted-11 : tie.Need-array-write-accepted-11
 array-write-accepted-11 c = search needs
 
+cast-accepted : tie.Need-cast-accepted
+cast-accepted c = search needs
+
+array-write-accepted-12 : tie.Need-array-write-accepted-12
+array-write-accepted-12 c = search needs
+
+cast-accepted-2 : tie.Need-cast-accepted-2
+cast-accepted-2 c = search needs
+
+array-write-accepted-13 : tie.Need-array-write-accepted-13
+array-write-accepted-13 c = search needs
+
 of-answer-requires : tie.Need-of-answer-requires
 of-answer-requires c κs = search needs
 
 returns : tie.Need-returns
 unfolding over
-returns c = report-told (c .before .before .before .before .before .before .before .args .report) _ _ _ (record { sfits = c .before .before .before .before .struct-told .given .1 .1 .1 .0 .1 }) (c .before .before .before .pattern .ensures) (c .before .bits-of .ensures) (c .of-answer .ensures)
+returns c = report-told (c .before .before .before .before .before .before .before .before .before .before .before .args .report) _ _ _ (record { sfits = c .before .before .before .before .before .before .struct-told .given .1 .1 .1 .0 .1 }) (c .before .before .before .before .before .pattern .ensures) (c .before .before .before .bits-of .ensures) (c .of-answer .ensures)
 
 pub of-report-spec : {M : Type 1} → statement M
 of-report-spec =
@@ -68,5 +80,9 @@ of-report-spec =
     array-write-accepted-9
     array-write-accepted-10
     array-write-accepted-11
+    cast-accepted
+    array-write-accepted-12
+    cast-accepted-2
+    array-write-accepted-13
     of-answer-requires
     returns)

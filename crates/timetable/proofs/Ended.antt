@@ -7,13 +7,15 @@ use mathlib.Core.Option.{Option, none, some}
 use native.Mathlib.Omega.{arith}
 use lib.Dec.{leb, ltb, eqb}
 use lib.ListN.{length, getD, drop}
-use borrow.Author.Tests.{leb-true, ltb-true, eq-eqb, ne-eqb}
-use Rattle.rules.specs.Limits.{mostText, mostId, mostLegs, mostListed, mostConfigurations, legWidth}
+use borrow.Author.Tests.{leb-true, ltb-true, le-ltb, lt-leb, eq-eqb, ne-eqb}
+use Rattle.rules.specs.Limits.{mostText, mostId, mostLegs, leastListed, mostListed, mostConfigurations, legWidth}
 use Rattle.rules.specs.Lists.{_>>=_, every}
 use Rattle.rules.specs.Answers.{badRow, timetableFile, Judged, wrong, right}
 use Rattle.rules.specs.Bytes.{lineFeed, isDigit}
 use Rattle.rules.specs.Timetable.{Row, configuration, inRange, judgeForm, timetableHeader}
 use Rattle.rules.specs.declared.sizes.Configuration.{Configuration}
+use Rattle.rules.specs.declared.sizes.LegMade.{LegMade}
+use Rattle.rules.specs.declared.sizes.LegMade.the-variants.{Within}
 use Rattle.lines.specs.Number as Row
 use Rattle.lines.specs.Machine.{onByte, onLine}
 use Rattle.timetable.specs.declared.line.Line.{Line}
@@ -22,7 +24,7 @@ use Rattle.timetable.specs.declared.number.Number.the-variants.{Empty}
 use Rattle.timetable.specs.Digits.{held, numberHeld, isEmpty, valueOf}
 use Rattle.timetable.specs.Open.{Open, partly, start, openStep, openEnd, reach}
 use Rattle.timetable.specs.Held.{lastSlot, entrySlot, Shaped, inHead, inFirst, inSecond, inThird, stoppedWith, Tables, tables, InLine, AfterByte, Entered, Closed, nominalOf, storedAt}
-use Rattle.timetable.specs.RowOver.{heldIds, rangeHolds, countsHold, isNew, roomHolds, lineTests, lowest, heldLeg, Bounded, nextLine, draftRoom, AfterLine, Ended}
+use Rattle.timetable.specs.RowOver.{heldIds, rangeHolds, countsHold, isNew, roomHolds, lineTests, lowest, heldLeg, legHeld, storedLeg, legOf, Bounded, nextLine, draftRoom, AfterLine, Ended}
 use Rattle.timetable.specs.Text.{Holds, Signed}
 use Rattle.timetable.proofs.Words.{and-left, and-right}
 use Rattle.timetable.proofs.Close.{entry-slot}
@@ -60,6 +62,33 @@ row-bounds H line legs room k at e z a =
           leb-true (line .configurations + line .entries) mostConfigurations (and-right (leb (line .entries) mostListed) _ (and-right (ltb (line .rows) mostLegs) _ counts));
       id-low = leb-true (getD (line .numbers) 0 0) mostId (and-left (leb (getD (line .numbers) 0 0) mostId) (every (λ id. leb id mostId) (drop 1 (heldIds (line .numbers)))) ids);
     }
+
+-- the constructor makes its leg
+pub leg-made : (H : ℕ) (line : Line) (legs : List ℕ) (room : ℕ) → lowest (lineTests H line legs room) ≡ 0
+    → legHeld line ≡ Within (legOf (line .numbers) (line .configurations) (line .entries) (line .nominal))
+leg-made H line legs room z =
+    let holds = lowest-zero (rangeHolds H line) (countsHold line) (isNew (line .rows) (line .above) (getD (line .numbers) 0 0) legs) (ltb (line .nominal) (line .entries)) (roomHolds line (length legs) room) z in
+    let n = line .numbers in
+    let one : every (λ id. leb id mostId) (heldIds n) ≡ true = and-left (every (λ id. leb id mostId) (heldIds n)) _ (holds .0) in
+    let two = and-right (leb (getD n 0 0) mostId) _ one in
+    let three = and-right (leb (getD n 1 0) mostId) _ two in
+    let four = and-right (leb (getD n 2 0) mostId) _ three in
+    let five = and-right (leb (getD n 3 0) mostId) _ four in
+    let listed-low : line .entries ≤ mostListed = leb-true (line .entries) mostListed (and-left (leb (line .entries) mostListed) _ (and-right (ltb (line .rows) mostLegs) _ (holds .1))) in
+    let nominal-low : line .nominal < line .entries = ltb-true (line .nominal) (line .entries) (holds .3) in
+    rw (
+      id-low (getD n 0 0) (and-left (leb (getD n 0 0) mostId) _ one),
+      id-low (getD n 1 0) (and-left (leb (getD n 1 0) mostId) _ two),
+      id-low (getD n 2 0) (and-left (leb (getD n 2 0) mostId) _ three),
+      id-low (getD n 3 0) (and-left (leb (getD n 3 0) mostId) _ four),
+      id-low (getD n 4 0) (and-left (leb (getD n 4 0) mostId) _ five),
+      le-ltb (line .entries) leastListed (omega (arith, nominal-low)),
+      le-ltb mostListed (line .entries) listed-low,
+      lt-leb (line .entries) (line .nominal) nominal-low,
+    )
+  where
+    id-low : (id : ℕ) → leb id mostId ≡ true → ltb mostId id ≡ false
+    id-low id e = le-ltb mostId id (leb-true id mostId e)
 
 -- ---- the three ways of an LF
 
@@ -106,11 +135,15 @@ module _ (H : ℕ) (line whole line′ : Line) (n at k : ℕ) (legs legs′ tabl
       go zero z l lent place before r p = absurd (z refl)
       go (suc j) z l lent place before r p = rw l (refl, p, omega arith)
 
-  pub ended-right : k ≡ 0 → legs′ ≡ storedAt legWidth (whole .rows) (heldLeg whole) legs → line′ ≡ nextLine whole at → Ended H line n at line′ (tables legs table) (tables legs′ table′)
-  ended-right z s l =
+  pub ended-right : k ≡ 0 → (made : LegMade) → made ≡ legHeld whole → legs′ ≡ storedLeg (whole .rows) made legs → line′ ≡ nextLine whole at
+      → Ended H line n at line′ (tables legs table) (tables legs′ table′)
+  ended-right z made m s l =
       by-judging
       (λ lent place before closed list h g.
-      rw (z, l) (accepted H lent whole (tables legs table′) place before closed list g h (length table′) (g .long) (sym lowest-is ∙ z) legs′ at s))
+      rw (z, l) (accepted H lent whole (tables legs table′) place before closed list g h (length table′) (g .long) (sym lowest-is ∙ z) legs′ at stored))
+    where
+      stored : legs′ ≡ storedAt legWidth (whole .rows) (heldLeg whole) legs
+      stored = s ∙ ap (λ x. storedLeg (whole .rows) x legs) (m ∙ leg-made H whole legs (length table′) (sym lowest-is ∙ z))
 
 -- ---- a byte that the open number does not take
 

@@ -13,9 +13,13 @@ use borrow.Author.Tests.{leb-true, leb-false, not-true, not-false, le-leb, lt-le
 use Rattle.rules.specs.Limits.{mostId, mostLegs, mostListed, mostConfigurations, legWidth}
 use Rattle.rules.specs.Lists.{every, any}
 use Rattle.rules.specs.Answers.{outOfRange, tooMany, alreadySeen, nominalNotListed, noRoom, Test, _needs_}
+use Rattle.rules.specs.Timetable.{legNumbers}
+use Rattle.rules.specs.declared.sizes.Leg.{Leg}
+use Rattle.rules.specs.declared.sizes.LegMade.{LegMade}
+use Rattle.rules.specs.declared.sizes.LegMade.the-variants.{Within}
 use Rattle.timetable.specs.declared.line.Line.{Line}
 use Rattle.timetable.specs.Held.{storedAt}
-use Rattle.timetable.specs.RowOver.{idsIn, isNew, lowest, nextLine}
+use Rattle.timetable.specs.RowOver.{idsIn, isNew, lowest, storedLeg, nextLine}
 
 -- ---- range
 
@@ -164,6 +168,9 @@ module _ (t : List ℕ) (k a b c d e f g h : ℕ) where
 
   pub leg-not-stored : (length t / legWidth) ≤ k → t ≡ storedAt legWidth k (a ∷ b ∷ c ∷ d ∷ e ∷ f ∷ g ∷ h ∷ []) t
   leg-not-stored l = rw (le-ltb k (length t / legWidth) l)
+
+pub made-stored : (at : ℕ) (made : LegMade) (leg : Leg) (t t′ : List ℕ) → made ≡ Within leg → t′ ≡ storedAt legWidth at (legNumbers leg) t → t′ ≡ storedLeg at made t
+made-stored at made leg t t′ m e = rw m e
 
 pub above-id : (above id : ℕ) → above ≤ id → id + 1 ≡ cond (leb above id) (id + 1) above
 above-id above id h = rw (le-leb above id h)

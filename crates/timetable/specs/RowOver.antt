@@ -9,12 +9,16 @@ use lib.ListN.{length, getD, drop}
 use Rattle.rules.specs.Limits.{mostText, mostId, mostLegs, mostListed, mostConfigurations, legWidth, configurationWidth}
 use Rattle.rules.specs.Lists.{every, any, over}
 use Rattle.rules.specs.Answers.{outOfRange, tooMany, alreadySeen, nominalNotListed, noRoom, Test, _needs_, Judged, wrong, right}
-use Rattle.rules.specs.Timetable.{Row, inRange, listed, judgeForm, draftFits}
+use Rattle.rules.specs.Timetable.{Row, inRange, listed, judgeForm, draftFits, legNumbers}
+use Rattle.rules.specs.Made.{legMade}
+use Rattle.rules.specs.declared.sizes.Leg.{Leg}
+use Rattle.rules.specs.declared.sizes.LegMade.{LegMade}
+use Rattle.rules.specs.declared.sizes.LegMade.the-variants.{Within, OutOfRange}
 use Rattle.lines.specs.Number.{numberEnd}
 use Rattle.timetable.specs.declared.line.Line.{Line}
 use Rattle.timetable.specs.Open.{Open, openEnd}
 use Rattle.timetable.specs.Digits.{held}
-use Rattle.timetable.specs.Held.{nominalOf, Tables, tables, InLine}
+use Rattle.timetable.specs.Held.{nominalOf, Tables, tables, InLine, storedAt}
 
 -- the ids of the first n rows of the leg table
 abbrev pub idsIn : (n : ℕ) → List ℕ → List ℕ
@@ -53,18 +57,30 @@ abbrev pub lowest : List Test → ℕ
 lowest [] = 0
 lowest (t ∷ ts) = cond (t .holds) (lowest ts) (t .number)
 
--- the leg's numbers as the reader holds them
+-- the leg as the reader holds it, and its numbers
+abbrev pub legOf : (numbers : List ℕ) → (first count nominal : ℕ) → Leg
+legOf numbers first count nominal =
+    record {
+      id = getD numbers 0 0;
+      train = getD numbers 1 0;
+      track = getD numbers 2 0;
+      start = getD numbers 3 0;
+      end = getD numbers 4 0;
+      first = first;
+      count = count;
+      nominal = nominal;
+    }
+
 abbrev pub heldLeg : Line → List ℕ
-heldLeg line =
-    getD (line .numbers) 0 0
-    ∷ getD (line .numbers) 1 0
-    ∷ getD (line .numbers) 2 0
-    ∷ getD (line .numbers) 3 0
-    ∷ getD (line .numbers) 4 0
-    ∷ line .configurations
-    ∷ line .entries
-    ∷ line .nominal
-    ∷ []
+heldLeg line = legNumbers (legOf (line .numbers) (line .configurations) (line .entries) (line .nominal))
+
+-- as the constructor makes it, and where it is stored
+abbrev pub legHeld : Line → LegMade
+legHeld line = legMade (heldIds (line .numbers)) (line .configurations) (line .entries) (line .nominal)
+
+abbrev pub storedLeg : (at : ℕ) → LegMade → (table : List ℕ) → List ℕ
+storedLeg at (Within leg) table = storedAt legWidth at (legNumbers leg) table
+storedLeg at OutOfRange table = table
 
 -- what a row with no fault keeps
 pub record Bounded (line : Line) (at : ℕ) : Type 0 where

@@ -6,16 +6,18 @@ ghost use Prim.Native.Nat.{_+_, _≤_, _<_};
 ghost use lib.Dec.{leb, ltb};
 ghost use lib.ListN.{getD};
 ghost use Rattle.rules.specs.Limits.{mostText, mostId, legWidth, configurationWidth};
-ghost use Rattle.rules.specs.Timetable.{configuration, inRange, same};
+ghost use Rattle.rules.specs.Timetable.{configuration, inRange, same, legNumbers};
 ghost use Rattle.timetable.specs.Held.{separatorOf, stoppedWith, storedAt, Entered, Closed, tables};
-ghost use Rattle.timetable.specs.RowOver.{Ended, rangeHolds, countsHold, isNew, roomHolds, lineTests, lowest, heldLeg, Bounded, nextLine};
+ghost use Rattle.timetable.specs.RowOver.{Ended, rangeHolds, countsHold, isNew, roomHolds, lineTests, lowest, legHeld, storedLeg, Bounded, nextLine};
 ghost use Rattle.timetable.specs.Text.{Signed};
 use crate::number;
 use crate::number::Number;
 use rules::answers::Refusal;
 use rules::sizes::Configuration;
+use rules::sizes::ConfigurationMade;
 use rules::sizes::Id;
 use rules::sizes::Leg;
+use rules::sizes::LegMade;
 
 pub struct Line {
     // The first fault's number, or 0.
@@ -65,19 +67,10 @@ pub fn stopped(line: Line, number: u8) -> Line
 fn in_range(d: u32, t: u32, p: u32, h: u32) -> bool
     ensures { λ r. ⌜ r ≡ inRange h (configuration d t p) ⌝ }
 {
-    if t < Configuration::LEAST_TRAVEL {
-        return false;
+    match Configuration::new(d, t, p, h) {
+        ConfigurationMade::Within(_) => true,
+        ConfigurationMade::OutOfRange => false,
     }
-    if Configuration::MOST_TRAVEL < t {
-        return false;
-    }
-    if h < t {
-        return false;
-    }
-    if h - t < d {
-        return false;
-    }
-    p <= Id::MOST
 }
 
 fn or_wide(wide: bool, d: u32, t: u32, p: u32, h: u32) -> bool
@@ -264,21 +257,37 @@ fn fault(line: Line, h: u32, legs: &[u32], room: usize) -> u8
     Refusal::SEEN
 }
 
-fn store_leg(legs: &mut [u32], line: Line)
-    ensures { λ r. ⌜ now (legs .exit) ≡ storedAt legWidth (line .rows) (heldLeg line) (now (legs .entry)) ⌝ }
+// The row's leg, as its constructor makes it.
+fn leg_of(line: Line) -> LegMade
+    ensures { λ r. ⌜ r ≡ legHeld line ⌝ }
 {
-    let rows = line.rows as usize;
-    let numbers = line.numbers;
-    if rows < legs.len() / Leg::WIDTH {
-        let from = rows * Leg::WIDTH;
-        legs[from] = numbers[0];
-        legs[from + 1] = numbers[1];
-        legs[from + 2] = numbers[2];
-        legs[from + 3] = numbers[3];
-        legs[from + 4] = numbers[4];
-        legs[from + 5] = line.configurations;
-        legs[from + 6] = line.entries;
-        legs[from + 7] = line.nominal;
+    let n = line.numbers;
+    let ids = [n[0], n[1], n[2], n[3], n[4]];
+    Leg::new(ids, line.configurations, line.entries, line.nominal)
+}
+
+fn store_leg(legs: &mut [u32], at: usize, leg: Leg)
+    ensures { λ r. ⌜ now (legs .exit) ≡ storedAt legWidth at (legNumbers leg) (now (legs .entry)) ⌝ }
+{
+    if at < legs.len() / Leg::WIDTH {
+        let from = at * Leg::WIDTH;
+        legs[from] = leg.id;
+        legs[from + 1] = leg.train;
+        legs[from + 2] = leg.track;
+        legs[from + 3] = leg.start;
+        legs[from + 4] = leg.end;
+        legs[from + 5] = leg.first;
+        legs[from + 6] = leg.count;
+        legs[from + 7] = leg.nominal;
+    }
+}
+
+// A leg out of its limits is not stored; a row that is right has none.
+fn store_made(legs: &mut [u32], at: usize, made: LegMade)
+    ensures { λ r. ⌜ now (legs .exit) ≡ storedLeg at made (now (legs .entry)) ⌝ }
+{
+    if let LegMade::Within(leg) = made {
+        store_leg(legs, at, leg);
     }
 }
 
@@ -322,7 +331,8 @@ fn ended(line: Line, n: u32, at: u32, h: u32, legs: &mut [u32], configurations: 
     if number != 0 {
         return stopped(whole, number);
     }
-    store_leg(legs, whole);
+    let made = leg_of(whole);
+    store_made(legs, whole.rows as usize, made);
     next_row(whole, at)
 }
 

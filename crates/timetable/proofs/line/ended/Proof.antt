@@ -28,8 +28,14 @@ same-length-2 c = search needs
 returns-2 : tie.Need-returns-2
 returns-2 c = search (ended-fault, needs)
 
-store-leg-requires : tie.Need-store-leg-requires
-store-leg-requires c κs = search needs
+leg-of-requires : tie.Need-leg-of-requires
+leg-of-requires c κs = search needs
+
+cast-store-made : tie.Need-cast-store-made
+cast-store-made c = search needs
+
+store-made-requires : tie.Need-store-made-requires
+store-made-requires c κs = search needs
 
 next-row-requires : tie.Need-next-row-requires
 next-row-requires c κs = search (row-bounds, needs)
@@ -55,7 +61,9 @@ ended-spec =
     same-length
     same-length-2
     returns-2
-    store-leg-requires
+    leg-of-requires
+    cast-store-made
+    store-made-requires
     next-row-requires
     same-length-3
     same-length-4

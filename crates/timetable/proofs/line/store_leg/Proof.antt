@@ -6,23 +6,14 @@ use Rattle.timetable.proofs.RowTests.{rowTests}
 use Rattle.timetable.proofs.line.store_leg.Statement.{statement}
 use Rattle.timetable.proofs.line.store_leg.Tie as tie
 
-cast-rows : tie.Need-cast-rows
-cast-rows c = search needs
-
 mul-from : tie.Need-mul-from
 mul-from c = search needs
-
-array-read-legs : tie.Need-array-read-legs
-array-read-legs c = search needs
 
 mul-legs : tie.Need-mul-legs
 mul-legs c = search needs
 
 slice-write-legs : tie.Need-slice-write-legs
 slice-write-legs c = search needs
-
-array-read-legs-2 : tie.Need-array-read-legs-2
-array-read-legs-2 c = search needs
 
 add-legs : tie.Need-add-legs
 add-legs c = search needs
@@ -33,9 +24,6 @@ mul-legs-2 c = search needs
 slice-write-legs-2 : tie.Need-slice-write-legs-2
 slice-write-legs-2 c = simp length-set (omega arith)
 
-array-read-legs-3 : tie.Need-array-read-legs-3
-array-read-legs-3 c = search needs
-
 add-legs-2 : tie.Need-add-legs-2
 add-legs-2 c = search needs
 
@@ -45,9 +33,6 @@ mul-legs-3 c = search needs
 slice-write-legs-3 : tie.Need-slice-write-legs-3
 slice-write-legs-3 c = simp length-set (omega arith)
 
-array-read-legs-4 : tie.Need-array-read-legs-4
-array-read-legs-4 c = search needs
-
 add-legs-3 : tie.Need-add-legs-3
 add-legs-3 c = search needs
 
@@ -56,9 +41,6 @@ mul-legs-4 c = search needs
 
 slice-write-legs-4 : tie.Need-slice-write-legs-4
 slice-write-legs-4 c = simp length-set (omega arith)
-
-array-read-legs-5 : tie.Need-array-read-legs-5
-array-read-legs-5 c = search needs
 
 add-legs-4 : tie.Need-add-legs-4
 add-legs-4 c = search needs
@@ -97,7 +79,7 @@ slice-write-legs-8 : tie.Need-slice-write-legs-8
 slice-write-legs-8 c = simp length-set (omega arith)
 
 same-length : tie.Need-same-length
-same-length c = simp length-set
+same-length c = search needs
 
 returns : tie.Need-returns
 returns c = search (rowTests, needs)
@@ -109,24 +91,18 @@ pub store-leg-spec : {M : Type 1} → statement M
 store-leg-spec =
     tie.close
     (tie.spec
-    cast-rows
     mul-from
-    array-read-legs
     mul-legs
     slice-write-legs
-    array-read-legs-2
     add-legs
     mul-legs-2
     slice-write-legs-2
-    array-read-legs-3
     add-legs-2
     mul-legs-3
     slice-write-legs-3
-    array-read-legs-4
     add-legs-3
     mul-legs-4
     slice-write-legs-4
-    array-read-legs-5
     add-legs-4
     mul-legs-5
     slice-write-legs-5

@@ -1,17 +1,17 @@
 -- A check that refuses fills everything, and one that does not leaves what it read. Assumes nothing.
 use Prim.Native.Nat.{ℕ}
 use mathlib.Core.Path.{_≡_, refl, sym, ap, _∙_}
-use mathlib.Core.Bool.{true, false}
+use mathlib.Core.Bool.{Bool, true, false, cond}
 use mathlib.Core.List.{List}
-use native.Mathlib.Omega.{arith}
 use lib.ListN.{length}
 use Rattle.rules.specs.Limits.{unsignedFill}
 use Rattle.rules.specs.Answers.{isRefusal, solutionFile, Reading, refused, good}
 use Rattle.rules.specs.Reading.{Texts}
 use Rattle.rules.specs.Verdict.{Verdict, accepted, violated, answerOf}
-use Rattle.rules.specs.Entries.{Tables, Whole, roomsOf, filled, filledTables, verdictOf, allRead, checkedFrom, checked}
+use Rattle.rules.specs.Entries.{Tables, Whole, roomsOf, filled, filledTables, verdictOf, allRead, checked}
 use Rattle.tails.specs.declared.Judged.{Judged}
 use Rattle.tails.specs.Promise.{ReadAndJudged}
+use Rattle.tails.specs.After.{tablesAfter, choicesAfter}
 use Rattle.tails.proofs.Filled.{SameLengths, filled-alike, tables-filled-alike}
 use Rattle.checker.specs.Checks.{Checks}
 
@@ -24,37 +24,30 @@ module _ (H : ℕ) (x : Texts) (s : List ℕ) (t : Tables) (c : List ℕ) {j : J
   abbrev all : Reading Whole
   all = allRead H x s (roomsOf t) (length c)
 
-  pub check-refused : isRefusal (j .answer) ≡ true → SameLengths t′ t → length c′ ≡ length c → (t″ : Tables) → t″ ≡ filledTables t′ → (c″ : List ℕ) → c″ ≡ filled unsignedFill c′
+  -- what the answer leaves of what was read: b says whether it is a refusal
+  abbrev kept : Bool → Tables
+  kept b = cond b (filledTables t′) t′
+
+  abbrev kept-choices : Bool → List ℕ
+  kept-choices b = cond b (filled unsignedFill c′) c′
+
+  pub check-ends : SameLengths t′ t → length c′ ≡ length c → {t″ : Tables} → t″ ≡ tablesAfter (j .answer) t′ → {c″ : List ℕ} → c″ ≡ choicesAfter (j .answer) c′
       → Checks H x s t c (record { answer = j .answer }) t″ c″
   unfolding checked
-  check-refused refuses same many t″ tables c″ choices = go all refl
+  check-ends same many {t″} tables {c″} choices = go all refl
     where
       go : (o : Reading Whole) → all ≡ o → Checks H x s t c (record { answer = j .answer }) t″ c″
       go (refused r) e =
+          let says : isRefusal (j .answer) ≡ true = ap isRefusal (read .answers) ∙ rw e in
           record {
             answer = read .answers;
-            tables = tables ∙ tables-filled-alike t′ t same ∙ rw e;
-            choices = choices ∙ filled-alike unsignedFill c′ c many ∙ rw e;
+            tables = tables ∙ ap kept says ∙ tables-filled-alike t′ t same ∙ rw e;
+            choices = choices ∙ ap kept-choices says ∙ filled-alike unsignedFill c′ c many ∙ rw e;
           }
       go (good w) e =
-          let kept : isRefusal (checkedFrom all t c .answer) ≡ false = rw e (verdict-kept solutionFile (verdictOf (w .files) (w .choices))) in
-          let z : true ≡ false = sym refuses ∙ ap isRefusal (read .answers) ∙ kept in
-          let zero : _≡_ {A = ℕ} 0 1 = cc in
-          absurd (omega arith)
-
-  pub check-read : isRefusal (j .answer) ≡ false → Checks H x s t c (record { answer = j .answer }) t′ c′
-  unfolding checked
-  check-read gives = go all refl
-    where
-      go : (o : Reading Whole) → all ≡ o → Checks H x s t c (record { answer = j .answer }) t′ c′
-      go (refused r) e =
-          let kept : isRefusal (checkedFrom all t c .answer) ≡ true = rw e in
-          let z : true ≡ false = sym kept ∙ ap isRefusal (sym (read .answers)) ∙ gives in
-          let zero : _≡_ {A = ℕ} 0 1 = cc in
-          absurd (omega arith)
-      go (good w) e =
+          let says : isRefusal (j .answer) ≡ false = ap isRefusal (read .answers) ∙ rw e (verdict-kept solutionFile (verdictOf (w .files) (w .choices))) in
           record {
             answer = read .answers;
-            tables = read .writes w e .0 ∙ rw e;
-            choices = read .writes w e .1 ∙ rw e;
+            tables = tables ∙ ap kept says ∙ read .writes w e .0 ∙ rw e;
+            choices = choices ∙ ap kept-choices says ∙ read .writes w e .1 ∙ rw e;
           }

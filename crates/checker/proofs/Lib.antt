@@ -2,4 +2,3 @@ pub mod Shown
 pub mod CheckWays
 pub mod ReportWays
 pub mod Unique
-pub mod DemandThree

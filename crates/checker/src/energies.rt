@@ -37,20 +37,16 @@ pub fn energy(
         curves,
     );
     let answer = report.answer;
-    if refusals::is_accepted(answer) {
-        return report;
-    }
-    fill::signed(curves);
-    if refusals::is_refusal(answer) {
-        refusals::fill_tables(
-            legs,
-            configurations,
-            profile_table,
-            samples,
-            constraint_table,
-            tracks,
-        );
-        fill::unsigned(choices);
-    }
+    refusals::empty_tables(
+        answer,
+        legs,
+        configurations,
+        profile_table,
+        samples,
+        constraint_table,
+        tracks,
+    );
+    refusals::empty_choices(answer, choices);
+    refusals::empty_curves(answer, curves);
     report
 }

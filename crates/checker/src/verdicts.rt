@@ -39,16 +39,15 @@ pub fn check(
         choices,
     );
     let answer = judged.answer;
-    if refusals::is_refusal(answer) {
-        refusals::fill_tables(
-            legs,
-            configurations,
-            profile_table,
-            samples,
-            constraint_table,
-            tracks,
-        );
-        fill::unsigned(choices);
-    }
+    refusals::empty_tables(
+        answer,
+        legs,
+        configurations,
+        profile_table,
+        samples,
+        constraint_table,
+        tracks,
+    );
+    refusals::empty_choices(answer, choices);
     Checked { answer }
 }

@@ -1,4 +1,4 @@
--- Each way out of a merge of two accepted solutions: 17, 16, or the text. Assumes nothing.
+-- The ways out of a merge of two accepted solutions: 17, 16, or the text. Assumes nothing.
 use Prim.Native.Nat.{ℕ, _≤_, _<_}
 use mathlib.Core.Path.{_≡_, refl, sym, ap, ap₂, _∙_, subst}
 use mathlib.Core.Bool.{Bool, true, false, _&&_}
@@ -9,12 +9,13 @@ use lib.Dec.{leb}
 use lib.ListN.{length}
 use borrow.Author.Tests.{leb-true}
 use Rattle.rules.specs.Limits.{mostText}
-use Rattle.rules.specs.Answers.{refusal, unequalTravel, noRoom, noFile, solutionFile, secondFile}
+use Rattle.rules.specs.Answers.{refusal, unequalTravel, noRoom, noFile, solutionFile, secondFile, isAccepted}
 use Rattle.rules.specs.Rows.{placeOfRow}
 use Rattle.rules.specs.Reading.{Files}
 use Rattle.rules.specs.Merge.{unequalFrom, chosen, textOf}
 use Rattle.rules.specs.Entries.{roomsOf, writtenTables, writtenChoices, mergeFitted, mergeTravel}
 use Rattle.rules.specs.declared.answers.Refusal.{Refusal}
+use Rattle.rules.specs.declared.answers.Answer.{Answer}
 use Rattle.rules.specs.declared.answers.Answer.the-variants.{Accepted, Refused}
 use Rattle.laws.proofs.DocumentWords.{and-first}
 use Rattle.laws.proofs.GoodFiles.{choices-good}
@@ -29,6 +30,7 @@ use Rattle.writer.specs.declared.merge.Travels.the-variants.{Equal, UnequalAt}
 use Rattle.writer.proofs.Writing.{written-length}
 use Rattle.writer.proofs.Filled.{unequal-seen, merged-fits, merged-whole}
 use Rattle.merging.specs.declared.Merged.{Merged}
+use Rattle.merging.specs.Order.{travelAnswer, roomAnswer, firstOf}
 use Rattle.merging.specs.Left.{notWritten, Made, Mergeable, bothOf, mergedEqual}
 use Rattle.merging.proofs.Standing.{never}
 
@@ -72,7 +74,7 @@ module _ {counts : Counts} {second legs configurations choices secondChoices : L
   module _ (d : Direction) (text : List ℕ) {v : Travels}
       (told : v ≡ travelsOf (unequalFrom 0 (configurationsIn (counts .legs) choices) (configurationsIn (counts .legs) secondChoices))) where
     -- 17
-    pub unequal-way : {row : ℕ} {x : Refusal} {r : Merged} {text′ : List ℕ} → v ≡ UnequalAt row → x ≡ refusal unequalTravel secondFile (placeOfRow second row)
+    unequal-way : {row : ℕ} {x : Refusal} {r : Merged} {text′ : List ℕ} → v ≡ UnequalAt row → x ≡ refusal unequalTravel secondFile (placeOfRow second row)
         → r ≡ notWritten (Refused x) → Made (mergedEqual k d text) r text′
     unequal-way {row} {x} {r} {text′} e q s =
         subst (λ o. Made (mergeTravel (k .left .lent) (k .lent) (k .lentSecond) text second (mergeOf d) o (bothOf k)) r text′)
@@ -108,12 +110,46 @@ module _ {counts : Counts} {second legs configurations choices secondChoices : L
           (subst (λ b. Made (mergeFitted (k .left .lent) (k .lent) (k .lentSecond) text b (written d) (bothOf k)) r text′) fits-seen m)
 
       -- the text
-      pub text-way : fits ≡ true → Made (mergedEqual k d text) (record { answer = Accepted; length = n }) text′
+      text-way : fits ≡ true → Made (mergedEqual k d text) (record { answer = Accepted; length = n }) text′
       text-way h =
           let room : n ≤ length text = leb-true n (length text) (and-first (leb n (length text)) (leb n mostText) (sym fits-at ∙ h)) in
           let whole = merged-whole (f .rows) (k .left .lent .legs) (k .left .lent .configurations) (k .a) (k .b) (k .lent) (k .lentSecond) a-many b-many d text text′ n put-left small room in
           fitted (rw h (record { answer = refl; size = whole .0; puts = λ z. whole .1 }))
 
       -- 16
-      pub room-way : {x : Refusal} {r : Merged} → fits ≡ false → x ≡ refusal noRoom noFile 0 → r ≡ notWritten (Refused x) → Made (mergedEqual k d text) r text′
+      room-way : {x : Refusal} {r : Merged} → fits ≡ false → x ≡ refusal noRoom noFile 0 → r ≡ notWritten (Refused x) → Made (mergedEqual k d text) r text′
       room-way h q s = fitted (rw (h, s, q) (record { answer = refl; size = refl; puts = λ z. never (sym z) }))
+
+    -- one and two: the answers of the two tests
+    module _ {text′ : List ℕ} {n : ℕ} (small : length text < lastPlace) (put : Written text 0 (textOf (mergedIn d (counts .legs) legs configurations choices secondChoices)) text′ n)
+        {one two answer : Answer} (one-is : one ≡ travelAnswer second v) (two-is : two ≡ roomAnswer (leb n (length text′) && leb n mostText)) (first : answer ≡ firstOf one two) where
+      abbrev Ends : Type 0
+      Ends =
+          (isAccepted answer ≡ true → Made (mergedEqual k d text) (record { answer = answer; length = n }) text′)
+          × (isAccepted answer ≡ false → Made (mergedEqual k d text) (notWritten answer) text′)
+
+      -- both tests passed, or one of them did not
+      ends-accepted : answer ≡ Accepted → Made (mergedEqual k d text) (record { answer = Accepted; length = n }) text′ → Ends
+      ends-accepted e m = (λ h. subst (λ a. Made (mergedEqual k d text) (record { answer = a; length = n }) text′) (sym e) m, λ h. never (sym (ap isAccepted e) ∙ h))
+
+      ends-refused : {x : Refusal} → answer ≡ Refused x → Made (mergedEqual k d text) (notWritten (Refused x)) text′ → Ends
+      ends-refused e m = (λ h. never (sym h ∙ ap isAccepted e), λ h. subst (λ a. Made (mergedEqual k d text) (notWritten a) text′) (sym e) m)
+
+      ends : Ends
+      ends = go v refl
+        where
+          room : v ≡ Equal → (fits : Bool) → (leb n (length text′) && leb n mostText) ≡ fits → Ends
+          room e true h =
+              ends-accepted (first ∙ (λ j. firstOf ((one-is ∙ ap (travelAnswer second) e) j) ((two-is ∙ ap roomAnswer h) j))) (text-way e small put refl h)
+          room e false h =
+              ends-refused (first ∙ (λ j. firstOf ((one-is ∙ ap (travelAnswer second) e) j) ((two-is ∙ ap roomAnswer h) j))) (room-way e small put refl h refl refl)
+
+          go : (w : Travels) → v ≡ w → Ends
+          go (UnequalAt row) e = ends-refused (first ∙ (λ j. firstOf ((one-is ∙ ap (travelAnswer second) e) j) two)) (unequal-way e refl refl)
+          go Equal e = room e (leb n (length text′) && leb n mostText) refl
+
+      pub text-ends : isAccepted answer ≡ true → Made (mergedEqual k d text) (record { answer = answer; length = n }) text′
+      text-ends = ends .0
+
+      pub refusal-ends : isAccepted answer ≡ false → {r : Merged} → r ≡ notWritten answer → Made (mergedEqual k d text) r text′
+      refusal-ends h {r} e = subst (λ q. Made (mergedEqual k d text) q text′) (sym e) (ends .1 h)

@@ -114,22 +114,17 @@ pub fn merge(
         text,
     );
     let answer = made.answer;
-    if refusals::is_accepted(answer) {
-        return made;
-    }
-    fill::bytes(text);
-    if refusals::is_refusal(answer) {
-        refusals::fill_tables(
-            legs,
-            configurations,
-            profile_table,
-            samples,
-            constraint_table,
-            tracks,
-        );
-        fill::unsigned(choices);
-        fill::unsigned(second_choices);
-        return made;
-    }
+    refusals::empty_tables(
+        answer,
+        legs,
+        configurations,
+        profile_table,
+        samples,
+        constraint_table,
+        tracks,
+    );
+    refusals::empty_choices(answer, choices);
+    refusals::empty_choices(answer, second_choices);
+    refusals::empty_text(answer, text);
     made
 }

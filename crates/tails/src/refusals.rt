@@ -1,8 +1,9 @@
-// After a refusal each lent table holds only a number that no field can have (demand 1): the tables of the files in one place.
+// What an answer leaves in what was lent: after a refusal each table holds only a number that no field can have (demand 1),
+// and curves and texts stand only where the answer is accepted.
 ghost use mathlib.Core.Path.{_≡_};
 ghost use Rattle.rules.specs.Answers.{isRefusal, isAccepted};
-ghost use Rattle.rules.specs.Entries.{filledTables};
 ghost use Rattle.files.specs.Promise.{tables};
+ghost use Rattle.tails.specs.After.{tablesAfter, choicesAfter, curvesAfter, textAfter};
 use rules::answers::Answer;
 
 pub fn is_refusal(answer: Answer) -> bool
@@ -25,7 +26,8 @@ pub fn is_accepted(answer: Answer) -> bool
     }
 }
 
-pub fn fill_tables(
+pub fn empty_tables(
+    answer: Answer,
     legs: &mut [u32],
     configurations: &mut [u32],
     profiles: &mut [u32],
@@ -33,12 +35,40 @@ pub fn fill_tables(
     constraints: &mut [u32],
     tracks: &mut [u32],
 )
-    ensures { λ _. ⌜ tables (now (legs .exit)) (now (configurations .exit)) (now (profiles .exit)) (now (samples .exit)) (now (constraints .exit)) (now (tracks .exit)) ≡ filledTables (tables (now (legs .entry)) (now (configurations .entry)) (now (profiles .entry)) (now (samples .entry)) (now (constraints .entry)) (now (tracks .entry))) ⌝ }
+    ensures { λ _. ⌜ tables (now (legs .exit)) (now (configurations .exit)) (now (profiles .exit)) (now (samples .exit)) (now (constraints .exit)) (now (tracks .exit)) ≡ tablesAfter answer (tables (now (legs .entry)) (now (configurations .entry)) (now (profiles .entry)) (now (samples .entry)) (now (constraints .entry)) (now (tracks .entry))) ⌝ }
 {
-    fill::unsigned(legs);
-    fill::unsigned(configurations);
-    fill::unsigned(profiles);
-    fill::signed(samples);
-    fill::unsigned(constraints);
-    fill::unsigned(tracks);
+    if is_refusal(answer) {
+        fill::unsigned(legs);
+        fill::unsigned(configurations);
+        fill::unsigned(profiles);
+        fill::signed(samples);
+        fill::unsigned(constraints);
+        fill::unsigned(tracks);
+    }
+}
+
+pub fn empty_choices(answer: Answer, choices: &mut [u32])
+    ensures { λ _. ⌜ now (choices .exit) ≡ choicesAfter answer (now (choices .entry)) ⌝ }
+{
+    if is_refusal(answer) {
+        fill::unsigned(choices);
+    }
+}
+
+pub fn empty_curves(answer: Answer, curves: &mut [i32])
+    ensures { λ _. ⌜ now (curves .exit) ≡ curvesAfter answer (now (curves .entry)) ⌝ }
+{
+    if is_accepted(answer) {
+        return;
+    }
+    fill::signed(curves);
+}
+
+pub fn empty_text(answer: Answer, text: &mut [u8])
+    ensures { λ _. ⌜ now (text .exit) ≡ textAfter answer (now (text .entry)) ⌝ }
+{
+    if is_accepted(answer) {
+        return;
+    }
+    fill::bytes(text);
 }

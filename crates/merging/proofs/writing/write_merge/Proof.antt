@@ -1,9 +1,10 @@
--- `merging::writing::write_merge` meets its contract: 17, 16, or the text, each by its law. Assumes nothing.
+-- `merging::writing::write_merge` meets its contract: the text, 17 or 16, by its law. Assumes nothing.
 use Prim.Native.Nat.{_<_}
+use mathlib.Core.Path.{sym, _∙_}
 use native.Mathlib.Omega.{arith}
 use lib.ListN.{length}
 use Rattle.writer.specs.Written.{lastPlace}
-use Rattle.merging.proofs.Texts.{second-short, unequal-way, text-way, room-way}
+use Rattle.merging.proofs.Texts.{second-short, text-ends, refusal-ends}
 use borrow.Author.Needs.{needs}
 use Rattle.merging.proofs.writing.write_merge.Statement.{statement}
 use Rattle.merging.proofs.writing.write_merge.Tie as tie
@@ -11,68 +12,54 @@ use Rattle.merging.proofs.writing.write_merge.Tie as tie
 unequal-requires : tie.Need-unequal-requires
 unequal-requires c κs = search needs
 
-enum-known-row : tie.Need-enum-known-row
-enum-known-row c = search needs
-
-row-refusal-requires : tie.Need-row-refusal-requires
-row-refusal-requires c κs = second-short ((c .before .before .before .before .before .before .before .before .before .before) .pre)
-
-not-written-requires : tie.Need-not-written-requires
-not-written-requires c κs = search needs
-
-enum-told : tie.Need-enum-told
-enum-told c = search needs
-
 put-merged-requires : tie.Need-put-merged-requires
 put-merged-requires c κs = search needs
 
-fits-requires : tie.Need-fits-requires
-fits-requires c κs = search needs
+of-travels-requires : tie.Need-of-travels-requires
+of-travels-requires c κs = second-short (c .before .before .before .before .before .before .before .before .before .before .before .pre)
+
+of-room-requires : tie.Need-of-room-requires
+of-room-requires c κs = search needs
+
+first-of-requires : tie.Need-first-of-requires
+first-of-requires c κs = search needs
+
+is-accepted-requires : tie.Need-is-accepted-requires
+is-accepted-requires c κs = search needs
 
 same-length : tie.Need-same-length
 same-length c = search needs
 
 returns : tie.Need-returns
 returns c = λ k.
-    let s = (c .before .before .before .before .before .before .before .before .before .before .before .before .before .before .before) in
+    let s = c .before .before .before .before .before .before .before .before .before .before .before .before .before .before .before .before in
     let small : length (s .args .text .now) < lastPlace = omega (arith, s .good .1 .1 .1 .1 .1 .1 .1 .0 .1) in
-    text-way k (s .args .direction) (s .args .text .now) (c .before .before .before .before .before .before .before .before .unequal .ensures) (c .before .before .before .before .before .before .enum-told .given .1) small (c .before .before .before .before .put-merged .ensures) (c .before .fits2 .ensures) (c .if1 .taken)
+    text-ends k (s .args .direction) (s .args .text .now) (c .before .before .before .before .before .before .before .before .before .unequal .ensures) small (c .before .before .before .before .before .before .before .put-merged .ensures) (c .before .before .before .before .of-travels .ensures) (c .before .before .before .of-room .ensures) (c .before .before .first-of .ensures) (sym (c .before .is-accepted .ensures) ∙ c .if1 .taken)
 
-new-requires : tie.Need-new-requires
-new-requires c κs = search needs
-
-not-written-requires-2 : tie.Need-not-written-requires-2
-not-written-requires-2 c κs = search needs
-
-returns-2 : tie.Need-returns-2
-returns-2 c = λ k.
-    let s = (c .before .before .before .before .before .before .before .before .before .before .before .before) in
-    unequal-way k (s .args .direction) (s .args .text .now) (c .before .before .before .before .before .unequal .ensures) (c .before .before .before .row .given .1) (c .before .row-refusal .ensures) (c .not-written .ensures)
+not-written-requires : tie.Need-not-written-requires
+not-written-requires c κs = search needs
 
 same-length-2 : tie.Need-same-length-2
 same-length-2 c = search needs
 
-returns-3 : tie.Need-returns-3
-returns-3 c = λ k.
-    let s = (c .before .before .before .before .before .before .before .before .before .before .before .before .before .before .before .before .before) in
+returns-2 : tie.Need-returns-2
+returns-2 c = λ k.
+    let s = c .before .before .before .before .before .before .before .before .before .before .before .before .before .before .before .before .before in
     let small : length (s .args .text .now) < lastPlace = omega (arith, s .good .1 .1 .1 .1 .1 .1 .1 .0 .1) in
-    room-way k (s .args .direction) (s .args .text .now) (c .before .before .before .before .before .before .before .before .before .before .unequal .ensures) (c .before .before .before .before .before .before .before .before .enum-told .given .1) small (c .before .before .before .before .before .before .put-merged .ensures) (c .before .before .before .fits2 .ensures) (c .before .before .if1 .left) (c .before .new .ensures) (c .not-written2 .ensures)
+    refusal-ends k (s .args .direction) (s .args .text .now) (c .before .before .before .before .before .before .before .before .before .before .unequal .ensures) small (c .before .before .before .before .before .before .before .before .put-merged .ensures) (c .before .before .before .before .before .of-travels .ensures) (c .before .before .before .before .of-room .ensures) (c .before .before .before .first-of .ensures) (sym (c .before .before .is-accepted .ensures) ∙ c .before .if1 .left) (c .not-written .ensures)
 
 pub write-merge-spec : {M : Type 1} → statement M
 write-merge-spec =
     tie.close
     (tie.spec
     unequal-requires
-    enum-known-row
-    row-refusal-requires
-    not-written-requires
-    enum-told
     put-merged-requires
-    fits-requires
+    of-travels-requires
+    of-room-requires
+    first-of-requires
+    is-accepted-requires
     same-length
     returns
-    new-requires
-    not-written-requires-2
-    returns-2
+    not-written-requires
     same-length-2
-    returns-3)
+    returns-2)

@@ -1,8 +1,13 @@
--- `tails::refusals::fill_tables` meets its contract: table by table. Assumes nothing.
+-- `tails::refusals::empty_tables` meets its contract: table by table. Assumes nothing.
 use borrow.Author.Needs.{needs}
 use Rattle.laws.proofs.OneOutcome.{same-tables}
-use Rattle.tails.proofs.refusals.fill_tables.Statement.{statement}
-use Rattle.tails.proofs.refusals.fill_tables.Tie as tie
+use Rattle.files.specs.Promise.{tables}
+use Rattle.tails.proofs.Filled.{refusal-fills, no-refusal-keeps}
+use Rattle.tails.proofs.refusals.empty_tables.Statement.{statement}
+use Rattle.tails.proofs.refusals.empty_tables.Tie as tie
+
+is-refusal-requires : tie.Need-is-refusal-requires
+is-refusal-requires c κs = search needs
 
 unsigned-requires : tie.Need-unsigned-requires
 unsigned-requires c κs = search needs
@@ -42,7 +47,9 @@ same-length-6 c = search needs
 
 returns : tie.Need-returns
 returns c =
-    same-tables _ _
+    let s = c .before .before .before .before .before .before .before .before .before .before .before .before .before .before .before .before .before .before .before .before .before .before .before .before .before .before .before .before .before .before .args in
+    refusal-fills (s .answer) (tables (s .legs .now) (s .configurations .now) (s .profiles .now) (s .samples .now) (s .constraints .now) (s .tracks .now)) (c .before .before .before .before .before .before .before .before .before .before .before .before .before .before .before .before .before .before .before .before .before .before .before .before .is-refusal .ensures) (c .before .before .before .before .before .before .before .before .before .before .before .before .before .before .before .before .before .before .before .before .before .before .before .if1 .taken)
+    (same-tables _ _
     (record {
       legs = c .before .before .before .before .before .before .before .before .before .before .before .before .before .before .before .before .before .before .before .before .before .unsigned .ensures;
       configurations = c .before .before .before .before .before .before .before .before .before .before .before .before .before .before .before .before .before .unsigned2 .ensures;
@@ -50,12 +57,16 @@ returns c =
       samples = c .before .before .before .before .before .before .before .before .before .signed .ensures;
       constraints = c .before .before .before .before .before .before .unsigned4 .ensures;
       tracks = c .before .before .unsigned5 .ensures;
-    })
+    }))
 
-pub fill-tables-spec : {M : Type 1} → statement M
-fill-tables-spec =
+returns-2 : tie.Need-returns-2
+returns-2 c = let s = c .before .before .before .before .before .before .before .args in no-refusal-keeps (s .answer) (tables (s .legs .now) (s .configurations .now) (s .profiles .now) (s .samples .now) (s .constraints .now) (s .tracks .now)) (c .before .is-refusal .ensures) (c .if1 .left)
+
+pub empty-tables-spec : {M : Type 1} → statement M
+empty-tables-spec =
     tie.close
     (tie.spec
+    is-refusal-requires
     unsigned-requires
     unsigned-requires-2
     unsigned-requires-3
@@ -68,4 +79,5 @@ fill-tables-spec =
     same-length-4
     same-length-5
     same-length-6
-    returns)
+    returns
+    returns-2)

@@ -28,7 +28,7 @@ use Rattle.laws.proofs.DemandTwo.{answer-accepted, checked-answer}
 use Rattle.laws.proofs.DemandThree.{demand-three}
 use Rattle.merging.specs.declared.Merged.{Merged}
 use Rattle.merging.specs.Promise.{Merges}
-use Rattle.checker.specs.DemandThree.{Accepts, Wrote, BothWritten, Laid, CurvesAddUp, Absorbs, MergesHold}
+use Rattle.demands.specs.DemandThree.{Accepts, Wrote, BothWritten, Laid, CurvesAddUp, Absorbs, MergesHold}
 
 -- what an outcome that keeps a merge's promise wrote
 module _ (H : ℕ) (x : Texts) (t : Tables) (c : List ℕ) (f : Files) where

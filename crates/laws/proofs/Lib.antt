@@ -32,9 +32,10 @@ pub mod Verdicts
 pub mod Tests
 pub mod Merges
 pub mod Curves
--- Energy: sums in every order, bounds, and the curve table made in place
+-- Energy: sums in every order, peaks, bounds, and the curve table made in place
 pub mod Runs
 pub mod Energies
+pub mod Peaks
 pub mod Recuperation
 pub mod Bounds
 pub mod Laying

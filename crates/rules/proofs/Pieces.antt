@@ -1,14 +1,12 @@
 -- Pieces between separators and texts joined from pieces: each undoes the other; where a piece starts. Assumes nothing.
-use Prim.Native.Nat.{ℕ, zero, suc, _+_, _≤_, _<_}
+use Prim.Native.Nat.{ℕ, zero, suc, _+_, _≤_}
 use mathlib.Core.Path.{_≡_, refl, ap, sym, _∙_}
 use mathlib.Core.List.{List, [], _∷_, _++_, append-assoc, append-nil}
 use mathlib.Core.Bool.{Bool, true, false, cond}
 use native.Mathlib.Omega.{arith}
-use native.Mathlib.Numerals.{one-add}
-use native.Mathlib.Nat.{suc-add}
 use lib.Dec.{eqb}
-use lib.ListN.{length, getD, take, drop, length-append}
-use lib.Seq.{take-append-le, take-append-seam}
+use lib.ListN.{length, take, length-append}
+use lib.Seq.{take-append-le}
 use borrow.Author.Tests.{eqb-true, eqb-false, eq-eqb, ne-eqb}
 use Rattle.rules.specs.Lists.{flat}
 use Rattle.rules.specs.Bytes.{lineFeed, onto, splitOn, joined, startOf}
@@ -63,7 +61,7 @@ split-ended sep (p ∷ ps) h =
     rw (append-assoc p (sep ∷ []) (flat (ended sep) ps)) (split-front sep p (flat (ended sep) ps) (h .0) ∙ ap (λ (r : List (List ℕ)). p ∷ r) (split-ended sep ps (h .1)))
 
 -- lines that are each ended by LF are a text's pieces, and a last empty one
-pub split-lines : (lines : List (List ℕ)) → All (Free lineFeed) lines → splitOn lineFeed (flat (ended lineFeed) lines) ≡ lines ++ [] ∷ []
+split-lines : (lines : List (List ℕ)) → All (Free lineFeed) lines → splitOn lineFeed (flat (ended lineFeed) lines) ≡ lines ++ [] ∷ []
 split-lines = split-ended lineFeed
 
 -- ---- joining what was split
@@ -108,37 +106,10 @@ joined-free sep other (p ∷ q ∷ ps) n h =
 -- ---- where a piece starts
 
 -- what is in front of a piece: the pieces before it, each ended by the separator
-pub start-length : (sep k : ℕ) (ps : List (List ℕ)) → k ≤ length ps → startOf k ps ≡ length (flat (ended sep) (take k ps))
+start-length : (sep k : ℕ) (ps : List (List ℕ)) → k ≤ length ps → startOf k ps ≡ length (flat (ended sep) (take k ps))
 start-length sep zero ps h = refl
 start-length sep (suc k) [] h = absurd (omega arith)
 start-length sep (suc k) (p ∷ ps) h = simp length-append (rw (start-length sep k ps (omega arith)))
-
--- a piece that follows others starts after them
-pub start-after : (sep : ℕ) (before ps : List (List ℕ)) → startOf (length before) (before ++ ps) ≡ length (flat (ended sep) before)
-start-after sep before ps =
-    start-length sep (length before) (before ++ ps) (rw (length-append before ps) (omega arith)) ∙ rw (take-append-seam before ps)
-
--- the next piece starts after this one and the separator
-pub start-next : (k : ℕ) (ps : List (List ℕ)) → k < length ps → startOf (suc k) ps ≡ startOf k ps + length (getD ps k []) + 1
-start-next zero [] h = absurd (omega arith)
-start-next zero (p ∷ ps) h = omega arith
-start-next (suc k) [] h = absurd (omega arith)
-start-next (suc k) (p ∷ ps) h = let q : startOf (suc k) ps ≡ startOf k ps + length (getD ps k []) + 1 = start-next k ps (omega arith) in omega arith
-
-drop-past : (sep : ℕ) (p s : List ℕ) (n : ℕ) → drop (length p + 1 + n) (p ++ sep ∷ s) ≡ drop n s
-drop-past sep [] s n = rw (one-add n)
-drop-past sep (b ∷ p) s n = rw (suc-add (length p) 1, suc-add (length p + 1) n) (drop-past sep p s n)
-
--- from where piece k starts the text is that piece and those after it, joined
-pub from-start : (sep k : ℕ) (ps : List (List ℕ)) → k < length ps → drop (startOf k ps) (joined sep ps) ≡ joined sep (drop k ps)
-from-start sep zero ps h = refl
-from-start sep (suc k) [] h = absurd (omega arith)
-from-start sep (suc k) (p ∷ []) h = absurd (omega arith)
-from-start sep (suc k) (p ∷ q ∷ ps) h = drop-past sep p (joined sep (q ∷ ps)) (startOf k (q ∷ ps)) ∙ from-start sep k (q ∷ ps) (omega arith)
-
--- the text from where its piece k starts
-pub split-start : (sep k : ℕ) (s : List ℕ) → k < length (splitOn sep s) → drop (startOf k (splitOn sep s)) s ≡ joined sep (drop k (splitOn sep s))
-split-start sep k s h = rw joined-split at (from-start sep k (splitOn sep s) h)
 
 -- ---- where a row starts
 

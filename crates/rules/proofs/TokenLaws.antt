@@ -12,7 +12,7 @@ use lib.ListN.{length, getD, drop, length-drop}
 use lib.Seq.{drop-cons, drop-length, drop-drop}
 use Rattle.rules.specs.Lists.{lead, isSome}
 use Rattle.rules.specs.Tokens.{Token, token, isWhite, quote, signOf, inRun, inString, stringToken, runToken, signToken, tokenAt, tokensFrom, tokensOf}
-use Rattle.rules.specs.Constraints.{classNumber, past}
+use Rattle.rules.specs.Constraints.{classNumber}
 use Rattle.rules.specs.declared.tokens.Class.{Class}
 use Rattle.rules.specs.declared.tokens.Class.the-variants.{Quoted, End, Unclosed, Forbidden}
 use Rattle.rules.proofs.Truth.{by-case}
@@ -178,12 +178,6 @@ pub token-within : (s : List ℕ) (at : ℕ) → at < length s → isWhite (getD
 token-within s at h black =
     let all : suc (length (drop (suc at) s)) ≡ length s - at = omega (arith, length-drop (suc at) s) in
     subst (λ (n : ℕ). Sound n (tokenOf s at)) all (token-sound at (getD s at 0) (drop (suc at) s) black)
-
-pub past-within : (s : List ℕ) (at : ℕ) → at < length s → isWhite (getD s at 0) ≡ false → past (tokenOf s at) ≤ length s
-past-within s at h black =
-    let place = place-is at (getD s at 0) (drop (suc at) s) in
-    let sound = token-within s at h black in
-    omega arith
 
 pub end-at : (s : List ℕ) (at : ℕ) → at ≡ length s → tokensAt s at ≡ token End [] (length s) 0 ∷ []
 end-at s at h = rw (h, drop-length s)

@@ -2,7 +2,6 @@
 use Prim.Native.Nat.{ℕ, _+_, _*_}
 use mathlib.Core.List.{List}
 use lib.ListN.{getD}
-use lib.IntN.{ℤ, pos}
 use Rattle.rules.specs.Limits.{legWidth, configurationWidth, profileWidth, constraintWidth, trackWidth}
 use Rattle.rules.specs.Energy.{tabulate}
 use Rattle.rules.specs.Timetable.{configuration}
@@ -16,9 +15,6 @@ use Rattle.rules.specs.declared.sizes.Track.{Track}
 
 abbrev pub numberAt : List ℕ → ℕ → ℕ
 numberAt t i = getD t i 0
-
-abbrev pub sampleAt : List ℤ → ℕ → ℤ
-sampleAt t i = getD t i (pos 0)
 
 -- number k of entry i, where an entry has as many numbers as the width says
 abbrev pub entryAt : (width : ℕ) → List ℕ → ℕ → ℕ → ℕ

@@ -1,25 +1,12 @@
 // Reading the flat tables of document 01 record by record. What lies past the end of a table reads as 0, so nothing is asked of a caller.
 ghost use mathlib.Core.Path.{_≡_};
 ghost use Prim.Native.Nat.{_<_};
-ghost use Rattle.tables.specs.View.{numberAt, sampleAt, entryAt, legAt, configurationAt, profileAt, constraintAt, trackAt};
+ghost use Rattle.tables.specs.View.{entryAt, legAt, configurationAt, profileAt, constraintAt, trackAt};
 use rules::sizes::Configuration;
 use rules::sizes::Constraint;
 use rules::sizes::Leg;
 use rules::sizes::Profile;
 use rules::sizes::Track;
-
-pub fn number_at(t: &[u32], i: usize) -> u32
-    ensures { λ r. ⌜ r ≡ numberAt (now (t .entry)) i ⌝ }
-{
-    if i < t.len() { t[i] } else { 0 }
-}
-
-// A sample, in kilowatts.
-pub fn sample_at(t: &[i32], i: usize) -> i32
-    ensures { λ r. ⌜ r ≡ sampleAt (now (t .entry)) i ⌝ }
-{
-    if i < t.len() { t[i] } else { 0 }
-}
 
 // Number `k` of entry `i`, where an entry has `width` numbers. No product wraps: entries past the end are found by a quotient.
 fn entry_at(width: usize, t: &[u32], i: usize, k: usize) -> u32

@@ -5,9 +5,8 @@ use mathlib.Core.List.{List, [], _∷_}
 use mathlib.Core.Bool.{Bool, true, false, _&&_}
 use native.Mathlib.Omega.{arith}
 use native.Mathlib.Nat.{add-zero}
-use lib.Dec.{leb}
 use lib.ListN.{length, getD, drop}
-use borrow.Author.Tests.{le-leb, lt-leb, leb-true}
+use borrow.Author.Tests.{le-leb, lt-leb}
 use Rattle.rules.specs.Lists.{lead}
 use Rattle.rules.specs.Bytes.{digitZero, digitNine, isDigit, valueFrom}
 use Rattle.text.specs.declared.numbers.Ran.{Ran}
@@ -25,30 +24,14 @@ digit-below b h = rw (lt-leb digitZero b h)
 digit-above : (b : ℕ) → digitZero ≤ b → digitNine < b → isDigit b ≡ false
 digit-above b l h = rw (le-leb digitZero b l, lt-leb b digitNine h)
 
--- ---- both of two tests
-
 pub and-false : (t : Bool) → t && false ≡ false
 and-false true = refl
 and-false false = refl
 
-pub rest-true : (t u : Bool) → t && u ≡ true → u ≡ true
-rest-true true u e = e
-rest-true false u e = let z : _≡_ {A = ℕ} 0 1 = cc in absurd (omega arith)
-
-first-true : (t u : Bool) → t && u ≡ true → t ≡ true
-first-true true u e = refl
-first-true false u e = e
-
-pub digit-most : (b : ℕ) (u : Bool) → isDigit b && u ≡ true → b ≤ digitNine
-digit-most b u e = leb-true b digitNine (rest-true (leb digitZero b) _ (first-true (isDigit b) u e))
-
-pub digit-least : (b : ℕ) (u : Bool) → isDigit b && u ≡ true → digitZero ≤ b
-digit-least b u e = leb-true digitZero b (first-true _ (leb b digitNine) (first-true (isDigit b) u e))
-
 -- ---- the loop of `digits`: the invariant is `ranFrom value next (drop next s) ≡ r`
 
 -- what is capped before a digit need not be told apart after it
-pub value-capped : (ds : List ℕ) (m n : ℕ) → min m pastId ≡ min n pastId → min (valueFrom m ds) pastId ≡ min (valueFrom n ds) pastId
+value-capped : (ds : List ℕ) (m n : ℕ) → min m pastId ≡ min n pastId → min (valueFrom m ds) pastId ≡ min (valueFrom n ds) pastId
 value-capped [] m n e = e
 value-capped (b ∷ ds) m n e = value-capped ds (m * 10 + (b - digitZero)) (n * 10 + (b - digitZero)) (omega arith)
 

@@ -1,19 +1,18 @@
--- Taking a text apart at its separators: the loops of `find` and `count_pieces`, and the pieces at the place that `find` gives.
--- Assumes nothing.
+-- Taking a text apart at its separators: the loop of `find`, and the pieces at the place that it gives. Assumes nothing.
 use Prim.Native.Nat.{ℕ, suc, _+_, _-_, _≤_, _<_}
 use mathlib.Core.Path.{_≡_, refl, ap, _∙_}
 use mathlib.Core.List.{List, [], _∷_}
 use mathlib.Core.Bool.{Bool, true, false, not, cond}
 use native.Mathlib.Omega.{arith}
 use native.Mathlib.Numerals.{add-one}
-use lib.ListN.{length, getD, take, drop, drop-of-length-le, length-drop}
-use lib.Seq.{drop-cons, drop-drop, take-all, getD-drop}
-use lib.Dec.{eqb, ltb}
-use borrow.Author.Tests.{eq-eqb, ne-eqb, eqb-true, not-false, ltb-true, ltb-false}
+use lib.ListN.{length, getD, take, drop, length-drop}
+use lib.Seq.{drop-drop}
+use lib.Dec.{eqb}
+use borrow.Author.Tests.{eq-eqb, ne-eqb}
 use Rattle.rules.specs.Lists.{lead}
 use Rattle.rules.specs.Bytes.{onto, splitOn}
 use Rattle.text.specs.Places.{isOther, upTo}
-use Rattle.text.proofs.Runs.{lead-more, lead-stop, lead-end, lead-le, lead-next}
+use Rattle.text.proofs.Runs.{lead-more, lead-stop, lead-end, lead-le}
 
 -- ---- `find`'s loop: the invariant is `i + upTo sep (drop i s) ≡ r`
 
@@ -61,13 +60,6 @@ module _ (s : List ℕ) (sep i e : ℕ) (q : e ≡ i + upTo sep (drop i s)) wher
   pub found-within : i ≤ length s → e ≤ length s
   found-within h = omega (arith, lead-le (isOther sep) (drop i s), length-drop i s)
 
-  -- what stands there is the separator
-  pub found-is : e < length s → getD s e 0 ≡ sep
-  found-is h =
-      let k : upTo sep (drop i s) < length (drop i s) = omega (arith, length-drop i s) in
-      let t : not (eqb (getD (drop i s) (upTo sep (drop i s)) 0) sep) ≡ false = lead-next (isOther sep) (drop i s) 0 k in
-      eqb-true (getD s e 0) sep (rw (q, ← getD-drop i s (upTo sep (drop i s)) 0) (not-false _ t))
-
   -- the piece from i on ends there, and the others start after it
   pub pieces-next : e < length s → splitOn sep (drop i s) ≡ take (e - i) (drop i s) ∷ splitOn sep (drop (e + 1) s)
   pieces-next h =
@@ -78,40 +70,3 @@ module _ (s : List ℕ) (sep i e : ℕ) (q : e ≡ i + upTo sep (drop i s)) wher
   -- the piece from i on is the last
   pub pieces-last : length s ≤ e → splitOn sep (drop i s) ≡ drop i s ∷ []
   pieces-last h = split-last sep (drop i s) (omega (arith, length-drop i s))
-
-  -- either way the first piece from i on ends there
-  pub pieces-cons : (ps : List (List ℕ)) × (splitOn sep (drop i s) ≡ take (e - i) (drop i s) ∷ ps)
-  pieces-cons = go (ltb e (length s)) refl
-    where
-      go : (t : Bool) → ltb e (length s) ≡ t → (ps : List (List ℕ)) × (splitOn sep (drop i s) ≡ take (e - i) (drop i s) ∷ ps)
-      go true l = (splitOn sep (drop (e + 1) s), pieces-next (ltb-true e (length s) l))
-      go false l =
-          let h : length s ≤ e = ltb-false e (length s) l in
-          ([], rw (take-all (e - i) (drop i s) (omega (arith, length-drop i s))) (pieces-last h))
-
--- the part `&s[k..]`
-pub tail : (s : List ℕ) (k : ℕ) → take (length s - k) (drop k s) ≡ drop k s
-tail s k = take-all (length s - k) (drop k s) (omega (arith, length-drop k s))
-
--- ---- `count_pieces`: the invariant is `n + length (splitOn sep (drop i s)) ≡ 1 + r`
-
-pub pieces-some : (sep : ℕ) (s : List ℕ) → 0 < length (splitOn sep s)
-pieces-some sep s = omega (arith, ap length (pieces-cons s sep 0 (0 + upTo sep s) refl .1))
-
-pub onto-length : (b : ℕ) (ps : List (List ℕ)) → 0 < length ps → length (onto b ps) ≡ length ps
-onto-length b [] h = absurd (omega arith)
-onto-length b (p ∷ ps) h = refl
-
-pub count-found : (s : List ℕ) (sep m n i r : ℕ) → n + length (splitOn sep (drop i s)) ≡ r → i < length s → getD s i 0 ≡ sep → m ≡ n + 1
-    → m + length (splitOn sep (drop (i + 1) s)) ≡ r
-count-found s sep m n i r e h q z = rw (add-one i) (omega (arith, rw (drop-cons s i 0 h, eq-eqb (getD s i 0) sep q) at e))
-
-pub count-passed : (s : List ℕ) (sep m n i r : ℕ) → n + length (splitOn sep (drop i s)) ≡ r → i < length s → (getD s i 0 ≡ sep → ⊥) → m ≡ n
-    → m + length (splitOn sep (drop (i + 1) s)) ≡ r
-count-passed s sep m n i r e h q z =
-    let after : List ℕ = drop (suc i) s in
-    rw (add-one i)
-    (omega (arith, rw (drop-cons s i 0 h, ne-eqb (getD s i 0) sep q) at e, onto-length (getD s i 0) (splitOn sep after) (pieces-some sep after)))
-
-pub count-end : (s : List ℕ) (sep n i r : ℕ) → n + length (splitOn sep (drop i s)) ≡ 1 + r → length s ≤ i → n ≡ r
-count-end s sep n i r e h = omega (arith, rw (drop-of-length-le s h) at e)

@@ -3,4 +3,3 @@ pub mod Laws
 pub mod Names
 pub mod Digits
 pub mod Values
-pub mod Decimals

@@ -55,14 +55,3 @@ module _ {A : Type 0} (p : A → Bool) where
       go : (t : Bool) → length (cond t (x ∷ lead p s) []) < suc (length s) → (length (lead p s) < length s → every p s ≡ false) → t && every p s ≡ false
       go true k ih = ih (omega arith)
       go false k ih = refl
-
-  -- the element after the beginning does not pass
-  pub lead-next : (s : List A) (d : A) → length (lead p s) < length s → p (getD s (length (lead p s)) d) ≡ false
-  lead-next [] d h = absurd (omega arith)
-  lead-next (x ∷ s) d h = go (p x) refl h (lead-next s d)
-    where
-      go : (t : Bool) → p x ≡ t → length (cond t (x ∷ lead p s) []) < suc (length s)
-          → (length (lead p s) < length s → p (getD s (length (lead p s)) d) ≡ false)
-          → p (getD (x ∷ s) (length (cond t (x ∷ lead p s) [])) d) ≡ false
-      go true e k ih = ih (omega arith)
-      go false e k ih = e

@@ -1,27 +1,15 @@
-// Digits, whole numbers and decimals. A number past the greatest id is out of range everywhere, so all of those are one: no count of digits wraps.
+// Digits and whole numbers. A number past the greatest id is out of range everywhere, so all of those are one: no count of digits wraps.
 ghost use mathlib.Core.Path.{_≡_};
-ghost use Prim.Native.Nat.{_+_, _*_, min};
-ghost use mathlib.Core.Option.{some};
+ghost use Prim.Native.Nat.{min};
 ghost use lib.ListN.{drop};
-ghost use Rattle.rules.specs.Bytes.{plain, splitOn, point, wholeOf, thousandthsOf, decimalOf, sampleOf};
-ghost use Rattle.text.specs.Held.{pastId, ranFrom, wholeHeld, combined, signedHeld, sampleHeld};
-use crate::pieces;
+ghost use Rattle.rules.specs.Bytes.{plain, wholeOf};
+ghost use Rattle.text.specs.Held.{pastId, ranFrom, wholeHeld};
 use rules::sizes::Id;
-use rules::sizes::Sample;
-use rules::sizes::SampleMade;
 
 // What a text says as a whole number.
 pub enum Whole {
     Number(u32),
     // Past the greatest id.
-    Beyond,
-    Malformed,
-}
-
-// What a text says as a sample, which is written in megawatts with a point.
-pub enum Decimal {
-    Kw(i32),
-    // Of more than the greatest size.
     Beyond,
     Malformed,
 }
@@ -90,97 +78,4 @@ pub fn read_whole(s: &[u8]) -> Whole
         return Whole::Beyond;
     }
     Whole::Number(ran.value)
-}
-
-// One to three digits after the point, as thousandths.
-fn read_thousandths(s: &[u8]) -> Whole
-    ensures { λ r. ⌜ r ≡ wholeHeld (thousandthsOf (now (s .entry))) ⌝ }
-{
-    if s.len() < 1 {
-        return Whole::Malformed;
-    }
-    if 3 < s.len() {
-        return Whole::Malformed;
-    }
-    let ran = digits(s, 0, 0);
-    if ran.next < s.len() {
-        return Whole::Malformed;
-    }
-    if s.len() == 1 {
-        return Whole::Number(ran.value * 100);
-    }
-    if s.len() == 2 {
-        return Whole::Number(ran.value * 10);
-    }
-    Whole::Number(ran.value)
-}
-
-fn in_thousandths(n: u32, k: u32) -> Whole
-    ensures { λ r. ⌜ r ≡ wholeHeld (some (n * 1_000 + k)) ⌝ }
-{
-    let thousandths = (n as u64) * 1_000 + (k as u64);
-    if (Id::MOST as u64) < thousandths {
-        return Whole::Beyond;
-    }
-    Whole::Number(thousandths as u32)
-}
-
-// A whole number and the thousandths after its point, as thousandths.
-fn combine(whole: Whole, part: Whole) -> Whole
-    ensures { λ r. ⌜ r ≡ combined whole part ⌝ }
-{
-    match whole {
-        Whole::Malformed => Whole::Malformed,
-        Whole::Beyond => match part {
-            Whole::Malformed => Whole::Malformed,
-            Whole::Beyond => Whole::Beyond,
-            Whole::Number(_) => Whole::Beyond,
-        },
-        Whole::Number(n) => match part {
-            Whole::Malformed => Whole::Malformed,
-            Whole::Beyond => Whole::Beyond,
-            Whole::Number(k) => in_thousandths(n, k),
-        },
-    }
-}
-
-// A whole number, a point and one to three digits. A second point is no digit.
-fn read_decimal(s: &[u8]) -> Whole
-    ensures { λ r. ⌜ r ≡ wholeHeld (decimalOf (splitOn point (now (s .entry)))) ⌝ }
-{
-    let at = pieces::find(s, b'.', 0);
-    if s.len() <= at {
-        return Whole::Malformed;
-    }
-    let after = at + 1;
-    let whole = read_whole(&s[0..at]);
-    let part = read_thousandths(&s[after..]);
-    combine(whole, part)
-}
-
-// Thousandths of a megawatt under a sign, as a sample in kilowatts.
-fn under_sign(minus: bool, size: Whole) -> Decimal
-    ensures { λ r. ⌜ r ≡ signedHeld minus size ⌝ }
-{
-    match size {
-        Whole::Malformed => Decimal::Malformed,
-        Whole::Beyond => Decimal::Beyond,
-        Whole::Number(kw) => match Sample::new(minus, kw) {
-            SampleMade::Within(sample) => Decimal::Kw(sample.kw),
-            SampleMade::OutOfRange => Decimal::Beyond,
-        },
-    }
-}
-
-// An optional minus, a whole number, a point and one to three digits.
-pub fn read_sample(s: &[u8]) -> Decimal
-    ensures { λ r. ⌜ r ≡ sampleHeld (sampleOf (now (s .entry))) ⌝ }
-{
-    if s.len() == 0 {
-        return Decimal::Malformed;
-    }
-    if s[0] == b'-' {
-        return under_sign(true, read_decimal(&s[1..]));
-    }
-    under_sign(false, read_decimal(s))
 }

@@ -1,15 +1,15 @@
 -- The token at a byte that is not white, and the one at the text's end, as the code finds them. Assumes nothing.
 use Prim.Native.Nat.{ℕ, suc, _+_, _-_, _≤_, _<_}
-use mathlib.Core.Path.{_≡_, refl, ap, sym, subst, _∙_}
-use mathlib.Core.Bool.{Bool, true, false, not, cond, _||_}
+use mathlib.Core.Path.{_≡_, refl, ap, sym, _∙_}
+use mathlib.Core.Bool.{Bool, true, false, not, _||_}
 use mathlib.Core.List.{List, [], _∷_}
 use mathlib.Core.Option.{Option, none, some}
 use native.Mathlib.Omega.{arith}
 use native.Mathlib.Numerals.{add-one}
 use lib.Dec.{eqb}
-use lib.ListN.{length, getD, take, drop, length-drop, drop-of-length-le}
+use lib.ListN.{length, getD, take, drop, drop-of-length-le}
 use lib.Seq.{drop-cons}
-use borrow.Author.Tests.{eq-eqb, ne-eqb, not-true}
+use borrow.Author.Tests.{eq-eqb, ne-eqb}
 use Rattle.rules.specs.Limits.{mostText}
 use Rattle.rules.specs.Lists.{lead, isSome}
 use Rattle.rules.specs.Tokens.{Token, token, isWhite, quote, signOf, inRun, inString, runToken}
@@ -18,8 +18,8 @@ use Rattle.rules.specs.declared.tokens.Class.the-variants.{Quoted, Run, End, Un
 use Rattle.rules.proofs.TokenLaws.{tokenOf, token-at, token-within, end-at, quoted-token, forbidden-token, unclosed-token, sign-token, run-token}
 use Rattle.text.proofs.Runs.{lead-more}
 use Rattle.tokens.specs.declared.Token.{Token as Found}
-use Rattle.tokens.specs.Seen.{tokensAt, part, found, isEnd, signOr, Seen, Within, Black, Skipped}
-use Rattle.tokens.proofs.Scan.{scanned, scan-from, scan-within, scan-rest}
+use Rattle.tokens.specs.Seen.{part, found, isEnd, signOr, Seen, Black, Skipped}
+use Rattle.tokens.proofs.Scan.{scanned, scan-within, scan-rest}
 
 -- ---- a token that was found starts at its place and is not the end
 

@@ -42,9 +42,6 @@ module _ (p : ℕ → Bool) (s : List ℕ) (from end : ℕ) (q : end ≡ from + 
       let n : end - from ≡ length (lead p (drop from s)) = omega arith in
       ap (λ (k : ℕ). take k (drop from s)) n ∙ take-lead p (drop from s)
 
-  pub scan-from : from ≤ end
-  scan-from = omega arith
-
   pub scan-within : from ≤ length s → end ≤ length s
   scan-within h = omega (arith, lead-le p (drop from s), length-drop from s)
 

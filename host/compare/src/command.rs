@@ -1,5 +1,6 @@
 //! The command in the place of `replay`, one process a call: its status, what it prints, and the files that it writes. The lent rooms stay inside it.
 
+use crate::coverage::ROOMS;
 use crate::executor::Executor;
 use crate::expected::full_line;
 use crate::lines::{digest, LABEL};
@@ -16,9 +17,8 @@ const TEXTS: [&str; 5] = ["timetable", "profiles", "constraints", "first", "seco
 const CURVES: &str = "curves";
 const MERGED: [&str; 2] = ["earlier", "later"];
 
-/// The rooms as the command names them, in their order.
-const ROOMS: [&str; 10] =
-    ["legs", "configurations", "profiles", "samples", "constraints", "tracks", "choices", "second_choices", "curves", "text"];
+/// A horizon of fewer seconds has no whole quarter, and so no peak has one.
+const QUARTER: u32 = 900;
 
 /// What follows the answer in the command's object is evidence about the files, and is not compared.
 const EVIDENCE: &[u8] = br#", "version": "#;
@@ -93,7 +93,8 @@ fn words(call: &Call) -> Vec<String> {
         Entry::MergeEarlier | Entry::MergeLater => format!("merge {horizon} {second} --earlier {} --later {}", MERGED[0], MERGED[1]),
         Entry::Row => format!("row --file {} --place {} {timetable} {first}", call.file, call.place),
     };
-    let rooms = ROOMS.iter().zip(call.case.rooms.numbers()).flat_map(|(table, room)| [String::from("--room"), format!("{table}={room}")]);
+    let room = |(name, room): (&&str, usize)| [String::from("--room"), format!("{}={room}", name.replace(' ', "_"))];
+    let rooms = ROOMS.iter().zip(call.case.rooms.numbers()).flat_map(room);
     words.split(' ').map(String::from).chain(rooms).collect()
 }
 
@@ -136,7 +137,10 @@ fn reported(call: &Call) -> String {
     let peaks = format!(r#", "peak_before_kj": {peak_before}, "peak_drawn_kj": {peak_drawn}"#);
     let Desk { before, drawn, lost, peak } = report.desk;
     let doubles = format!(r#", "before_mwh": {before}, "drawn_mwh": {drawn}, "lost_mwh": {lost}, "peak_drawn_mw": {peak}"#);
-    let told = object(call, report.answer, &[kilojoules, peaks, doubles].concat());
+    let quarter = |quarter: usize| if call.case.h < QUARTER { String::from("null") } else { quarter.to_string() };
+    let [before, drawn] = report.quarters.map(quarter);
+    let quarters = format!(r#", "peak_before_quarter": {before}, "peak_drawn_quarter": {drawn}"#);
+    let told = object(call, report.answer, &[kilojoules, peaks, doubles, quarters].concat());
     report.curves.map_or(told.clone(), |curves| told + &written(CURVES, &curve_lines(&curves, call.case.h as usize)))
 }
 

@@ -23,7 +23,8 @@ const SHOWN: [(Shown, &str); 5] = [
     (Shown::NoSuchFile, "file neither 1 nor 4"),
 ];
 
-const ROOMS: [&str; 10] =
+/// The rooms in their order.
+pub const ROOMS: [&str; 10] =
     ["legs", "configurations", "profiles", "samples", "constraints", "tracks", "choices", "second choices", "curves", "text"];
 
 /// The rooms that can give 16 in each file: of a pair either may be short.
@@ -220,7 +221,7 @@ fn why_empty(number: u32, file: u32) -> Option<Why> {
     Some(match (number, file) {
         (1, _) => Why::NoInput("1 is about H, which stands in no file"),
         (_, 0) => Why::NoInput("file 0 is for H, the curves' room and the merged text's room"),
-        (2, _) => Why::NoSmallText("2 wants a text past 64 MiB: host/independent's tests, and the command"),
+        (2, _) => Why::NoSmallText("2 wants a text past 64 MiB: host/compare-wrapper --large"),
         (3 | 4 | 8, 3) => Why::NoInput("constraints.json has no header and no rows"),
         (8, _) => Why::NoInput("8 is about a nominal, which profiles do not have"),
         (9..=11, _) => Why::NoInput("9, 10 and 11 are about JSON"),
@@ -234,7 +235,7 @@ fn why_empty(number: u32, file: u32) -> Option<Why> {
 /// Limits that small texts do not reach, within cells that other inputs fill.
 const LARGER: &str =
     "6 past 32,768 legs, 1,048,576 configurations or samples, 16,384 profiles, 65,536 constraints, 4,096 tracks wants texts past 16 KiB: \
-host/independent's tests";
+host/compare-wrapper --large";
 
 impl fmt::Display for Coverage {
     fn fmt(&self, out: &mut fmt::Formatter) -> fmt::Result {

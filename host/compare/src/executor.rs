@@ -22,6 +22,15 @@ pub trait Executor: Sync {
     }
 }
 
+/// The answer to expect of one call, which goes through alone since it may be large; and both lines, where the executor gives another.
+pub fn compared(call: &Call, executor: &dyn Executor) -> Result<(String, Option<String>), String> {
+    let expected = executor.expected(call).1;
+    let given = executor.run(&[call])?.join("\n");
+    let answer = expected.split(" | ").next().unwrap_or_default().to_string();
+    let differ = (given != expected).then(|| format!("    expected {expected}\n    given    {given}"));
+    Ok((answer, differ))
+}
+
 /// The program `replay`, by the words of its command: on a machine of another kind an emulator and a loader stand before it.
 pub struct Replay {
     pub words: Vec<String>,

@@ -1,13 +1,18 @@
-//! Instances in the published layout: folders with `timetable.csv`, `profiles.csv`, `constraints.json` and solutions, which are again
-//! timetable files. Each solution, and the draft as one, is checked and its energies reckoned; each is merged with the one before it.
+//! Instances in the published layouts: folders with `timetable.csv`, `profiles.csv`, `constraints.json` and solutions. Each solution, and the draft as one, is
+//! checked and its energies reckoned; each is merged with the one before it.
 
-use crate::executor::Executor;
-use crate::expected::full_line;
-use crate::lines::SKIPPED;
+use crate::executor::{compared, Executor};
 use independent::{Call, Case, Direction, Entry, Rooms};
+use std::collections::HashMap;
 use std::path::{Path, PathBuf};
 
-const FILES: [&str; 3] = ["timetable.csv", "profiles.csv", "constraints.json"];
+const TIMETABLE: &str = "timetable.csv";
+/// Document 001 has both names.
+const PROFILES: [&str; 2] = ["profiles.csv", "profile.csv"];
+const CONSTRAINTS: &str = "constraints.json";
+/// The header of a solution with two columns (document 001), and the column of a timetable that its choices go to.
+const CHOICES: &str = "leg_id,departure_configuration";
+const NOMINAL: usize = 5;
 /// Room that is never short.
 const AMPLE: usize = 1 << 27;
 
@@ -15,27 +20,21 @@ const AMPLE: usize = 1 << 27;
 pub fn compare(folder: &Path, h: u32, executor: &dyn Executor) -> Result<String, String> {
     let instances = instances(folder)?;
     if instances.is_empty() {
-        return Err(format!("{}: no folder with {}", folder.display(), FILES.join(", ")));
+        return Err(format!("{}: no folder with {TIMETABLE}, {} and {CONSTRAINTS}", folder.display(), PROFILES[0]));
     }
     let mut told = String::new();
     let mut differ = 0;
-    for instance in instances {
-        let calls = calls(&instance, h)?;
-        let lines = executor.run(&calls.iter().map(|(_, call)| call).collect::<Vec<_>>())?;
-        told.push_str(&format!("{}\n", instance.display()));
-        for (place, (name, call)) in calls.iter().enumerate() {
-            let expected = full_line(call).1;
-            let given = lines.get(place).map_or("(no line)", String::as_str);
-            let answer = expected.split(" | ").next().unwrap_or_default();
-            let result = match given {
-                SKIPPED => String::from("larger than the program takes"),
-                given if given == expected => String::from("the same"),
-                given => {
-                    differ += 1;
-                    format!("DIFFERS\n    expected {expected}\n    given    {given}")
-                }
-            };
-            told.push_str(&format!("  {name}: {answer}: {result}\n"));
+    for instance in &instances {
+        told.push_str(&format!("{}\n", instance.folder.display()));
+        let solutions = instance.solutions()?;
+        for (place, solution) in solutions.iter().enumerate() {
+            let before = &solutions[place.saturating_sub(1)];
+            for (name, call) in instance.calls(h, before, solution)? {
+                let (answer, difference) = compared(&call, executor)?;
+                differ += usize::from(difference.is_some());
+                let result = difference.map_or(String::from("the same"), |lines| format!("DIFFERS\n{lines}"));
+                told.push_str(&format!("  {name}: {answer}: {result}\n"));
+            }
         }
     }
     if differ > 0 {
@@ -44,12 +43,59 @@ pub fn compare(folder: &Path, h: u32, executor: &dyn Executor) -> Result<String,
     Ok(told)
 }
 
-/// The folder itself and the folders below it, as far as they hold the three files.
-fn instances(folder: &Path) -> Result<Vec<PathBuf>, String> {
-    let mut found = Vec::new();
-    if FILES.iter().all(|name| folder.join(name).is_file()) {
-        found.push(folder.to_path_buf());
+/// A folder that holds the three files.
+struct Instance {
+    folder: PathBuf,
+    profiles: &'static str,
+}
+
+/// A name and a text.
+type Solution = (String, Vec<u8>);
+
+impl Instance {
+    fn at(folder: &Path) -> Option<Instance> {
+        let has = |name: &str| folder.join(name).is_file();
+        let profiles = PROFILES.into_iter().find(|name| has(name))?;
+        (has(TIMETABLE) && has(CONSTRAINTS)).then(|| Instance { folder: folder.to_path_buf(), profiles })
     }
+
+    fn read(&self, name: &str) -> Result<Vec<u8>, String> {
+        let path = self.folder.join(name);
+        std::fs::read(&path).map_err(|e| format!("{}: {e}", path.display()))
+    }
+
+    /// The draft, and every other CSV file: a timetable file, or choices that are put into the draft.
+    fn solutions(&self) -> Result<Vec<Solution>, String> {
+        let draft = self.read(TIMETABLE)?;
+        let mut solutions = Vec::new();
+        for path in listed(&self.folder)? {
+            let name = path.file_name().unwrap_or_default().to_string_lossy().to_string();
+            if name.ends_with(".csv") && name != TIMETABLE && name != self.profiles {
+                let text = self.read(&name)?;
+                solutions.push(put_into(&draft, &text).map_or((name.clone(), text), |put| (format!("{name} put into the draft"), put)));
+            }
+        }
+        solutions.insert(0, (String::from("the draft"), draft));
+        Ok(solutions)
+    }
+
+    fn calls(&self, h: u32, before: &Solution, solution: &Solution) -> Result<Vec<(String, Call)>, String> {
+        let [timetable, profiles, constraints] = [TIMETABLE, self.profiles, CONSTRAINTS].map(|name| self.read(name));
+        let texts = [timetable?, profiles?, constraints?, before.1.clone(), solution.1.clone()];
+        let merged = Case { h, texts, rooms: Rooms::all(AMPLE) };
+        let mut alone = merged.clone();
+        alone.texts[3] = std::mem::take(&mut alone.texts[4]);
+        let alone = [Entry::Check, Entry::Energy]
+            .map(|entry| (format!("{}, {}", solution.0, entry.name()), fitted(Call::of(entry, alone.clone()))));
+        let merged = [Entry::MergeEarlier, Entry::MergeLater]
+            .map(|entry| (format!("{} and {}, {}", before.0, solution.0, entry.name()), fitted(Call::of(entry, merged.clone()))));
+        Ok(alone.into_iter().chain(merged).collect())
+    }
+}
+
+/// The folder itself and the folders below it, as far as they hold the three files.
+fn instances(folder: &Path) -> Result<Vec<Instance>, String> {
+    let mut found: Vec<Instance> = Instance::at(folder).into_iter().collect();
     for path in listed(folder)? {
         if path.is_dir() {
             found.extend(instances(&path)?);
@@ -69,37 +115,22 @@ fn listed(folder: &Path) -> Result<Vec<PathBuf>, String> {
     Ok(paths)
 }
 
-fn calls(instance: &Path, h: u32) -> Result<Vec<(String, Call)>, String> {
-    let [timetable, profiles, constraints] = FILES.map(|name| read(&instance.join(name)));
-    let (timetable, profiles, constraints) = (timetable?, profiles?, constraints?);
-    let mut solutions = vec![(String::from("the draft"), timetable.clone())];
-    for path in listed(instance)? {
-        let name = path.file_name().unwrap_or_default().to_string_lossy().to_string();
-        if name.ends_with(".csv") && !FILES.contains(&name.as_str()) {
-            solutions.push((name, read(&path)?));
-        }
+/// The draft's rows with a solution's choices in them; none where the text is no solution with two columns, or not of every leg.
+fn put_into(draft: &[u8], solution: &[u8]) -> Option<Vec<u8>> {
+    let mut lines = std::str::from_utf8(solution).ok()?.lines();
+    if lines.next()? != CHOICES {
+        return None;
     }
-    let mut calls = Vec::new();
-    let mut before = &solutions[0];
-    for solution in &solutions {
-        let texts = [timetable.clone(), profiles.clone(), constraints.clone(), before.1.clone(), solution.1.clone()];
-        let merged = Case { h, texts, rooms: Rooms::all(AMPLE) };
-        let mut alone = merged.clone();
-        alone.texts[3] = std::mem::take(&mut alone.texts[4]);
-        for entry in [Entry::Check, Entry::Energy] {
-            calls.push((format!("{}, {}", solution.0, entry.name()), fitted(Call::of(entry, alone.clone()))));
-        }
-        for entry in [Entry::MergeEarlier, Entry::MergeLater] {
-            let name = format!("{} and {}, {}", before.0, solution.0, entry.name());
-            calls.push((name, fitted(Call::of(entry, merged.clone()))));
-        }
-        before = solution;
+    let chosen: HashMap<&str, &str> = lines.map(|line| line.split_once(',')).collect::<Option<_>>()?;
+    let mut rows = std::str::from_utf8(draft).ok()?.lines();
+    let mut text = format!("{}\n", rows.next()?);
+    for row in rows {
+        let mut columns: Vec<&str> = row.split(',').collect();
+        *columns.get_mut(NOMINAL)? = chosen.get(columns[0])?;
+        text.push_str(&columns.join(","));
+        text.push('\n');
     }
-    Ok(calls)
-}
-
-fn read(path: &Path) -> Result<Vec<u8>, String> {
-    std::fs::read(path).map_err(|e| format!("{}: {e}", path.display()))
+    Some(text.into_bytes())
 }
 
 /// The call with just the room that it needs; where it is refused, a number of room for each byte, which is more than any text can fill.
@@ -128,4 +159,18 @@ fn fitted(mut call: Call) -> Call {
 
 fn text_length(case: &Case, direction: Direction) -> usize {
     case.merge(direction).text.map_or(0, |text| text.len())
+}
+
+#[cfg(test)]
+mod tests {
+    use super::*;
+
+    #[test]
+    fn choices_are_put_into_the_draft() {
+        let draft = b"head\n1,1,1,1,2,10_4_7,10_4_7 15_4_7\n2,1,2,2,3,40_3_8,40_3_8 45_3_8\n";
+        let put = put_into(draft, b"leg_id,departure_configuration\n2,45_3_8\n1,15_4_7\n").unwrap();
+        assert_eq!(put, b"head\n1,1,1,1,2,15_4_7,10_4_7 15_4_7\n2,1,2,2,3,45_3_8,40_3_8 45_3_8\n");
+        assert_eq!(put_into(draft, b"leg_id,departure_configuration\n2,45_3_8\n"), None);
+        assert_eq!(put_into(draft, draft), None);
+    }
 }

@@ -8,6 +8,7 @@ pub mod executor;
 pub mod expected;
 pub mod folder;
 pub mod input;
+pub mod large;
 pub mod lines;
 pub mod saved;
 pub mod stored;

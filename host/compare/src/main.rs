@@ -3,7 +3,7 @@
 use compare::command::Command;
 use compare::comparison::{self, Plan};
 use compare::executor::{Nobody, Replay};
-use compare::{expected, folder, input, stored};
+use compare::{expected, folder, input, large, stored};
 use independent::Entry;
 use std::io::Read;
 use std::path::{Path, PathBuf};
@@ -14,6 +14,7 @@ compare command SEED COUNT [ENTRIES] -- PROGRAM...  seeded calls through the com
 compare cover SEED COUNT [ENTRIES]                  the same calls through no program: their coverage alone
 compare stored DIR [ENTRIES]                        writes the stored run of replay
 compare answers [ENTRIES]                           standard input as replay reads it, answered by the independent program
+compare large -- PROGRAM...                         limits that want large texts, through a program that takes any
 compare folder DIR HORIZON -- PROGRAM...            instances in the published layout
 ENTRIES are numbers of entries, as 1,5; all of them where they are not given.";
 
@@ -48,6 +49,7 @@ fn run(words: &[String]) -> Result<String, String> {
         ["cover", seed, count, ref rest @ ..] => comparison::told(&Nobody, &plan(seed, count, rest)?),
         ["stored", dir, ref rest @ ..] => stored::write(Path::new(dir), &entries(rest)?),
         ["answers", ref rest @ ..] => answers(&entries(rest)?),
+        ["large"] => large::compare(&replay),
         ["folder", dir, horizon] => folder::compare(Path::new(dir), number(horizon)? as u32, &replay),
         _ => Err(String::from(USAGE)),
     }

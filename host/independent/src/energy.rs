@@ -48,6 +48,9 @@ pub struct Report {
     pub tables: Option<Tables>,
     pub figures: Figures,
     pub desk: Desk,
+    /// The first quarters that have the two peaks, before recuperation and drawn; 0 if there is no
+    /// quarter.
+    pub quarters: [usize; 2],
     pub curves: Option<Vec<i32>>,
 }
 
@@ -81,13 +84,16 @@ pub fn energy(
         tables: Some(tables),
         figures,
         desk: figures.desk(),
+        quarters: [before_by_second(&runs, h as usize), drawn_by_second(&curves, h as usize)]
+            .map(|by_second| quarter_of(&by_second)),
         curves: Some(curves.concat().into_iter().map(|power| power as i32).collect()),
     }
 }
 
 /// "Short of acceptance all figures are 0".
 fn report_without_figures(answer: Answer, tables: Option<Tables>) -> Report {
-    Report { answer, tables, figures: Figures::default(), desk: Desk::default(), curves: None }
+    let (figures, desk) = (Figures::default(), Desk::default());
+    Report { answer, tables, figures, desk, quarters: [0; 2], curves: None }
 }
 
 /// A leg as it runs: its subnet, its departure and the samples of its chosen profile.
@@ -172,4 +178,10 @@ fn fluctuation(curves: &[Vec<i64>], h: usize) -> i64 {
 /// the greatest quarter sum in kJ, 0 if there is no quarter."
 fn peak_quarter(by_second: &[i64]) -> i64 {
     by_second.chunks_exact(900).map(|quarter| quarter.iter().sum()).max().unwrap_or(0)
+}
+
+/// The first quarter that has the greatest sum.
+fn quarter_of(by_second: &[i64]) -> usize {
+    let peak = peak_quarter(by_second);
+    by_second.chunks_exact(900).position(|quarter| quarter.iter().sum::<i64>() == peak).unwrap_or(0)
 }

@@ -1,15 +1,12 @@
 //! The C exports of include/wagontulip.h, answered by the independent program. Nothing here is proved: it stands in for the archive when the wrapper
 //! and the command are tested, and is no part of what a user runs.
 
-use independent::{check, energy, merge, row_at, Answer, Direction, Rooms, Tables};
+use independent::{check, energy, merge, row_at, Answer, Direction, Lent, Rooms};
 
 /// A code, then the values, unused ones 0.
 type Numbers = [u64; 16];
 
 const ROW: u64 = 3;
-
-const FILL_UNSIGNED: u32 = 4_294_967_295;
-const FILL_SIGNED: i32 = -2_147_483_648;
 
 /// "Leg 8 numbers, configuration 3, profile 3, sample 1, constraint 6, track 2, choice 3", a curve for each of 8 subnets, a text.
 const ROOMS: Numbers = [
@@ -32,7 +29,7 @@ const ROOMS: Numbers = [
 ];
 
 /// A lent slice. Null only with length 0.
-unsafe fn text<'a>(pointer: *const u8, length: usize) -> &'a [u8] {
+unsafe fn bytes<'a>(pointer: *const u8, length: usize) -> &'a [u8] {
     if length == 0 {
         return &[];
     }
@@ -46,95 +43,19 @@ unsafe fn table<'a, T>(pointer: *mut T, room: usize) -> &'a mut [T] {
     std::slice::from_raw_parts_mut(pointer, room)
 }
 
-/// The lent tables of an entry; those that it does not have are empty.
-struct Lent<'a> {
-    legs: &'a mut [u32],
-    configurations: &'a mut [u32],
-    profiles: &'a mut [u32],
-    samples: &'a mut [i32],
-    constraints: &'a mut [u32],
-    tracks: &'a mut [u32],
-    choices: &'a mut [u32],
-    second_choices: &'a mut [u32],
-    curves: &'a mut [i32],
-    text_buffer: &'a mut [u8],
-}
-
-impl Lent<'_> {
-    fn none() -> Lent<'static> {
-        Lent {
-            legs: &mut [],
-            configurations: &mut [],
-            profiles: &mut [],
-            samples: &mut [],
-            constraints: &mut [],
-            tracks: &mut [],
-            choices: &mut [],
-            second_choices: &mut [],
-            curves: &mut [],
-            text_buffer: &mut [],
-        }
+fn rooms(lent: &Lent) -> Rooms {
+    Rooms {
+        legs: lent.legs.len(),
+        configurations: lent.configurations.len(),
+        profiles: lent.profiles.len(),
+        samples: lent.samples.len(),
+        constraints: lent.constraints.len(),
+        tracks: lent.tracks.len(),
+        choices: lent.choices.len(),
+        second_choices: lent.second_choices.len(),
+        curves: lent.curves.len(),
+        text: lent.text.len(),
     }
-
-    fn rooms(&self) -> Rooms {
-        Rooms {
-            legs: self.legs.len(),
-            configurations: self.configurations.len(),
-            profiles: self.profiles.len(),
-            samples: self.samples.len(),
-            constraints: self.constraints.len(),
-            tracks: self.tracks.len(),
-            choices: self.choices.len(),
-            second_choices: self.second_choices.len(),
-            curves: self.curves.len(),
-            text: self.text_buffer.len(),
-        }
-    }
-
-    /// "On refusal every unsigned table is filled with 4,294,967,295, every signed one with -2,147,483,648, and a text buffer with zero bytes. On a
-    /// violation the tables stay as read and the text buffer is zeroed"; the curve table "is filled as on a refusal".
-    fn leave(&mut self, read: Option<&Tables>, curves: Option<&[i32]>, written: Option<&[u8]>) {
-        match read {
-            Some(tables) => {
-                over(self.legs, &tables.legs);
-                over(self.configurations, &tables.configurations);
-                over(self.profiles, &tables.profiles);
-                over(self.samples, &tables.samples);
-                over(self.constraints, &tables.constraints);
-                over(self.tracks, &tables.tracks);
-                over(self.choices, &tables.choices);
-                over(self.second_choices, &tables.second_choices);
-            }
-            None => {
-                let unsigned = [
-                    &mut *self.legs,
-                    &mut *self.configurations,
-                    &mut *self.profiles,
-                    &mut *self.constraints,
-                    &mut *self.tracks,
-                    &mut *self.choices,
-                    &mut *self.second_choices,
-                ];
-                for table in unsigned {
-                    table.fill(FILL_UNSIGNED);
-                }
-                self.samples.fill(FILL_SIGNED);
-            }
-        }
-        match curves {
-            Some(curves) => over(self.curves, curves),
-            None => self.curves.fill(FILL_SIGNED),
-        }
-        match written {
-            Some(written) => over(self.text_buffer, written),
-            None => self.text_buffer.fill(0),
-        }
-    }
-}
-
-/// What is written at the front; the rest keeps its contents.
-fn over<T: Copy>(table: &mut [T], written: &[T]) {
-    table[..written.len()].copy_from_slice(written);
 }
 
 fn numbers(answer: &Answer, accepted: &[u64]) -> Numbers {
@@ -166,31 +87,34 @@ macro_rules! entry {
             $($table: *mut $number, $room: usize,)*
             answer: *mut Numbers,
         ) {
-            let mut lent = Lent { $($table: table($table, $room),)* ..Lent::none() };
-            *answer = $work(h, [$(text($text, $length)),*], &mut lent);
+            // A copy of the tables, with those that the entry does not have empty.
+            let mut lent = Lent { $($table: table($table, $room).to_vec(),)* ..Lent::full_of(0, &Rooms::all(0)) };
+            *answer = $work(h, [$(bytes($text, $length)),*], &mut lent);
+            $(table($table, $room).copy_from_slice(&lent.$table);)*
         }
     };
 }
 
 fn checked(h: u32, [timetable, profiles, constraints, solution]: [&[u8]; 4], lent: &mut Lent) -> Numbers {
-    let checked = check(h, timetable, profiles, constraints, solution, &lent.rooms());
-    lent.leave(checked.tables.as_ref(), None, None);
+    let checked = check(h, timetable, profiles, constraints, solution, &rooms(lent));
+    lent.leave_checked(&checked);
     numbers(&checked.answer, &[])
 }
 
 fn reported(h: u32, [timetable, profiles, constraints, solution]: [&[u8]; 4], lent: &mut Lent) -> Numbers {
-    let report = energy(h, timetable, profiles, constraints, solution, &lent.rooms());
-    lent.leave(report.tables.as_ref(), report.curves.as_deref(), None);
+    let report = energy(h, timetable, profiles, constraints, solution, &rooms(lent));
+    lent.leave_reported(&report);
     let figures = report.figures;
     let kj = [figures.before, figures.drawn, figures.lost, figures.fluctuation, figures.peak_before, figures.peak_drawn];
     let doubles = [report.desk.before, report.desk.drawn, report.desk.lost, report.desk.peak];
-    let given: Vec<u64> = kj.into_iter().map(|kj| kj as u64).chain(doubles.into_iter().map(f64::to_bits)).collect();
+    let quarters = report.quarters.map(|quarter| quarter as u64);
+    let given: Vec<u64> = kj.into_iter().map(|kj| kj as u64).chain(doubles.into_iter().map(f64::to_bits)).chain(quarters).collect();
     numbers(&report.answer, &given)
 }
 
 fn merged(direction: Direction, h: u32, [timetable, profiles, constraints, first, second]: [&[u8]; 5], lent: &mut Lent) -> Numbers {
-    let merged = merge(direction, h, timetable, profiles, constraints, first, second, &lent.rooms());
-    lent.leave(merged.tables.as_ref(), None, merged.text.as_deref());
+    let merged = merge(direction, h, timetable, profiles, constraints, first, second, &rooms(lent));
+    lent.leave_merged(&merged);
     numbers(&merged.answer, &[merged.text.map_or(0, |text| text.len() as u64)])
 }
 
@@ -216,13 +140,13 @@ entry!(wagontulip_merge_earlier, merged_earlier;
     timetable timetable_length, profiles_csv profiles_length, constraints_json constraints_length, first first_length, second second_length;
     legs legs_room u32, configurations configurations_room u32, profiles profiles_room u32, samples samples_room i32,
     constraints constraints_room u32, tracks tracks_room u32, choices choices_room u32, second_choices second_choices_room u32,
-    text_buffer text_room u8);
+    text text_room u8);
 
 entry!(wagontulip_merge_later, merged_later;
     timetable timetable_length, profiles_csv profiles_length, constraints_json constraints_length, first first_length, second second_length;
     legs legs_room u32, configurations configurations_room u32, profiles profiles_room u32, samples samples_room i32,
     constraints constraints_room u32, tracks tracks_room u32, choices choices_room u32, second_choices second_choices_room u32,
-    text_buffer text_room u8);
+    text text_room u8);
 
 /// As include/wagontulip.h says.
 ///
@@ -239,7 +163,7 @@ pub unsafe extern "C" fn wagontulip_row(
     place: u32,
     answer: *mut Numbers,
 ) {
-    let (start, length) = row_at(text(draft, draft_length), text(solution, solution_length), u32::from(file), place as usize);
+    let (start, length) = row_at(bytes(draft, draft_length), bytes(solution, solution_length), u32::from(file), place as usize);
     let mut numbers = [0; 16];
     numbers[..3].copy_from_slice(&[ROW, start as u64, length as u64]);
     *answer = numbers;

@@ -147,13 +147,13 @@ impl Reason {
             Reason::RowForm => "CSV row breaks its form",
             Reason::Range => "number out of range, or departure plus travel past H",
             Reason::Count => "a count limit is passed",
-            Reason::Seen => "id already seen, or a track listed twice in any subnets",
+            Reason::Seen => "id already seen; a track listed twice in any subnets",
             Reason::Nominal => "nominal not in its list",
             Reason::JsonForm => "JSON form broken, or a value of the wrong type",
             Reason::UnknownName => "unknown list, key or connection type",
             Reason::RepeatedOrMissing => "list or key repeated, or missing",
             Reason::NotThere => "leg or profile does not exist",
-            Reason::Samples => "profile's sample count is not the travel time",
+            Reason::Samples => "profile's sample count is not t",
             Reason::Differs => "solution's first five columns differ from the draft's, row by row, or the row count does",
             Reason::NoSubnet => "a leg's track is in no subnet",
             Reason::Room => "lent room too short",
@@ -170,7 +170,8 @@ pub struct Refusal {
     pub place: u32,
 }
 
-/// Whole kJ, exact, the fluctuation in kW, and the four doubles of the operator's desk tool.
+/// Whole kJ, exact, the fluctuation in kW, the four doubles of the operator's desk tool, and the first quarters that have the peaks, which mean nothing
+/// where the horizon has no whole quarter.
 #[derive(Clone, Copy, Debug, PartialEq)]
 pub struct Figures {
     pub before_kj: u64,
@@ -183,6 +184,8 @@ pub struct Figures {
     pub drawn_mwh: f64,
     pub lost_mwh: f64,
     pub peak_drawn_mw: f64,
+    pub peak_before_quarter: u32,
+    pub peak_drawn_quarter: u32,
 }
 
 /// The energies of an accepted solution: the figures, and a curve of H numbers in kW for each subnet, in the file's order.
@@ -254,7 +257,9 @@ pub(crate) fn checked(numbers: Numbers) -> Result<Answer<()>, Unknown> {
 }
 
 pub(crate) fn reported(numbers: Numbers) -> Result<Answer<Figures>, Unknown> {
-    let said = answer(&numbers, 10).ok_or_else(|| unknown(numbers))?;
+    let said = answer(&numbers, 12).ok_or_else(|| unknown(numbers))?;
+    let quarter = |place: usize| u32::try_from(numbers[place]).map_err(|_| unknown(numbers));
+    let (peak_before_quarter, peak_drawn_quarter) = (quarter(11)?, quarter(12)?);
     Ok(said.map(|given| Figures {
         before_kj: given[0],
         drawn_kj: given[1],
@@ -266,6 +271,8 @@ pub(crate) fn reported(numbers: Numbers) -> Result<Answer<Figures>, Unknown> {
         drawn_mwh: f64::from_bits(given[7]),
         lost_mwh: f64::from_bits(given[8]),
         peak_drawn_mw: f64::from_bits(given[9]),
+        peak_before_quarter,
+        peak_drawn_quarter,
     }))
 }
 
@@ -333,6 +340,18 @@ mod tests {
         assert!(merged(numbers(&[0, 10]), 9).is_err());
         assert!(row(numbers(&[3, 5, 5]), 9).is_err());
         assert!(row(numbers(&[0, 4, 5]), 9).is_err());
+    }
+
+    #[test]
+    fn a_quarter_is_read_after_the_doubles() {
+        let mut numbers = numbers(&[0, 0, 0, 0, 0, 6, 7, 0, 0, 0, 0, 29, 195]);
+        let quarters = reported(numbers).map(|said| said.map(|figures| (figures.peak_before_quarter, figures.peak_drawn_quarter)));
+        assert_eq!(quarters, Ok(Answer::Accepted((29, 195))));
+        numbers[12] = 1 << 32;
+        assert_eq!(reported(numbers), Err(unknown(numbers)));
+        numbers[12] = 195;
+        numbers[13] = 1;
+        assert_eq!(reported(numbers), Err(unknown(numbers)));
     }
 
     #[test]

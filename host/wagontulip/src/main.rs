@@ -2,25 +2,25 @@
 
 mod command;
 
-use command::{arguments, run, CouldNotRun};
+use command::{arguments, run, told, CouldNotRun};
 use std::io::Write;
 use std::panic;
 use std::process::ExitCode;
 
 fn main() -> ExitCode {
     // A panic is a fault of the command, and no verdict.
-    let ended = panic::catch_unwind(told).unwrap_or_else(|_| Err(CouldNotRun(String::from("the command failed"))));
+    let ended = panic::catch_unwind(done).unwrap_or_else(|_| Err(CouldNotRun(String::from("the command failed"))));
     match ended {
         Ok(status) => ExitCode::from(status),
         Err(CouldNotRun(why)) => {
             eprintln!("wagontulip: {why}");
-            ExitCode::from(run::COULD_NOT_RUN)
+            ExitCode::from(told::COULD_NOT_RUN)
         }
     }
 }
 
 /// Does what the words ask for, prints the result, and gives its status. A result that cannot be printed whole is none.
-fn told() -> Result<u8, CouldNotRun> {
+fn done() -> Result<u8, CouldNotRun> {
     let result = run::run(&arguments::read(std::env::args_os().skip(1).collect())?)?;
     let mut out = std::io::stdout();
     out.write_all(&result.text)

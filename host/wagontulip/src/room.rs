@@ -82,6 +82,9 @@ impl IndexMut<Table> for Rooms {
     }
 }
 
+/// What no field of an entry can be.
+const NO_NUMBER: u32 = u32::MAX;
+
 /// The tables as the last call left them, whole: past the last entry a table keeps what it held before.
 #[derive(Clone, Debug, PartialEq, Eq)]
 pub struct Room {
@@ -98,19 +101,56 @@ pub struct Room {
 }
 
 impl Room {
-    /// Zeros, which cost no memory until they are written over.
+    /// The tables whose entries are counted hold no entry; the others hold zeros, which cost no memory until they are written over.
     pub fn new(rooms: &Rooms) -> Room {
         Room {
-            legs: vec![0; rooms[Table::Legs]],
+            legs: vec![NO_NUMBER; rooms[Table::Legs]],
             configurations: vec![0; rooms[Table::Configurations]],
-            profiles: vec![0; rooms[Table::Profiles]],
+            profiles: vec![NO_NUMBER; rooms[Table::Profiles]],
             samples: vec![0; rooms[Table::Samples]],
-            constraints: vec![0; rooms[Table::Constraints]],
-            tracks: vec![0; rooms[Table::Tracks]],
+            constraints: vec![NO_NUMBER; rooms[Table::Constraints]],
+            tracks: vec![NO_NUMBER; rooms[Table::Tracks]],
             choices: vec![0; rooms[Table::Choices]],
             second_choices: vec![0; rooms[Table::SecondChoices]],
             curves: vec![0; rooms[Table::Curves]],
             text: vec![0; rooms[Table::Text]],
         }
     }
+
+    /// How much was read by a call that found the room new.
+    pub fn counts(&self) -> Counts {
+        let legs = entries::<LEG>(&self.legs);
+        let profiles = entries::<PROFILE>(&self.profiles);
+        Counts {
+            legs: legs.clone().count(),
+            configurations: legs.last().map_or(0, |leg| (leg[5] + leg[6]) as usize),
+            profiles: profiles.clone().count(),
+            samples: profiles.last().map_or(0, |profile| (profile[1] + profile[2]) as usize),
+            constraints: entries::<CONSTRAINT>(&self.constraints).count(),
+            tracks: entries::<TRACK>(&self.tracks).count(),
+        }
+    }
+}
+
+// How many numbers an entry of each table has ("The tables").
+pub const LEG: usize = 8;
+pub const CONFIGURATION: usize = 3;
+pub const PROFILE: usize = 3;
+pub const CONSTRAINT: usize = 6;
+pub const TRACK: usize = 2;
+
+/// How many entries were read. Configurations end where the last leg's do, samples where the last profile's do.
+#[derive(Clone, Copy, Debug, PartialEq, Eq)]
+pub struct Counts {
+    pub legs: usize,
+    pub configurations: usize,
+    pub profiles: usize,
+    pub samples: usize,
+    pub constraints: usize,
+    pub tracks: usize,
+}
+
+/// The entries of a table, up to the first that was not written.
+fn entries<const WIDTH: usize>(table: &[u32]) -> impl Iterator<Item = &[u32]> + Clone {
+    table.chunks_exact(WIDTH).take_while(|entry| entry[0] != NO_NUMBER)
 }

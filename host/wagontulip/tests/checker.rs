@@ -2,8 +2,8 @@
 
 mod common;
 
-use common::{draft, dwell, solution, H, PROFILES};
-use wagontulip::{row_at, Answer, Checker, File, Files, Kind, Reason, Refusal, Rooms, Table, Violation};
+use common::{constraints, draft, dwell, solution, H, PROFILES};
+use wagontulip::{row_at, Answer, Checker, Energies, File, Files, Kind, Reason, Refusal, Rooms, Table, Violation};
 
 struct Texts {
     timetable: String,
@@ -149,4 +149,20 @@ fn nothing_can_be_lent() {
     let files = Files { timetable: b"", profiles: b"", constraints: b"" };
     let said = Checker::with_rooms(&rooms).check(H, &files, b"");
     assert_eq!(said, Ok(Answer::Refused(Refusal { reason: Reason::Header, file: File::Timetable, place: 0 })));
+}
+
+/// The draft drives in the first quarter alone, and the peaks move with it to the third.
+#[test]
+fn a_peak_has_its_quarter() {
+    let quarters = |timetable: &str| {
+        let texts = Texts { timetable: timetable.to_string(), constraints: constraints("", "") };
+        match Checker::new().energy(2_700, &texts.files(), timetable.as_bytes()) {
+            Ok(Answer::Accepted(Energies { figures: f, .. })) => (f.peak_before_kj, f.peak_before_quarter, f.peak_drawn_quarter),
+            other => panic!("{other:?}"),
+        }
+    };
+    assert_eq!(quarters(&draft()), (2_050, 0, 0));
+    assert_eq!(quarters(&draft().replace("10_4_7", "1810_4_7").replace("40_3_8", "1840_3_8")), (2_050, 2, 2));
+    // Leg 1 takes more than leg 2.
+    assert_eq!(quarters(&draft().replace("10_4_7", "2000_4_7")), (1_750, 2, 2));
 }

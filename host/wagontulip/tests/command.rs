@@ -9,6 +9,11 @@ use std::process::{Command, Output};
 
 const LABEL: &str = "no violation shown is not no violation\n";
 
+/// Of the example's files.
+const ACCEPTED: &str = "accepted: every choice is offered in the draft, and every inequality holds
+read: legs 2, configurations 4, profiles 2, samples 7, constraints 1, tracks in subnets 2
+";
+
 /// A folder of its own for each test, with the example's files.
 struct Folder(PathBuf);
 
@@ -42,13 +47,13 @@ impl Folder {
     fn call(&self, words: &str) -> Command {
         let command = env!("CARGO_BIN_EXE_wagontulip");
         let mut call = match std::env::var("WAGONTULIP_RUNNER") {
-            Ok(runner) => {
+            Ok(runner) if cfg!(target_arch = "x86_64") => {
                 let mut words = runner.split_whitespace();
                 let mut call = Command::new(words.next().unwrap());
                 call.args(words).arg(command);
                 call
             }
-            Err(_) => Command::new(command),
+            _ => Command::new(command),
         };
         call.args(words.split_whitespace()).current_dir(&self.0);
         call
@@ -87,18 +92,35 @@ impl Drop for Folder {
 #[test]
 fn accepted() {
     let folder = Folder::new("accepted");
-    assert_eq!(folder.told("check --horizon 100 t p c a", 0), format!("{LABEL}accepted\n"));
+    assert_eq!(folder.told("check --horizon 100 t p c a", 0), format!("{LABEL}{ACCEPTED}answer: accepted\n"));
+}
+
+/// An acceptance of nothing does not look like one of something.
+#[test]
+fn nothing_is_said_to_be_nothing() {
+    let folder = Folder::new("nothing");
+    folder.put("t", HEADER);
+    folder.put("c", &constraints("", ""));
+    let words = "accepted: every choice is offered in the draft, and every inequality holds
+read: legs none, configurations none, profiles 2, samples 7, constraints none, tracks in subnets 2
+there are no legs: no choice was looked at
+there are no constraints: no inequality was looked at
+answer: accepted
+";
+    assert_eq!(folder.told("check --horizon 100 t p c t", 0), format!("{LABEL}{words}"));
 }
 
 #[test]
 fn a_violation_in_words() {
     let folder = Folder::new("violation");
     folder.put("c", &dwell(22));
-    let words = "violated: dwell in the solution, position 0 (from 0), inequality 1
-  first leg 1: train 1, station 1 to station 2 on track 1, departs 00:00:15 (15 s), arrives 00:00:19 (19 s)
-  second leg 2: train 1, station 2 to station 3 on track 2, departs 00:00:40 (40 s), arrives 00:00:43 (43 s)
-  needed: arrival of the first leg + 22 s ≤ departure of the second leg, that is 19 + 22 ≤ 40
-  falls short by 1 s
+    let words = "violated: dwell time (kind 3), position 0 of dwell_time_constraints, inequality 1: d1+t1+w <= d2
+file: solution (a)
+leg 1 (train 1, station 1 to station 2, track 1) departs at 15 s (00:00:15) and arrives at 19 s (00:00:19)
+leg 2 (train 1, station 2 to station 3, track 2) departs at 40 s (00:00:40) and arrives at 43 s (00:00:43)
+asked: 22 s or more from arrival to departure
+needed: leg 2 departs at 41 s (00:00:41) or later; it falls short by 1 s
+answer: violated
 ";
     assert_eq!(folder.told("check --horizon 100 t p c a", 1), format!("{LABEL}{words}"));
     let object = folder.told("check --json --horizon 100 t p c a", 1);
@@ -119,51 +141,65 @@ fn every_inequality_in_words() {
         (
             "headway_time_constraints",
             format!(r#"{{{legs}, "min_headway_time": 26}}"#),
-            "departure of the first leg + 26 s ≤ departure of the second leg, that is 15 + 26 ≤ 40",
+            "inequality 1: d1+h <= d2",
+            "26 s or more from departure to departure",
+            "leg 2 departs at 41 s (00:00:41) or later; it falls short by 1 s",
         ),
         (
             "headway_time_constraints",
             format!(r#"{{{legs}, "min_headway_time": 25}}"#),
-            "arrival of the first leg + 25 s ≤ arrival of the second leg, that is 19 + 25 ≤ 43",
+            "inequality 2: d1+t1+h <= d2+t2",
+            "25 s or more from arrival to arrival",
+            "leg 2 arrives at 44 s (00:00:44) or later; it falls short by 1 s",
         ),
         (
             "single_track_headway_constraints",
             format!("{{{backwards}}}"),
-            "arrival of the first leg ≤ departure of the second leg, that is 43 ≤ 15",
+            "inequality 1: d1+t1 <= d2",
+            "the first leg arrives before the second departs, or with it",
+            "leg 1 departs at 43 s (00:00:43) or later; it falls short by 28 s",
         ),
         (
             "terminal_turnaround_constraints",
             format!(r#"{{{legs}, "min_turnaround_time": 22}}"#),
-            "arrival of the first leg + 22 s ≤ departure of the second leg, that is 19 + 22 ≤ 40",
+            "inequality 1: d1+t1+w <= d2",
+            "22 s or more from arrival to departure",
+            "leg 2 departs at 41 s (00:00:41) or later; it falls short by 1 s",
         ),
         (
             "connection_constraints",
             connection(22, 30, "arrival"),
-            "arrival of the first leg + 22 s ≤ departure of the second leg, that is 19 + 22 ≤ 40",
+            "inequality 1: x+a <= d2",
+            "22 s or more from arrival to departure",
+            "leg 2 departs at 41 s (00:00:41) or later; it falls short by 1 s",
         ),
         (
             "connection_constraints",
             connection(0, 20, "arrival"),
-            "departure of the second leg ≤ arrival of the first leg + 20 s, that is 40 ≤ 19 + 20",
+            "inequality 2: d2 <= x+b",
+            "20 s or less from arrival to departure",
+            "leg 2 departs at 39 s (00:00:39) or earlier; it falls short by 1 s",
         ),
         (
             "connection_constraints",
-            connection(26, 30, "departure"),
-            "departure of the first leg + 26 s ≤ departure of the second leg, that is 15 + 26 ≤ 40",
+            connection(28, 30, "departure"),
+            "inequality 1: x+a <= d2",
+            "28 s or more from departure to departure",
+            "leg 2 departs at 43 s (00:00:43) or later; it falls short by 3 s",
         ),
         (
             "connection_constraints",
             connection(0, 24, "departure"),
-            "departure of the second leg ≤ departure of the first leg + 24 s, that is 40 ≤ 15 + 24",
+            "inequality 2: d2 <= x+b",
+            "24 s or less from departure to departure",
+            "leg 2 departs at 39 s (00:00:39) or earlier; it falls short by 1 s",
         ),
     ];
-    for (list, record, needed) in cases {
+    for (list, record, inequality, asked, needed) in cases {
         folder.put("c", &constraints(list, &record));
         let said = folder.told("check --horizon 100 t p c a", 1);
-        assert!(said.contains(&format!("  needed: {needed}\n")), "{list} {record}: {said}");
-        let (left, right) = needed.split_once("that is ").unwrap().1.split_once(" ≤ ").unwrap();
-        let sum = |side: &str| side.split(" + ").map(|number| number.parse::<u32>().unwrap()).sum::<u32>();
-        assert!(said.ends_with(&format!("  falls short by {} s\n", sum(left) - sum(right))), "{list} {record}: {said}");
+        assert!(said.contains(&format!(", position 0 of {list}, {inequality}\n")), "{list} {record}: {said}");
+        assert!(said.ends_with(&format!("\nasked: {asked}\nneeded: {needed}\nanswer: violated\n")), "{list} {record}: {said}");
     }
 }
 
@@ -171,10 +207,12 @@ fn every_inequality_in_words() {
 fn a_choice_that_is_not_offered() {
     let folder = Folder::new("offered");
     folder.put("a", &solution("10_4_7", "12_3_8").replace("45_3_8", "45_3_8 12_3_8"));
-    let words = "violated: choice not offered in the solution, row 1 (from 0)
-  leg 2: train 1, station 2 to station 3 on track 2, departs 00:00:12 (12 s), arrives 00:00:15 (15 s)
-  chosen: 12_3_8
-  the draft offers: 40_3_8 45_3_8
+    let words = "violated: choice not offered (kind 0), position 1, inequality 0
+file: solution (a)
+leg 2 (train 1, station 2 to station 3, track 2) departs at 12 s (00:00:12) and arrives at 15 s (00:00:15)
+chosen: 12_3_8
+needed: a configuration that the draft lists for this leg: 40_3_8 45_3_8
+answer: violated
 ";
     assert_eq!(folder.told("check --horizon 100 t p c a", 1), format!("{LABEL}{words}"));
 }
@@ -183,21 +221,23 @@ fn a_choice_that_is_not_offered() {
 fn a_refusal_shows_its_line() {
     let folder = Folder::new("refusal");
     folder.put("t", &draft().replace("40_3_8 45_3_8", "40_3_8  45_3_8"));
-    let words = "refused: 4 (CSV row breaks its form)
-  timetable t, place 145: line 3, byte 1 of it
-    2,1,2,2,3,40_3_8,40_3_8  45_3_8
-    ^
+    let words = "refused 4: CSV row breaks its form
+file: timetable (t), place: 145, line: 3
+row: 2,1,2,2,3,40_3_8,40_3_8  45_3_8
+answer: refused
 ";
     assert_eq!(folder.told("check --horizon 100 t p c a", 2), format!("{LABEL}{words}"));
     folder.put("t", &draft());
     folder.put("c", &dwell(20).replace("min_dwell_time", "max_dwell_time"));
     let said = folder.told("check --horizon 100 t p c a", 2);
-    assert!(said.contains("refused: 10 (unknown list, key or connection type)\n  constraints c, place "), "{said}");
+    assert!(said.contains("\nrefused 10: unknown list, key or connection type\nfile: constraints (c), place: "), "{said}");
     let lines: Vec<&str> = said.lines().collect();
     assert!(lines[3][lines[4].find('^').unwrap()..].starts_with("\"max_dwell_time\""), "{said}");
     folder.put("c", "{");
     let said = folder.told("check --horizon 100 t p c a", 2);
-    assert!(said.contains("constraints c, place 1: the end of the text\n"), "{said}");
+    assert!(said.contains("\nfile: constraints (c), place: 1, the end of the text\n"), "{said}");
+    let said = folder.told("check --horizon 0 t p c a", 2);
+    assert_eq!(said, format!("{LABEL}refused 1: H out of range\nfile: no file, place: 0\nanswer: refused\n"));
     let object = folder.told("check --horizon 0 t p c a --json", 2);
     assert!(object.contains(r#""answer": "refused", "number": 1, "file": 0, "place": 0, "#), "{object}");
 }
@@ -218,15 +258,16 @@ fn the_evidence_names_every_input() {
 fn energies_and_curves() {
     let folder = Folder::new("energies");
     let said = folder.told("energy --horizon 100 t p c t --curves out", 0);
-    let figures = "accepted
-  before recuperation: 2050 kJ (0.0005694444444444445 MWh)
-  drawn: 2050 kJ (0.0005694444444444445 MWh)
-  lost: 600 kJ (0.00016666666666666666 MWh)
-  fluctuation: 1400 kW
-  peak quarter before recuperation: 0 kJ
-  peak quarter drawn: 0 kJ (0 MW)
-  written: out, ";
-    assert!(said.starts_with(&format!("{LABEL}{figures}")), "{said}");
+    let figures = "before recuperation: 2050 kJ, 0.000569 MWh
+drawn: 2050 kJ, 0.000569 MWh
+lost: 600 kJ, 0.000167 MWh
+fluctuation: 1400 kW
+peak quarter before recuperation: 0 kJ, no whole quarter hour within the horizon
+peak quarter drawn: 0 kJ, no whole quarter hour within the horizon
+curves: out, bytes 215
+answer: accepted
+";
+    assert_eq!(said, format!("{LABEL}{ACCEPTED}{figures}"));
     let curves = folder.get("out").unwrap();
     let lines: Vec<&str> = curves.lines().collect();
     assert_eq!((lines.len(), &lines[9..15]), (100, &["0", "500", "1000", "250", "-400", "0"][..]));
@@ -240,7 +281,7 @@ fn energies_and_curves() {
     );
     assert_eq!(folder.get("out").unwrap().lines().nth(42), Some("0 -200"));
     let said = folder.told("energy --horizon 100 t p c t --room curves=199", 2);
-    assert!(said.contains("refused: 16 (lent room too short)"), "{said}");
+    assert!(said.contains("\nrefused 16: lent room too short\n"), "{said}");
 }
 
 #[test]
@@ -248,15 +289,16 @@ fn merges_are_written_whole_or_not_at_all() {
     let folder = Folder::new("merges");
     folder.put("later", "old");
     let said = folder.told("merge --horizon 100 t p c a b --earlier earlier --later later", 0);
-    assert_eq!(said, format!("{LABEL}accepted\n  written: earlier, {0} bytes\n  written: later, {0} bytes\n", draft().len()));
+    let written = format!("merged, earlier: earlier, bytes {0}\nmerged, later: later, bytes {0}\n", draft().len());
+    assert_eq!(said, format!("{LABEL}{ACCEPTED}{written}answer: accepted\n"));
     assert_eq!(folder.get("earlier"), Some(draft()));
     assert_eq!(folder.get("later"), Some(solution("15_4_7", "45_3_8")));
     folder.put("b", &solution("10_4_7", "50_3_8"));
     let said = folder.told("merge --horizon 100 t p c a b --earlier one --later later", 2);
-    assert!(said.contains("refused: 8 (nominal not in its list)\n  second solution b, place 145: line 3"), "{said}");
+    assert!(said.contains("\nrefused 8: nominal not in its list\nfile: second solution (b), place: 145, line: 3\n"), "{said}");
     folder.put("b", &solution("10_4_7", "50_3_8").replace("45_3_8", "50_3_8"));
     let said = folder.told("merge --horizon 100 t p c a b --earlier one --later later", 1);
-    assert!(said.contains("choice not offered in the second solution, row 1") && said.contains("chosen: 50_3_8"), "{said}");
+    assert!(said.contains("position 1, inequality 0\nfile: second solution (b)\n") && said.contains("\nchosen: 50_3_8\n"), "{said}");
     assert_eq!(folder.get("later"), Some(solution("15_4_7", "45_3_8")));
     assert_eq!(folder.names(), ["a", "b", "c", "earlier", "later", "p", "t"]);
 }
@@ -317,7 +359,7 @@ fn a_row_is_shown() {
 fn less_room_is_refused() {
     let folder = Folder::new("room");
     let said = folder.told("check --horizon 100 t p c a --room legs=15", 2);
-    assert!(said.contains("refused: 16 (lent room too short)\n  timetable t, place 145"), "{said}");
+    assert!(said.contains("\nrefused 16: lent room too short\nfile: timetable (t), place: 145, line: 3\n"), "{said}");
 }
 
 #[test]
@@ -325,5 +367,5 @@ fn any_bytes_are_shown_as_words() {
     let folder = Folder::new("bytes");
     fs::write(folder.0.join("t"), [HEADER.as_bytes(), b"\xff\x1b\n"].concat()).unwrap();
     let said = folder.told("check --horizon 100 t p c a", 2);
-    assert!(said.contains("    \\xff\\x1b\n    ^\n"), "{said}");
+    assert!(said.contains("\nrow: \\xff\\x1b\n"), "{said}");
 }

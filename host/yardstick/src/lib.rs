@@ -47,6 +47,17 @@ pub struct Bytes<'a> {
 }
 
 impl<'a> Bytes<'a> {
+    /// A text that is not too long, behind its header.
+    fn behind(text: &'a [u8], head: &[u8]) -> Result<Bytes<'a>, Said> {
+        if text.len() > MOST_TEXT {
+            return Err(Said::Refused(TOO_LONG, 0));
+        }
+        if !text.starts_with(head) {
+            return Err(Said::Refused(HEADER, 0));
+        }
+        Ok(Bytes { text, at: head.len() })
+    }
+
     #[inline(always)]
     fn digit(&self) -> Option<u32> {
         let digit = self.text.get(self.at)?.wrapping_sub(b'0');

@@ -33,13 +33,10 @@ impl Bytes<'_> {
 }
 
 pub fn read(text: &[u8], profiles: &mut [u32], samples: &mut [i32]) -> Said {
-    if text.len() > MOST_TEXT {
-        return Said::Refused(TOO_LONG, 0);
-    }
-    if !text.starts_with(HEAD) {
-        return Said::Refused(HEADER, 0);
-    }
-    let mut bytes = Bytes { text, at: HEAD.len() };
+    let mut bytes = match Bytes::behind(text, HEAD) {
+        Ok(bytes) => bytes,
+        Err(refused) => return refused,
+    };
     let (mut rows, mut filled, mut ids_seen) = (0u32, 0u32, Seen::default());
     while bytes.at < text.len() {
         let place = bytes.at as u32;

@@ -1,6 +1,6 @@
 //! A solution by hand: 3 numbers a row, its nominal. Its list is tested and not kept.
 
-use super::timetable::{HEAD, MOST_ENTRIES, MOST_LIST, MOST_ROWS};
+use super::timetable::HEAD;
 use super::*;
 use crate::ids::Seen;
 
@@ -9,13 +9,10 @@ pub const IDS: usize = 5;
 
 /// The counts are those of its rows and of its entries. `ids` gets the first five columns of each row.
 pub fn read(text: &[u8], h: u32, choices: &mut [u32], ids: &mut Vec<u32>) -> Said {
-    if text.len() > MOST_TEXT {
-        return Said::Refused(TOO_LONG, 0);
-    }
-    if !text.starts_with(HEAD) {
-        return Said::Refused(HEADER, 0);
-    }
-    let mut bytes = Bytes { text, at: HEAD.len() };
+    let mut bytes = match Bytes::behind(text, HEAD) {
+        Ok(bytes) => bytes,
+        Err(refused) => return refused,
+    };
     let (mut rows, mut filled, mut ids_seen) = (0u32, 0u32, Seen::default());
     ids.clear();
     while bytes.at < text.len() {
@@ -25,17 +22,8 @@ pub fn read(text: &[u8], h: u32, choices: &mut [u32], ids: &mut Vec<u32>) -> Sai
             Some(row) => row,
             None => return refused(FORM),
         };
-        if !row.in_range {
-            return refused(RANGE);
-        }
-        if rows >= MOST_ROWS || row.entries > MOST_LIST || filled + row.entries > MOST_ENTRIES {
-            return refused(COUNT);
-        }
-        if !ids_seen.is_new(ids, IDS, rows as usize, row.ids[0]) {
-            return refused(SEEN);
-        }
-        if row.before == row.entries {
-            return refused(NOMINAL);
+        if let Some(number) = row.fault(rows, filled, |id| ids_seen.is_new(ids, IDS, rows as usize, id)) {
+            return refused(number);
         }
         let at = rows as usize * 3;
         let room = match choices.get_mut(at..at + 3) {

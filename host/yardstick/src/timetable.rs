@@ -5,9 +5,9 @@ use crate::ids::Seen;
 
 pub const HEAD: &[u8] =
     b"leg_id,train_id,track_id,start_station_id,end_station_id,nominal_departure_configuration,departure_configurations\n";
-pub const MOST_ROWS: u32 = 32_768;
-pub const MOST_LIST: u32 = 64;
-pub const MOST_ENTRIES: u32 = 1_048_576;
+const MOST_ROWS: u32 = 32_768;
+const MOST_LIST: u32 = 64;
+const MOST_ENTRIES: u32 = 1_048_576;
 const MOST_TRAVEL: u32 = 3_600;
 
 pub type Entry = (u32, u32, u32);
@@ -26,6 +26,23 @@ pub struct Row {
     pub entries: u32,
     pub before: u32,
     pub in_range: bool,
+}
+
+impl Row {
+    /// The lowest number that a row of the right form is refused with, after so many rows and entries.
+    #[inline(always)]
+    pub fn fault(&self, rows: u32, filled: u32, is_new: impl FnOnce(u32) -> bool) -> Option<u8> {
+        if !self.in_range {
+            return Some(RANGE);
+        }
+        if rows >= MOST_ROWS || self.entries > MOST_LIST || filled + self.entries > MOST_ENTRIES {
+            return Some(COUNT);
+        }
+        if !is_new(self.ids[0]) {
+            return Some(SEEN);
+        }
+        (self.before == self.entries).then_some(NOMINAL)
+    }
 }
 
 impl Bytes<'_> {
@@ -61,13 +78,10 @@ impl Bytes<'_> {
 }
 
 pub fn read(text: &[u8], h: u32, legs: &mut [u32], configurations: &mut [u32]) -> Said {
-    if text.len() > MOST_TEXT {
-        return Said::Refused(TOO_LONG, 0);
-    }
-    if !text.starts_with(HEAD) {
-        return Said::Refused(HEADER, 0);
-    }
-    let mut bytes = Bytes { text, at: HEAD.len() };
+    let mut bytes = match Bytes::behind(text, HEAD) {
+        Ok(bytes) => bytes,
+        Err(refused) => return refused,
+    };
     let (mut rows, mut filled, mut ids_seen) = (0u32, 0u32, Seen::default());
     while bytes.at < text.len() {
         let place = bytes.at as u32;
@@ -84,17 +98,8 @@ pub fn read(text: &[u8], h: u32, legs: &mut [u32], configurations: &mut [u32]) -
             Some(row) => row,
             None => return refused(FORM),
         };
-        if !row.in_range {
-            return refused(RANGE);
-        }
-        if rows >= MOST_ROWS || row.entries > MOST_LIST || filled + row.entries > MOST_ENTRIES {
-            return refused(COUNT);
-        }
-        if !ids_seen.is_new(legs, LEG, rows as usize, row.ids[0]) {
-            return refused(SEEN);
-        }
-        if row.before == row.entries {
-            return refused(NOMINAL);
+        if let Some(number) = row.fault(rows, filled, |id| ids_seen.is_new(legs, LEG, rows as usize, id)) {
+            return refused(number);
         }
         let at = rows as usize * 8;
         if legs.len() < at + 8 || configurations.len() / 3 < (filled + row.entries) as usize {

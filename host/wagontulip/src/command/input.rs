@@ -1,6 +1,6 @@
 //! Input files, read whole and never mapped: a mapped file can change while it is judged.
 
-use super::{sha256, CouldNotRun};
+use super::{printable, sha256, CouldNotRun};
 use std::fs;
 use std::io::Read;
 use std::os::unix::fs::MetadataExt;
@@ -28,6 +28,11 @@ impl Input {
 
     pub fn name(&self) -> String {
         self.path.to_string_lossy().into_owned()
+    }
+
+    /// What it is, and its name.
+    pub fn told(&self) -> String {
+        format!("{} ({})", self.role, printable(&self.path))
     }
 
     pub fn sha256(&self) -> String {

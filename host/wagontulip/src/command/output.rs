@@ -44,6 +44,8 @@ fn same(one: &Path, other: &Path) -> bool {
 
 /// A text and the file it is for.
 pub struct Output<'a> {
+    /// What the text is.
+    pub role: &'static str,
     pub path: &'a Path,
     pub text: Vec<u8>,
 }

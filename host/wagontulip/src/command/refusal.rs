@@ -1,4 +1,4 @@
-//! A refusal in words: the line with its number, the place, and the row.
+//! A refusal in words: the file, the line with its number, the place, and the row.
 
 use super::input::Input;
 use wagontulip::{row_at, File, Refusal, Unknown};
@@ -6,24 +6,21 @@ use wagontulip::{row_at, File, Refusal, Unknown};
 /// A line may be a whole text: more is cut.
 const SHOWN: usize = 160;
 
-/// Lines without the answer's own word. The inputs are in the order of document 01's file numbers, from 1.
+/// The lines of a refusal. The inputs are in the order of document 01's file numbers, from 1.
 pub fn told(refusal: &Refusal, inputs: &[Input]) -> Result<String, Unknown> {
-    let meaning = format!("{} ({})\n", refusal.reason.number(), refusal.reason.meaning());
+    let head = format!("refused {}: {}\nfile: ", refusal.reason.number(), refusal.reason.meaning());
     let input = match refusal.file {
-        File::None => return Ok(meaning),
+        File::None => return Ok(format!("{head}no file, place: {}\n", refusal.place)),
         file => &inputs[usize::from(file.number()) - 1],
     };
     let place = refusal.place as usize;
-    let head = format!("{meaning}  {} {}, place {place}", input.role, input.name());
+    let head = format!("{head}{}, place: {place}", input.told());
     if place >= input.text.len() {
-        return Ok(format!("{head}: the end of the text\n"));
+        return Ok(format!("{head}, the end of the text\n"));
     }
     let line = Line::at(&input.text, place);
-    let (shown, mark) = match row(refusal, &input.text)? {
-        Some(row) => (escaped(&row[..row.len().min(SHOWN)]), 0),
-        None => line.about(),
-    };
-    Ok(format!("{head}: line {}, byte {} of it\n    {shown}\n    {:mark$}^\n", line.number, line.byte, ""))
+    let shown = row(refusal, &input.text)?.map_or_else(|| line.about(), row_shown);
+    Ok(format!("{head}, line: {}\n{shown}", line.number))
 }
 
 /// A CSV row is cut out by the library, which knows a draft and a solution: any CSV text may stand for either.
@@ -32,6 +29,13 @@ fn row<'a>(refusal: &Refusal, text: &'a [u8]) -> Result<Option<&'a [u8]>, Unknow
         File::Constraints => Ok(None),
         _ => row_at(text, &[], File::Timetable.number(), refusal.place),
     }
+}
+
+fn row_shown(row: &[u8]) -> String {
+    if row.len() <= SHOWN {
+        return format!("row: {}\n", escaped(row));
+    }
+    format!("row, the first {SHOWN} of its {} bytes: {}\n", row.len(), escaped(&row[..SHOWN]))
 }
 
 /// The line that holds a place; both counts from 1.
@@ -49,12 +53,16 @@ impl Line<'_> {
         Line { number, byte: place - start + 1, bytes: &text[start..end] }
     }
 
-    /// The bytes about the place, and how far in it stands.
-    fn about(&self) -> (String, usize) {
-        let first = (self.byte - 1).saturating_sub(SHOWN / 2);
+    /// The line, or of a long one the bytes about the place, and below them where it is.
+    fn about(&self) -> String {
+        let (first, head) = match self.byte.saturating_sub(SHOWN / 2) {
+            first if first > 0 && self.bytes.len() > SHOWN => (first, format!("text, from byte {} of the line: ", first + 1)),
+            _ => (0, String::from("text: ")),
+        };
         let last = self.bytes.len().min(first + SHOWN);
         let before = escaped(&self.bytes[first..self.byte - 1]);
-        (format!("{before}{}", escaped(&self.bytes[self.byte - 1..last])), before.len())
+        let mark = head.len() + before.len();
+        format!("{head}{before}{}\n{:mark$}^\n", escaped(&self.bytes[self.byte - 1..last]), "")
     }
 }
 
@@ -80,12 +88,25 @@ mod tests {
         assert_eq!(at(5), (3, 2, &b"cde"[..]));
     }
 
+    /// From where it is shown, how many bytes, and where the mark stands among them.
     #[test]
     fn a_long_line_is_cut_about_the_place() {
-        let text = [b'x'; 1_000];
-        let (shown, mark) = Line::at(&text, 500).about();
-        assert_eq!((shown.len(), mark), (SHOWN, SHOWN / 2));
-        let (shown, mark) = Line::at(&text, 999).about();
-        assert_eq!((shown.len(), mark), (SHOWN / 2 + 1, SHOWN / 2));
+        let about = |length: usize, place: usize| {
+            let said = Line::at(&vec![b'x'; length], place).about();
+            let (line, mark) = said.split_once('\n').unwrap();
+            let (head, shown) = line.split_once(": ").unwrap();
+            (head.to_string(), shown.len(), mark.find('^').unwrap() - head.len() - 2)
+        };
+        assert_eq!(about(1_000, 500), (String::from("text, from byte 422 of the line"), SHOWN, SHOWN / 2 - 1));
+        assert_eq!(about(1_000, 999), (String::from("text, from byte 921 of the line"), SHOWN / 2, SHOWN / 2 - 1));
+        assert_eq!(about(1_000, 3), (String::from("text"), SHOWN, 3));
+        assert_eq!(about(SHOWN, 130), (String::from("text"), SHOWN, 130));
+    }
+
+    #[test]
+    fn a_long_row_is_cut() {
+        assert_eq!(row_shown(b"ab\xff"), "row: ab\\xff\n");
+        let said = row_shown(&[b'x'; 1_000]);
+        assert!(said.starts_with("row, the first 160 of its 1000 bytes: xxx") && said.ends_with("x\n"), "{said}");
     }
 }

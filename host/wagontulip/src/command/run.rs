@@ -1,25 +1,13 @@
-//! What a call does, and what it prints.
+//! What a call does.
 
 use super::arguments::{Call, Work, USAGE};
 use super::input::Input;
-use super::json::{array, Object};
+use super::json::Object;
 use super::output::{self, Output};
-use super::{refusal, violation, CouldNotRun};
+use super::told::{evidence, Judged, Told, ACCEPTED, VERSION};
+use super::{energies, CouldNotRun};
 use std::path::{Path, PathBuf};
-use wagontulip::{row_at, Answer, Checker, Figures, Files, Room, Rooms, Unknown, LABEL, LINKED};
-
-pub const ACCEPTED: u8 = 0;
-pub const VIOLATED: u8 = 1;
-pub const REFUSED: u8 = 2;
-pub const COULD_NOT_RUN: u8 = 3;
-
-const VERSION: &str = env!("CARGO_PKG_VERSION");
-
-/// What is printed, and the exit status.
-pub struct Told {
-    pub status: u8,
-    pub text: Vec<u8>,
-}
+use wagontulip::{row_at, Answer, Checker, Files, Rooms, Unknown, LABEL, LINKED};
 
 impl From<Unknown> for CouldNotRun {
     fn from(unknown: Unknown) -> CouldNotRun {
@@ -75,12 +63,12 @@ fn energy(call: &Call, horizon: u32, files: &[PathBuf], curves: Option<&Path>) -
     let mut checker = checker(call);
     let mut outputs = Vec::new();
     let answer = checker.energy(horizon, &texts(&inputs), &inputs[3].text)?.map(|energies| {
-        outputs.extend(curves.map(|path| Output { path, text: curve_lines(&energies.curves, horizon) }));
+        outputs.extend(curves.map(|path| Output { role: "curves", path, text: energies::curve_lines(&energies.curves, horizon) }));
         energies.figures
     });
     output::write(&outputs)?;
     let result = Judged { horizon, answer, inputs: &inputs, outputs: &outputs, room: &checker.room };
-    result.told(call.json, |figures| figure_lines(&figures), |object, figures| figure_values(object, &figures))
+    result.told(call.json, |figures| energies::lines(&figures, horizon), |object, figures| energies::values(object, &figures, horizon))
 }
 
 /// Both texts are made before either is written.
@@ -90,10 +78,10 @@ fn merge(call: &Call, horizon: u32, files: &[PathBuf], [earlier, later]: [&Path;
     let (files, first, second) = (texts(&inputs), &inputs[3].text, &inputs[4].text);
     let mut checker = checker(call);
     let mut outputs = Vec::new();
-    let mut answer =
-        checker.merge_earlier(horizon, &files, first, second)?.map(|text| outputs.push(Output { path: earlier, text: text.to_vec() }));
+    let mut keep = |role, path, text: &[u8]| outputs.push(Output { role, path, text: text.to_vec() });
+    let mut answer = checker.merge_earlier(horizon, &files, first, second)?.map(|text| keep("merged, earlier", earlier, text));
     if answer == Answer::Accepted(()) {
-        answer = checker.merge_later(horizon, &files, first, second)?.map(|text| outputs.push(Output { path: later, text: text.to_vec() }));
+        answer = checker.merge_later(horizon, &files, first, second)?.map(|text| keep("merged, later", later, text));
     }
     if answer != Answer::Accepted(()) {
         outputs.clear();
@@ -101,112 +89,6 @@ fn merge(call: &Call, horizon: u32, files: &[PathBuf], [earlier, later]: [&Path;
     output::write(&outputs)?;
     let result = Judged { horizon, answer, inputs: &inputs, outputs: &outputs, room: &checker.room };
     result.told(call.json, |()| String::new(), |object, ()| object)
-}
-
-/// An answer with all that its words and its evidence need.
-struct Judged<'a, T> {
-    horizon: u32,
-    answer: Answer<T>,
-    inputs: &'a [Input],
-    outputs: &'a [Output<'a>],
-    room: &'a Room,
-}
-
-impl<T: Copy> Judged<'_, T> {
-    /// `lines` and `values` say what an accepted answer carries, in words and as keys.
-    fn told(&self, json: bool, lines: impl Fn(T) -> String, values: impl Fn(Object, T) -> Object) -> Result<Told, CouldNotRun> {
-        let text = if json { self.object(values) } else { self.words(lines)? };
-        Ok(Told { status: self.status(), text: text.into_bytes() })
-    }
-
-    fn status(&self) -> u8 {
-        match self.answer {
-            Answer::Accepted(_) => ACCEPTED,
-            Answer::Violated(_) => VIOLATED,
-            Answer::Refused(_) => REFUSED,
-        }
-    }
-
-    fn words(&self, lines: impl Fn(T) -> String) -> Result<String, CouldNotRun> {
-        let mut text = match self.answer {
-            Answer::Accepted(given) => format!("{LABEL}\naccepted\n{}", lines(given)),
-            Answer::Violated(violation) => format!("{LABEL}\nviolated: {}", violation::told(self.room, &violation)),
-            Answer::Refused(refusal) => format!("{LABEL}\nrefused: {}", refusal::told(&refusal, self.inputs)?),
-        };
-        for output in self.outputs {
-            text.push_str(&format!("  written: {}, {} bytes\n", output.name(), output.text.len()));
-        }
-        Ok(text)
-    }
-
-    fn object(&self, values: impl Fn(Object, T) -> Object) -> String {
-        let object = Object::new().text("label", LABEL);
-        let object = match self.answer {
-            Answer::Accepted(given) => values(object.text("answer", "accepted"), given),
-            Answer::Violated(violation) => object
-                .text("answer", "violated")
-                .value("kind", violation.kind.number())
-                .value("position", violation.position)
-                .value("inequality", violation.inequality)
-                .value("shortfall", violation.shortfall)
-                .value("file", violation.file.number()),
-            Answer::Refused(refusal) => object
-                .text("answer", "refused")
-                .value("number", refusal.reason.number())
-                .value("file", refusal.file.number())
-                .value("place", refusal.place),
-        };
-        let outputs = array(self.outputs.iter().map(|output| file_object(&output.name(), &output.text, output.sha256())));
-        let object = evidence(object.value("horizon", self.horizon), self.inputs).value("outputs", outputs);
-        format!("{}\n", object.close())
-    }
-}
-
-/// For the release engineer's signature.
-fn evidence(object: Object, inputs: &[Input]) -> Object {
-    let inputs = inputs.iter().map(|input| file_object(&input.name(), &input.text, input.sha256()));
-    object.text("version", &format!("{VERSION} ({LINKED})")).value("inputs", array(inputs))
-}
-
-fn file_object(name: &str, text: &[u8], sha256: String) -> String {
-    Object::new().text("name", name).value("bytes", text.len()).text("sha256", &sha256).close()
-}
-
-fn figure_lines(f: &Figures) -> String {
-    [
-        format!("  before recuperation: {} kJ ({} MWh)\n", f.before_kj, f.before_mwh),
-        format!("  drawn: {} kJ ({} MWh)\n", f.drawn_kj, f.drawn_mwh),
-        format!("  lost: {} kJ ({} MWh)\n", f.lost_kj, f.lost_mwh),
-        format!("  fluctuation: {} kW\n", f.fluctuation_kw),
-        format!("  peak quarter before recuperation: {} kJ\n", f.peak_before_kj),
-        format!("  peak quarter drawn: {} kJ ({} MW)\n", f.peak_drawn_kj, f.peak_drawn_mw),
-    ]
-    .concat()
-}
-
-fn figure_values(object: Object, figures: &Figures) -> Object {
-    object
-        .value("before_kj", figures.before_kj)
-        .value("drawn_kj", figures.drawn_kj)
-        .value("lost_kj", figures.lost_kj)
-        .value("fluctuation_kw", figures.fluctuation_kw)
-        .value("peak_before_kj", figures.peak_before_kj)
-        .value("peak_drawn_kj", figures.peak_drawn_kj)
-        .value("before_mwh", figures.before_mwh)
-        .value("drawn_mwh", figures.drawn_mwh)
-        .value("lost_mwh", figures.lost_mwh)
-        .value("peak_drawn_mw", figures.peak_drawn_mw)
-}
-
-/// One line a second, the subnets' kW in order, one space between.
-fn curve_lines(curves: &[&[i32]], horizon: u32) -> Vec<u8> {
-    let mut lines = String::new();
-    for second in 0..horizon as usize {
-        let powers: Vec<String> = curves.iter().map(|curve| curve[second].to_string()).collect();
-        lines.push_str(&powers.join(" "));
-        lines.push('\n');
-    }
-    lines.into_bytes()
 }
 
 /// A row is shown, not judged: the status is 0, also where none starts there.

@@ -1,0 +1,36 @@
+/*
+ * Wagontulip from C: null with length 0 is a text, or a table, of nothing. Exit status: 0 where each answer is the one to expect.
+ */
+#include "wagontulip.h"
+
+#include <stdio.h>
+#include <string.h>
+
+static const char DRAFT[] =
+    "leg_id,train_id,track_id,start_station_id,end_station_id,nominal_departure_configuration,departure_configurations\n"
+    "1,1,1,1,2,10_4_7,10_4_7 15_4_7\n";
+
+enum { HEADER_DIFFERS = 3, ROOM_TOO_SHORT = 16, TIMETABLE = 1, FIRST_ROW = 114 };
+
+static int refused(const char *timetable, size_t length, uint64_t number, uint64_t place) {
+    uint64_t answer[WAGONTULIP_NUMBERS];
+    wagontulip_check(100, (const uint8_t *)timetable, length, NULL, 0, NULL, 0, NULL, 0, NULL, 0, NULL, 0, NULL, 0, NULL, 0, NULL, 0, NULL, 0, NULL, 0,
+                     answer);
+    return answer[0] == WAGONTULIP_REFUSED && answer[WAGONTULIP_NUMBER] == number && answer[WAGONTULIP_REFUSED_FILE] == TIMETABLE &&
+           answer[WAGONTULIP_PLACE] == place;
+}
+
+/* No row starts in no text. */
+static int no_row(void) {
+    uint64_t answer[WAGONTULIP_NUMBERS];
+    wagontulip_row(NULL, 0, NULL, 0, TIMETABLE, 0, answer);
+    return answer[0] == WAGONTULIP_ROW && answer[WAGONTULIP_START] == 0 && answer[WAGONTULIP_ROW_LENGTH] == 0;
+}
+
+int main(void) {
+    int good = refused(NULL, 0, HEADER_DIFFERS, 0) && refused(DRAFT, strlen(DRAFT), ROOM_TOO_SHORT, FIRST_ROW) && no_row();
+    if (!good) {
+        fprintf(stderr, "nothing: another answer\n");
+    }
+    return good ? 0 : 1;
+}

@@ -15,7 +15,7 @@ use Rattle.rules.specs.Bytes.{wholeOf}
 use Rattle.rules.specs.Answers.{outOfRange, tooMany, alreadySeen, badJson, unknownName, repeatedOrMissing, notThere, noRoom, Reading, good}
 use Rattle.rules.specs.Kinds.{unknown, subnets, connectionType, subnetId, trackIds}
 use Rattle.rules.specs.Tokens.{Token}
-use Rattle.rules.specs.Constraints.{Document, Turn, fault, on, goes, inList, inRecord, atKey, withEntry, withId, withTrack, withSubnet, entered, keysOf, listBit, allLists, plainRules, numberOf, isNumber, rowOfLeg, listName, documentEnds, recordOpens, keyName, recordEnds, stringValue, legValue, subnetValue, secondsValue, numberValue, tracksOpen, trackNumber, onward}
+use Rattle.rules.specs.Constraints.{Document, Turn, fault, goes, inList, inRecord, atKey, withEntry, withId, withTrack, withSubnet, entered, keysOf, listBit, allLists, plainRules, numberOf, isNumber, rowOfLeg, listName, documentEnds, recordOpens, keyName, recordEnds, stringValue, legValue, subnetValue, secondsValue, numberValue, tracksOpen, trackNumber, onward}
 use Rattle.rules.specs.declared.tokens.Phase.the-variants.{Done, AfterRecord, FirstTrack, AfterTrack}
 use Rattle.rules.specs.declared.tokens.State.{State}
 use Rattle.laws.proofs.Keys.{has}

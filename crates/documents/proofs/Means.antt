@@ -15,6 +15,7 @@ use Rattle.rules.specs.Constraints.{Document, document, empty, withId, withTrac
 use Rattle.rules.specs.Verdict.{All}
 use Rattle.rules.specs.declared.sizes.Constraint.{Constraint}
 use Rattle.rules.specs.declared.sizes.Track.{Track}
+use Rattle.rules.proofs.Lists.{flat-append}
 use Rattle.laws.proofs.DocumentWords.{is-false}
 use Rattle.laws.proofs.Keys.{has, id-of-subnet, tracks-of-subnet}
 use Rattle.documents.specs.Value.{Member, number, type, trackList, keyOf, Value, said, constraintOf, idsOf, tracksOf, tracksFrom, constraintsIn, subnetsIn, documentOf, sixLists, Among}
@@ -45,10 +46,6 @@ from-append place (ms ∷ rs) more =
     let same : place + 1 + length rs ≡ place + suc (length rs) = omega arith in
     rw (from-append (place + 1) rs more, same)
     (sym (append-assoc (tracksAt place (flat tracksOf ms)) (tracksFrom (place + 1) rs) (tracksFrom (place + suc (length rs)) more)))
-
-flat-append : {A B : Type 0} (f : A → List B) (s t : List A) → flat f (s ++ t) ≡ flat f s ++ flat f t
-flat-append f [] t = refl
-flat-append f (x ∷ s) t = rw (flat-append f s t) (sym (append-assoc (f x) (flat f s) (flat f t)))
 
 -- ---- the members of a subnet
 

@@ -18,7 +18,7 @@ use Rattle.tables.specs.View.{entryAt, profileAt, trackAt, tracksIn}
 use Rattle.ids.specs.Column.{column, foundOf, placeOf}
 use Rattle.ids.specs.declared.Found.{Found}
 use Rattle.ids.specs.declared.Found.the-variants.{At, Nothing}
-use Rattle.ids.proofs.Written.{tabulate-same}
+use Rattle.rules.proofs.Lists.{tabulate-ext}
 use Rattle.energy.specs.Seen.{profileOr, profileSeen}
 
 module _ {A : Type 0} (F : ℕ → A) where
@@ -52,18 +52,18 @@ module _ {A : Type 0} (F : ℕ → A) where
             ≡ atPlace (cond b (some m) (placeFrom (suc m) (λ x. eqb x id) (tabulate n (λ i. idOf (F (m + suc i))))))
         go true ih = ap (λ k. some (F k)) (add-zero m)
         go false ih =
-            ap (first (λ a. eqb (idOf a) id)) (tabulate-same n _ _ (λ i. ap F (sym (next i))))
+            ap (first (λ a. eqb (idOf a) id)) (tabulate-ext n _ _ (λ i. ap F (sym (next i))))
             ∙ ih
-            ∙ ap (λ l. atPlace (placeFrom (suc m) (λ x. eqb x id) l)) (tabulate-same n _ _ (λ i. ap (λ k. idOf (F k)) (next i)))
+            ∙ ap (λ l. atPlace (placeFrom (suc m) (λ x. eqb x id) l)) (tabulate-ext n _ _ (λ i. ap (λ k. idOf (F k)) (next i)))
 
     -- the ids as a column holds them
     pub first-found : (width n : ℕ) (t : List ℕ) → ((i : ℕ) → idOf (F i) ≡ entryAt width t i 0)
         → first (λ a. eqb (idOf a) id) (tabulate n F) ≡ atFound (placeOf id (column width n t))
     unfolding column
     first-found width n t e =
-        ap (first (λ a. eqb (idOf a) id)) (tabulate-same n _ _ (λ i. ap F (sym (zero-add i))))
+        ap (first (λ a. eqb (idOf a) id)) (tabulate-ext n _ _ (λ i. ap F (sym (zero-add i))))
         ∙ first-from 0 n
-        ∙ ap (λ l. atPlace (firstPlace (λ x. eqb x id) l)) (tabulate-same n _ _ same)
+        ∙ ap (λ l. atPlace (firstPlace (λ x. eqb x id) l)) (tabulate-ext n _ _ same)
         ∙ sym (found-place (firstPlace (λ x. eqb x id) (tabulate n (λ i. getD t (i * width) 0))))
       where
         place : (i : ℕ) → width * (0 + i) + 0 ≡ i * width

@@ -1,7 +1,6 @@
 pub mod Column
 pub mod Written
 pub mod Curves
-pub mod More
 pub mod Places
 pub mod Onward
 pub mod Halves

@@ -1,5 +1,5 @@
 -- The ids of a table whose records were written one after the other: they are the records' ids. Assumes nothing.
-use Prim.Native.Nat.{ℕ, zero, suc, _+_, _*_, _≤_}
+use Prim.Native.Nat.{ℕ, suc, _+_, _*_, _≤_}
 use mathlib.Core.Path.{_≡_, refl, ap, ap₂, _∙_}
 use mathlib.Core.Bool.{not, _||_}
 use mathlib.Core.List.{List, [], _∷_, _++_, map, append-assoc}
@@ -9,18 +9,13 @@ use lib.Dec.{eqb}
 use lib.ListN.{length, getD, List·getD-append}
 use lib.Seq.{getD-append-add}
 use Rattle.rules.specs.Lists.{any, flat}
-use Rattle.rules.specs.Energy.{tabulate}
+use Rattle.rules.proofs.Lists.{tabulate-ext}
 use Rattle.ids.specs.Column.{column, isNew}
-
--- values that agree make the same list
-pub tabulate-same : {A : Type 0} (n : ℕ) (f g : ℕ → A) → ((i : ℕ) → f i ≡ g i) → tabulate n f ≡ tabulate n g
-tabulate-same zero f g e = refl
-tabulate-same (suc n) f g e = ap₂ (λ x xs. x ∷ xs) (e 0) (tabulate-same n (λ i. f (suc i)) (λ i. g (suc i)) (λ i. e (suc i)))
 
 -- a record in front
 pub column-cons : (width n : ℕ) (w t : List ℕ) → 1 ≤ width → length w ≡ width → column width (suc n) (w ++ t) ≡ getD w 0 0 ∷ column width n t
 unfolding column
-column-cons width n w t one e = ap₂ (λ x xs. x ∷ xs) first (tabulate-same n _ _ others)
+column-cons width n w t one e = ap₂ (λ x xs. x ∷ xs) first (tabulate-ext n _ _ others)
   where
     first : getD (w ++ t) (0 * width) 0 ≡ getD w 0 0
     first = rw (zero-mul width) (List·getD-append w t 0 0 (omega arith))

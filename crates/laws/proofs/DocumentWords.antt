@@ -10,16 +10,9 @@ use lib.ListN.{length}
 use borrow.Author.Tests.{eqb-true}
 use Rattle.rules.specs.Lists.{any, every, placeFrom, isSome}
 use Rattle.rules.proofs.Truth.{by-case}
+pub use Rattle.rules.proofs.Truth.{and-first, and-second}
 
 -- ---- tests
-
-pub and-first : (a b : Bool) → a && b ≡ true → a ≡ true
-and-first true b e = refl
-and-first false b e = e
-
-pub and-second : (a b : Bool) → a && b ≡ true → b ≡ true
-and-second true b e = e
-and-second false b e = absurd (true≢false (sym e))
 
 pub or-first : (a b : Bool) → a || b ≡ false → a ≡ false
 or-first true b e = e

@@ -26,7 +26,7 @@ use Rattle.profiles.specs.declared.reader.Tail.{Tail}
 use Rattle.profiles.specs.Near.{cap}
 use Rattle.profiles.specs.Open.{kwOf}
 use Rattle.profiles.specs.Holds.{inRange, Digits, Closes, ClosesTo}
-use Rattle.ids.proofs.More.{every-more}
+use Rattle.rules.proofs.Lists.{every-more}
 use Rattle.profiles.proofs.Tables.{over-more, samples-length}
 
 -- ---- kW

@@ -12,6 +12,7 @@ use Rattle.rules.specs.declared.sizes.Configuration.{Configuration}
 use Rattle.rules.specs.Lists.{sumOf}
 use Rattle.rules.specs.Bytes.{bytes}
 use Rattle.rules.specs.Kinds.{kindTable, noKind, byAnchors, ruleOf, keyNamed}
+use Rattle.rules.proofs.Truth.{and-first, and-second}
 
 -- the row of kind k + 1
 abbrev pub kindAt : ℕ → Kind
@@ -48,13 +49,9 @@ abbrev below : (ℕ → Bool) → ℕ → Bool
 below p zero = true
 below p (suc n) = p n && below p n
 
-both : (a b : Bool) → a && b ≡ true → (a ≡ true) × (b ≡ true)
-both true b e = (refl, e)
-both false b e = let z : _≡_ {A = ℕ} 0 1 = cc in absurd (omega arith)
-
 below-at : (p : ℕ → Bool) (n : ℕ) → below p n ≡ true → (k : ℕ) → k < n → p k ≡ true
 below-at p zero e k h = absurd (omega arith)
-below-at p (suc n) e k h = go (both (p n) (below p n) e .0) (below-at p n (both (p n) (below p n) e .1) k) (eqb k n) refl
+below-at p (suc n) e k h = go (and-first (p n) (below p n) e) (below-at p n (and-second (p n) (below p n) e) k) (eqb k n) refl
   where
     go : p n ≡ true → (k < n → p k ≡ true) → (b : Bool) → eqb k n ≡ b → p k ≡ true
     go here less true same = subst (λ m. p m ≡ true) (sym (eqb-true k n same)) here
@@ -75,7 +72,7 @@ pub kinds-numbers : (k : ℕ) → k < length kindTable → (low high type : ℕ)
 kinds-numbers k h low high type one two =
     let bits = sumOf keyNamed (keysAt k) in
     let count = length (ruleOf (suc k) low high type one two) in
-    let t =
-    both (eqb (kindAt k .keys) bits) (eqb (kindAt k .inequalities) count)
-    (below-at (agrees low high type one two) (length kindTable) (tested low high type one two) k h) in
-    (eqb-true (kindAt k .keys) bits (t .0), eqb-true (kindAt k .inequalities) count (t .1))
+    let t = below-at (agrees low high type one two) (length kindTable) (tested low high type one two) k h in (
+      eqb-true (kindAt k .keys) bits (and-first (eqb (kindAt k .keys) bits) (eqb (kindAt k .inequalities) count) t),
+      eqb-true (kindAt k .inequalities) count (and-second (eqb (kindAt k .keys) bits) (eqb (kindAt k .inequalities) count) t),
+    )

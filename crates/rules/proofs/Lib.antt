@@ -1,6 +1,7 @@
 -- The laws of the definitions that readers and writers cite.
--- Tests, pieces of texts, numbers and their spelling
+-- Tests, lists, pieces of texts, numbers and their spelling
 pub mod Truth
+pub mod Lists
 pub mod Pieces
 pub mod Numbers
 -- The tokens of constraints.json, and the table of kinds

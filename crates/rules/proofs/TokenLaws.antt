@@ -16,14 +16,9 @@ use Rattle.rules.specs.Constraints.{classNumber}
 use Rattle.rules.specs.declared.tokens.Class.{Class}
 use Rattle.rules.specs.declared.tokens.Class.the-variants.{Quoted, End, Unclosed, Forbidden}
 use Rattle.rules.proofs.Truth.{by-case}
+use Rattle.rules.proofs.Lists.{lead-within}
 
 -- ---- one token
-
-lead-within : {A : Type 0} (p : A → Bool) (s : List A) → length (lead p s) ≤ length s
-lead-within p [] = omega arith
-lead-within p (x ∷ s) =
-    let rest = lead-within p s in
-    by-case (λ l. length l ≤ suc (length s)) (p x) (x ∷ lead p s) [] (λ e. omega arith) (λ e. omega arith)
 
 -- a token says the same at any place
 abbrev pub placed : ℕ → Token → Token

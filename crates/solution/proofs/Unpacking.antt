@@ -1,5 +1,5 @@
 -- The last pass puts each choice in the place of its id and itself, and a solution's choices come out. Assumes nothing.
-use Prim.Native.Nat.{ℕ, zero, suc, _+_, _*_, _/_, _%_, _≤_, _<_}
+use Prim.Native.Nat.{ℕ, suc, _+_, _*_, _/_, _%_, _≤_, _<_}
 use mathlib.Core.Path.{_≡_, refl, ap, ap₂, sym, _∙_}
 use mathlib.Core.Bool.{true}
 use mathlib.Core.List.{List, [], _∷_, _++_}
@@ -15,19 +15,13 @@ use Rattle.rules.specs.Timetable.{Row, inRange, choicesOf, configurationNumbers
 use Rattle.rules.specs.Energy.{tabulate}
 use Rattle.rules.specs.Verdict.{All}
 use Rattle.rules.specs.declared.sizes.Configuration.{Configuration}
-use Rattle.ids.proofs.Column.{length-tabulate}
-use Rattle.ids.proofs.Written.{tabulate-same}
+use Rattle.rules.proofs.Lists.{tabulate-length, tabulate-ext, tabulate-more}
 use Rattle.timetable.specs.Held.{storedAt}
 use Rattle.timetable.proofs.Words.{flat-append, flat-length, over-more, over-length, stored-fits, and-left, and-right}
 use Rattle.solution.specs.Before.{travels, packedRow}
 use Rattle.solution.specs.Whole.{unpackedAt, unpacked}
 use Rattle.solution.proofs.Judging.{packed-length}
 use Rattle.solution.proofs.Differing.{choices-length}
-
--- one value more
-tabulate-more : {A : Type 0} (n : ℕ) (f : ℕ → A) → tabulate (suc n) f ≡ tabulate n f ++ f n ∷ []
-tabulate-more zero f = refl
-tabulate-more (suc n) f = ap (λ xs. f 0 ∷ xs) (tabulate-more n (λ i. f (suc i)))
 
 numbers-length : (cs : List Configuration) → length (flat configurationNumbers cs) ≡ length cs * configurationWidth
 numbers-length cs = flat-length configurationNumbers configurationWidth (λ c. refl) cs
@@ -45,7 +39,7 @@ module _ (n : ℕ) (table : List ℕ) (fits : n * configurationWidth ≤ length 
   written i = flat configurationNumbers (tabulate i (unpackedAt table))
 
   written-length : (i : ℕ) → length (written i) ≡ i * configurationWidth
-  written-length i = numbers-length (tabulate i (unpackedAt table)) ∙ ap (λ (k : ℕ). k * configurationWidth) (length-tabulate i (unpackedAt table))
+  written-length i = numbers-length (tabulate i (unpackedAt table)) ∙ ap (λ (k : ℕ). k * configurationWidth) (tabulate-length i (unpackedAt table))
 
   pub unpack-first : Unpacks n table 0 table
   unfolding over
@@ -120,7 +114,7 @@ entries-out : (H : ℕ) (rows : List Row) (rest : List ℕ) → All (λ r. inRan
 entries-out H [] rest h = refl
 entries-out H (r ∷ rows) rest h =
     ap₂ (λ (x : Configuration) (xs : List Configuration). x ∷ xs) (entry-first H r (flat packedRow rows ++ rest) (h .0))
-    (tabulate-same (length rows) _ _ (entry-past r (flat packedRow rows ++ rest)) ∙ entries-out H rows rest (h .1))
+    (tabulate-ext (length rows) _ _ (entry-past r (flat packedRow rows ++ rest)) ∙ entries-out H rows rest (h .1))
 
 -- the choices stand where ids and choices stood
 pub choices-out : (H : ℕ) (rows : List Row) (lent : List ℕ) → All (λ r. inRange H (r .nominal) ≡ true) rows

@@ -1,6 +1,6 @@
 -- Two lists held against each other from the front: the loop of `starts_with`, and `spells` by it. Assumes nothing.
 use Prim.Native.Nat.{ℕ, suc, _+_, _≤_, _<_}
-use mathlib.Core.Path.{_≡_, refl, ap, sym, _∙_}
+use mathlib.Core.Path.{_≡_, refl, ap, _∙_}
 use mathlib.Core.List.{List, [], _∷_}
 use mathlib.Core.Bool.{Bool, true, false, _&&_}
 use native.Mathlib.Omega.{arith}
@@ -8,8 +8,9 @@ use native.Mathlib.Numerals.{add-one}
 use lib.ListN.{length, getD, drop, drop-of-length-le}
 use lib.Seq.{drop-cons}
 use lib.Dec.{eqb}
-use borrow.Author.Tests.{eq-eqb, ne-eqb, eqb-true, eqb-false}
+use borrow.Author.Tests.{eq-eqb, ne-eqb}
 use Rattle.rules.specs.Lists.{sameList, startsWith}
+use Rattle.rules.proofs.Truth.{eqb-swap}
 
 -- ---- the invariant is `startsWith (drop i name) (drop i s) ≡ r`
 
@@ -33,13 +34,6 @@ module _ (name s : List ℕ) (i : ℕ) (r : Bool) (e : startsWith (drop i name) 
   start-all h = rw (drop-of-length-le name h) at e
 
 -- ---- the same list begins with the other and is as long
-
-eqb-swap : (a b : ℕ) → eqb a b ≡ eqb b a
-eqb-swap a b = go (eqb a b) refl
-  where
-    go : (t : Bool) → eqb a b ≡ t → t ≡ eqb b a
-    go true e = sym (eq-eqb b a (sym (eqb-true a b e)))
-    go false e = sym (ne-eqb b a (λ q. eqb-false a b e (sym q)))
 
 pub same-long : (name s : List ℕ) (r : Bool) → length s ≡ length name → r ≡ startsWith name s → r ≡ sameList name s
 same-long [] [] r h e = e

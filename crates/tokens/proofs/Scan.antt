@@ -1,8 +1,8 @@
 -- The loops that go on while the bytes of a text pass a test, and what the place says at which they stop. Assumes nothing.
 use Prim.Native.Nat.{ℕ, _+_, _-_, _≤_, _<_}
-use mathlib.Core.Path.{_≡_, refl, ap, sym, _∙_}
-use mathlib.Core.Bool.{Bool, true, false, not, cond}
-use mathlib.Core.List.{List, [], _∷_}
+use mathlib.Core.Path.{_≡_, ap, sym, _∙_}
+use mathlib.Core.Bool.{Bool, true, false, not}
+use mathlib.Core.List.{List}
 use native.Mathlib.Omega.{arith}
 use native.Mathlib.Numerals.{add-one}
 use lib.ListN.{length, getD, take, drop, length-drop}
@@ -11,7 +11,8 @@ use borrow.Author.Tests.{not-true, not-false}
 use Rattle.rules.specs.Lists.{lead}
 use Rattle.rules.specs.Tokens.{isWhite}
 use Rattle.rules.proofs.TokenLaws.{white-at}
-use Rattle.text.proofs.Runs.{lead-more, lead-stop, lead-end, lead-le}
+use Rattle.rules.proofs.Lists.{lead-within, take-lead}
+use Rattle.text.proofs.Runs.{lead-more, lead-stop, lead-end}
 use Rattle.tokens.specs.Seen.{tokensAt, part, Skipped}
 
 -- ---- the invariant is `i + length (lead p (drop i s)) ≡ r`; t is what the test said of byte i
@@ -28,14 +29,6 @@ module _ (p : ℕ → Bool) (s : List ℕ) (i r : ℕ) (e : i + length (lead p (
 
 -- ---- what was passed over is the part of the text that the definitions speak of
 
-take-lead : (p : ℕ → Bool) (s : List ℕ) → take (length (lead p s)) s ≡ lead p s
-take-lead p [] = refl
-take-lead p (b ∷ s) = go (p b) (take-lead p s)
-  where
-    go : (t : Bool) → take (length (lead p s)) s ≡ lead p s → take (length (cond t (b ∷ lead p s) [])) (b ∷ s) ≡ cond t (b ∷ lead p s) []
-    go true e = ap (λ (l : List ℕ). b ∷ l) e
-    go false e = refl
-
 module _ (p : ℕ → Bool) (s : List ℕ) (from end : ℕ) (q : end ≡ from + length (lead p (drop from s))) where
   pub scanned : part s from end ≡ lead p (drop from s)
   scanned =
@@ -43,7 +36,7 @@ module _ (p : ℕ → Bool) (s : List ℕ) (from end : ℕ) (q : end ≡ from + 
       ap (λ (k : ℕ). take k (drop from s)) n ∙ take-lead p (drop from s)
 
   pub scan-within : from ≤ length s → end ≤ length s
-  scan-within h = omega (arith, lead-le p (drop from s), length-drop from s)
+  scan-within h = omega (arith, lead-within p (drop from s), length-drop from s)
 
   -- what stands behind it
   pub scan-rest : drop (length (lead p (drop from s))) (drop from s) ≡ drop end s

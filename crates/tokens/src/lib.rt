@@ -1,9 +1,7 @@
 // The next token of constraints.json, and in `names` what its word may name. ../../rules/specs/Tokens.antt says what a token is.
 ghost use mathlib.Core.Path.{_≡_};
 ghost use mathlib.Core.Bool.{true};
-ghost use mathlib.Core.List.{[]};
 ghost use Prim.Native.Nat.{_+_, _≤_, _<_};
-ghost use lib.Dec.{eqb};
 ghost use lib.ListN.{length, getD, drop};
 ghost use Rattle.rules.specs.Lists.{lead};
 ghost use Rattle.rules.specs.Tokens.{isWhite, inRun, inString, quote, signOf};

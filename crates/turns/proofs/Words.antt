@@ -8,11 +8,12 @@ use native.Mathlib.Omega.{arith}
 use native.Mathlib.Numerals.{add-one}
 use lib.Dec.{leb, eqb}
 use lib.ListN.{length}
-use borrow.Author.Tests.{leb-false, lt-leb, eq-eqb, ne-eqb, eqb-true, eqb-false}
+use borrow.Author.Tests.{leb-false, lt-leb}
 use Rattle.rules.specs.Limits.{mostId}
 use Rattle.rules.specs.Lists.{any, isSome, sameList}
-use Rattle.rules.specs.Kinds.{numberFrom, listNames, listNamed}
+use Rattle.rules.specs.Kinds.{numberFrom, subnets, listNames, listNamed}
 use Rattle.rules.specs.declared.sizes.Track.{Track}
+use Rattle.rules.proofs.Truth.{eqb-swap}
 use Rattle.text.specs.Held.{wholeHeld}
 use Rattle.text.specs.declared.numbers.Whole.{Whole}
 use Rattle.text.specs.declared.numbers.Whole.the-variants.{Number, Beyond, Malformed}
@@ -68,18 +69,11 @@ number-within n (name ∷ names) word = go (sameList name word) (rw (← add-one
     go true h = omega arith
     go false h = omega arith
 
-pub list-within : (word : List ℕ) → listNamed word ≤ 6
+pub list-within : (word : List ℕ) → listNamed word ≤ subnets
 unfolding listNamed
 list-within word = number-within 0 listNames word
 
 -- ---- places: an id stands somewhere in a list where some entry has it
-
-eqb-swap : (a b : ℕ) → eqb a b ≡ eqb b a
-eqb-swap a b = go (eqb a b) refl
-  where
-    go : (t : Bool) → eqb a b ≡ t → t ≡ eqb b a
-    go true e = sym (eq-eqb b a (sym (eqb-true a b e)))
-    go false e = sym (ne-eqb b a (λ q. eqb-false a b e (sym q)))
 
 pub any-swap : (id : ℕ) (ids : List ℕ) → any (eqb id) ids ≡ any (λ x. eqb x id) ids
 any-swap id [] = refl

@@ -3,7 +3,7 @@ ghost use mathlib.Core.Path.{_≡_};
 ghost use mathlib.Core.List.{List};
 ghost use Prim.Native.Nat.{ℕ, _≤_};
 ghost use lib.ListN.{length};
-ghost use Rattle.rules.specs.Kinds.{listNamed, keyNamed};
+ghost use Rattle.rules.specs.Kinds.{headway, subnets, listNamed, keyNamed};
 ghost use Rattle.rules.specs.Constraints as law;
 ghost use Rattle.rules.specs.Constraints.{Document};
 ghost use Rattle.rules.specs.Tokens.{Token};
@@ -26,7 +26,7 @@ use rules::tokens::State;
 use tokens::names;
 
 fn list_bit(list: u8) -> u8
-    requires { ⌜ (1 ≤ list) × (list ≤ 6) ⌝ }
+    requires { ⌜ (headway ≤ list) × (list ≤ subnets) ⌝ }
     ensures { λ r. ⌜ r ≡ law.listBit list ⌝ }
 {
     match list {

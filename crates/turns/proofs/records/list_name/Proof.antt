@@ -1,6 +1,7 @@
 -- `turns::records::list_name` meets its contract: a known list that has not been there. Assumes nothing.
 use Prim.Native.Nat.{_≤_, ℕ}
 use Rattle.turns.proofs.Words.{list-within}
+use Rattle.rules.specs.Kinds.{subnets}
 use Rattle.rules.specs.Constraints.{listName}
 use borrow.Author.Needs.{needs}
 use borrow.Author.Tests.{eq-eqb, ne-eqb}
@@ -17,7 +18,7 @@ unfolding listName
 returns c = λ legs constraints tracks d t at. simp (← c .before .list-named .ensures, eq-eqb _ _ (c .if1 .taken), at)
 
 list-bit-requires : tie.Need-list-bit-requires
-list-bit-requires c κs = (omega (arith, c .if1 .left), subst (λ (n : ℕ). n ≤ 6) (sym (c .before .list-named .ensures)) (list-within _))
+list-bit-requires c κs = (omega (arith, c .if1 .left), subst (λ (n : ℕ). n ≤ subnets) (sym (c .before .list-named .ensures)) (list-within _))
 
 in-list-requires : tie.Need-in-list-requires
 in-list-requires c κs = search needs

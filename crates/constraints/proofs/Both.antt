@@ -12,12 +12,12 @@ use Rattle.rules.specs.Limits.{mostText, mostLegs, mostConstraints, legWidth, c
 use Rattle.rules.specs.Lists.{flat, over}
 use Rattle.rules.specs.Tokens.{tokensOf}
 use Rattle.rules.specs.Answers.{refusal, tooLong, constraintsFile, Reading, refused, good}
-use Rattle.rules.specs.Constraints.{Document, empty, start, plainRules, run, constraintsOf, trackNumbers}
+use Rattle.rules.specs.Constraints.{Document, empty, start, plainRules, run, constraintsOf, ordered, constraintNumbers, trackNumbers}
 use Rattle.rules.specs.declared.sizes.Constraint.{Constraint}
 use Rattle.rules.specs.Verdict.{All}
 use Rattle.laws.specs.LawfulDocument.{LawfulConstraint, LawfulDocument}
 use Rattle.laws.proofs.All.{all-at}
-use Rattle.laws.proofs.Ordered.{OfKind}
+use Rattle.laws.proofs.Ordered.{OfKind, ordered-length}
 use Rattle.laws.proofs.Documents.{good-is-lawful}
 use Rattle.ids.specs.Column.{Records, column}
 use Rattle.turns.specs.declared.steps.Counts.{Counts}
@@ -25,7 +25,9 @@ use Rattle.constraints.specs.declared.walks.Walked.{Walked}
 use Rattle.constraints.specs.declared.walks.Walked.the-variants.{Good, Refused}
 use Rattle.constraints.specs.declared.Read.the-variants.{Whole, Refused as NotRead}
 use Rattle.turns.specs.Steps.{countsOf}
-use Rattle.constraints.specs.Tables.{nexts, startsOf, outcome, Filled, Walks, Able, reading, readOf, Tables, Reads}
+use Rattle.constraints.specs.Tables.{nexts, startsOf, outcome, Filled, Upward, Walks, Able, reading, readOf, Tables, Reads}
+use Rattle.constraints.proofs.Filling.{flat-length, over-length, constraint-long}
+use Rattle.constraints.proofs.InOrder.{upward-ordered}
 use Rattle.constraints.proofs.ByKind.{none, counted, all-counted, by-kind}
 
 kinds-known : (legs : List ℕ) (cs : List Constraint) → All (LawfulConstraint legs) cs → All OfKind cs
@@ -33,9 +35,10 @@ kinds-known legs [] h = tt
 kinds-known legs (c ∷ cs) h =
     (record { from-first-kind = h .0 .from-first-kind; to-last-kind = h .0 .to-last-kind }, kinds-known legs cs (h .1))
 
-over-twice : (w t : List ℕ) → over w (over w t) ≡ over w t
+-- what is written last stays, where it is as long as what it is written over
+over-again : (w v t : List ℕ) → length v ≡ length w → over v (over w t) ≡ over v t
 unfolding over
-over-twice w t = rw (drop-append-seam w (drop (length w) t))
+over-again w v t e = rw (e, drop-append-seam w (drop (length w) t))
 
 never : {A : Type 0} (r : Walked) (number place : ℕ) (seen : Counts) → r ≡ Refused number place → r ≡ Good seen → A
 never r number place seen p q = let z : _≡_ {A = ℕ} 0 1 = cc in absurd (omega arith)
@@ -87,12 +90,32 @@ module _ (text legs : List ℕ) (n : ℕ) (c t : List ℕ) where
             lawful .tables .constraints-lawful .in-limit,
           ))
 
+      abbrev filed : List ℕ
+      filed = flat constraintNumbers (d .constraints)
+
+      size : (cs : List Constraint) → length (flat constraintNumbers cs) ≡ length cs * constraintWidth
+      size = flat-length constraintWidth constraintNumbers constraint-long
+
+      again : length (d .constraints) * constraintWidth ≤ length (over filed c)
+      again = omega (arith, room, over-length filed c (omega (arith, size (d .constraints), room)))
+
+      same-size : length (flat constraintNumbers (ordered (d .constraints))) ≡ length filed
+      same-size = size (ordered (d .constraints)) ∙ ap (λ (n : ℕ). n * constraintWidth) (ordered-length (d .constraints) known) ∙ sym (size (d .constraints))
+
+      -- one walk is enough where they stand by kind
+      once : (r : Walked) (counts c₁ t₁ : List ℕ) → Filled none false d c t r counts c₁ t₁ → Upward (length (d .constraints)) c₁ → Tables d c t c₁ t₁
+      once r counts c₁ t₁ f up =
+          record {
+            by-kind = f .table ∙ ap (λ (cs : List Constraint). over (flat constraintNumbers cs) c) (sym (upward-ordered (d .constraints) c c₁ known (f .table) up));
+            by-file = f .tracks;
+          }
+
       both : (r r₂ : Walked) (counts c₁ t₁ next c₂ t₂ : List ℕ) → Filled none false d c t r counts c₁ t₁
           → Filled (startsOf counts) true d c₁ t₁ r₂ next c₂ t₂ → Tables d c t c₂ t₂
       both r r₂ counts c₁ t₁ next c₂ t₂ f g =
           record {
-            by-kind = g .table ∙ rw (f .table, f .places) (by-kind (d .constraints) known c room);
-            by-file = g .tracks ∙ rw (f .tracks) (over-twice (flat trackNumbers (d .tracks)) t);
+            by-kind = g .table ∙ rw (f .table, f .places) (by-kind (d .constraints) known (over filed c) again ∙ over-again filed (flat constraintNumbers (ordered (d .constraints))) c same-size);
+            by-file = g .tracks ∙ rw (f .tracks) (over-again (flat trackNumbers (d .tracks)) (flat trackNumbers (d .tracks)) t refl);
           }
 
     -- ---- the first walk
@@ -116,6 +139,33 @@ module _ (text legs : List ℕ) (n : ℕ) (c t : List ℕ) where
                 → getD counts 1 0 + (getD counts 2 0 + (getD counts 3 0 + getD counts 4 0)) ≤ mostConstraints
             go (refused x) e q = never r (x .number) (x .place) seen q is
             go (good d) e q = few d e counts (q .places)
+
+        -- ---- which is enough
+
+        pub long-enough : length c₁ ≡ length c → Records constraintWidth (seen .constraints) c₁
+        unfolding Walks
+        long-enough long-c = go (outcome text legs n c t) refl w
+          where
+            go : (o : Reading Document) → outcome text legs n c t ≡ o → Walks none false o c t r counts c₁ t₁ → Records constraintWidth (seen .constraints) c₁
+            go (refused x) e q = never r (x .number) (x .place) seen q is
+            go (good d) e q =
+                let seen-is : seen ≡ countsOf d = cc (q .answer, is) in
+                record { one = omega arith; whole = rw seen-is (omega (arith, room d e)) }
+
+        pub reads-once : Upward (seen .constraints) c₁ → Reads (reading text legs n c t) c t (Whole (seen .constraints) (seen .tracks) (seen .subnets)) c₁ t₁
+        unfolding Walks
+        reads-once up = rw same (go (outcome text legs n c t) refl w)
+          where
+            go : (o : Reading Document) → outcome text legs n c t ≡ o → Walks none false o c t r counts c₁ t₁
+                → Reads o c t (Whole (seen .constraints) (seen .tracks) (seen .subnets)) c₁ t₁
+            go (refused x) e p = never r (x .number) (x .place) seen p is
+            go (good d) e p =
+                let seen-is : seen ≡ countsOf d = cc (p .answer, is) in
+                let up′ : Upward (length (d .constraints)) c₁ = subst (λ (x : Counts). Upward (x .constraints) c₁) seen-is up in
+                record {
+                  answer = ap (λ (x : Counts). Whole (x .constraints) (x .tracks) (x .subnets)) seen-is;
+                  tables = λ d′ g. subst (λ (x : Document). Tables x c t c₁ t₁) (read-one g) (once d e r counts c₁ t₁ p up′);
+                }
 
         -- ---- and the second
 

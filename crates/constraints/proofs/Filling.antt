@@ -79,10 +79,16 @@ writes-more : (next t : List ℕ) (cs : List Constraint) (c : Constraint) → wr
 writes-more next t [] c = refl
 writes-more next t (x ∷ cs) c = writes-more (bumped next (x .kind)) (placed next x t) cs c
 
-pub written-more : (write : Bool) (next t : List ℕ) (cs : List Constraint) (c : Constraint)
-    → written write next t (cs ++ c ∷ []) ≡ cond write (placed (nexts next cs) c (written write next t cs)) (written write next t cs)
-written-more true next t cs c = writes-more next t cs c
-written-more false next t cs c = refl
+pub written-more : (sorts : Bool) (next t : List ℕ) (cs : List Constraint) (c : Constraint) → (length cs + 1) * constraintWidth ≤ length t
+    → written sorts next t (cs ++ c ∷ [])
+    ≡ sets (written sorts next t cs) (cond sorts (getD (nexts next cs) (c .kind) 0) (length cs) * constraintWidth) (constraintNumbers c)
+written-more true next t cs c h = writes-more next t cs c
+written-more false next t cs c h =
+    let size : length (flat constraintNumbers cs) ≡ length cs * constraintWidth = flat-length constraintWidth constraintNumbers constraint-long cs in
+    let fits : length (flat constraintNumbers cs) + length (constraintNumbers c) ≤ length t = omega (arith, size) in
+    ap (λ (w : List ℕ). over w t) (flat-append constraintNumbers cs (c ∷ []))
+    ∙ sym (over-more (flat constraintNumbers cs) t (constraintNumbers c) fits)
+    ∙ ap (λ (k : ℕ). sets (over (flat constraintNumbers cs) t) k (constraintNumbers c)) size
 
 -- no place is further on than there were constraints
 pub nexts-low : (next : List ℕ) (cs : List Constraint) (k : ℕ) → getD (nexts next cs) k 0 ≤ getD next k 0 + length cs
@@ -98,9 +104,10 @@ writes-length next t [] = refl
 writes-length next t (c ∷ cs) =
     writes-length (bumped next (c .kind)) (placed next c t) cs ∙ length-sets t (getD next (c .kind) 0 * constraintWidth) (constraintNumbers c)
 
-pub written-length : (write : Bool) (next t : List ℕ) (cs : List Constraint) → length (written write next t cs) ≡ length t
-written-length true next t cs = writes-length next t cs
-written-length false next t cs = refl
+pub written-length : (sorts : Bool) (next t : List ℕ) (cs : List Constraint) → length cs * constraintWidth ≤ length t → length (written sorts next t cs) ≡ length t
+written-length true next t cs h = writes-length next t cs
+written-length false next t cs h =
+    over-length (flat constraintNumbers cs) t (omega (arith, flat-length constraintWidth constraintNumbers constraint-long cs))
 
 -- ---- the ids of the subnets
 

@@ -11,7 +11,7 @@ use Rattle.rules.specs.Limits.{mostConstraints, mostSubnets, mostTracks, legWid
 use Rattle.rules.specs.Lists.{flat, over}
 use Rattle.rules.specs.Answers.{refusal, constraintsFile, Reading, refused, good}
 use Rattle.rules.specs.Tokens.{Token}
-use Rattle.rules.specs.Constraints.{Document, empty, withConstraint, withSubnet, withId, withTrack, start, plainRules, Turn, fault, on, finish, act, actionOf, turnOf, onward, run, past, trackNumbers}
+use Rattle.rules.specs.Constraints.{Document, empty, withConstraint, withSubnet, withId, withTrack, start, plainRules, Turn, fault, on, finish, act, actionOf, turnOf, onward, run, past, constraintNumbers, trackNumbers}
 use Rattle.rules.specs.declared.tokens.Class.{Class}
 use Rattle.rules.specs.declared.tokens.Class.the-variants.{OpenBrace, CloseBrace, OpenBracket, CloseBracket, Colon, Comma, Quoted, Run, End, Unclosed, Forbidden}
 use Rattle.rules.specs.declared.tokens.Phase.{Phase}
@@ -32,7 +32,7 @@ use Rattle.turns.specs.declared.steps.Step.the-variants.{On, Emit, Opened, Name
 use Rattle.constraints.specs.declared.walks.Walked.the-variants.{Good, Refused}
 use Rattle.rules.specs.declared.sizes.Track.{Track}
 use Rattle.turns.specs.Steps.{turned, countsOf, Tied, Ready}
-use Rattle.constraints.specs.Tables.{bumped, nexts, placed, written, outcome, Able, Walks}
+use Rattle.constraints.specs.Tables.{bumped, nexts, written, outcome, Able, Walks}
 use Rattle.turns.proofs.ByAction.{past-found}
 use Rattle.constraints.proofs.Filling.{flat-append, flat-length, over-length, over-more, track-long, tracks-held, ids-held, id-held, nexts-more, nexts-low, nexts-length, written-more, written-length}
 
@@ -151,7 +151,7 @@ pub record Few (seen : Counts) : Type 0 where
 
 -- ---- between two tokens
 
-module _ (text legs : List ℕ) (n : ℕ) (c₀ t₀ s₀ : List ℕ) (write : Bool) where
+module _ (text legs : List ℕ) (n : ℕ) (c₀ t₀ s₀ : List ℕ) (sorts : Bool) where
   abbrev Legs : List ℕ
   Legs = column legWidth n legs
 
@@ -171,7 +171,7 @@ module _ (text legs : List ℕ) (n : ℕ) (c₀ t₀ s₀ : List ℕ) (write : B
     pub ids-long : length ids ≡ mostSubnets
     pub ids-there : take (length (d .ids)) ids ≡ d .ids
     pub places : next ≡ nexts s₀ (d .constraints)
-    pub table : c ≡ written write s₀ c₀ (d .constraints)
+    pub table : c ≡ written sorts s₀ c₀ (d .constraints)
     pub tracks : t ≡ over (flat trackNumbers (d .tracks)) t₀
 
   pub going-start : (st : State) (seen : Counts) → st ≡ start plainRules → seen ≡ countsOf empty
@@ -187,7 +187,7 @@ module _ (text legs : List ℕ) (n : ℕ) (c₀ t₀ s₀ : List ℕ) (write : B
         ids-long = refl;
         ids-there = refl;
         places = refl;
-        table = at-first write;
+        table = at-first sorts;
         tracks = refl;
       }
     where
@@ -201,8 +201,13 @@ module _ (text legs : List ℕ) (n : ℕ) (c₀ t₀ s₀ : List ℕ) (write : B
         let room : length (g .d .tracks) ≤ T = g .keeps .tables .tracks-lawful .in-room in
         omega (arith, flat-length trackWidth trackNumbers track-long (g .d .tracks), div-mul-le-self (length t₀) trackWidth)
 
+    constraints-fit : length (g .d .constraints) * constraintWidth ≤ length c₀
+    constraints-fit =
+        let room : length (g .d .constraints) ≤ C = g .keeps .tables .constraints-lawful .in-room in
+        omega (arith, div-mul-le-self (length c₀) constraintWidth)
+
     pub table-long : length c ≡ length c₀
-    table-long = ap length (g .table) ∙ written-length write s₀ c₀ (g .d .constraints)
+    table-long = ap length (g .table) ∙ written-length sorts s₀ c₀ (g .d .constraints) constraints-fit
 
     pub tracks-long : length t ≡ length t₀
     tracks-long = ap length (g .tracks) ∙ over-length (flat trackNumbers (g .d .tracks)) t₀ tracks-fit
@@ -331,10 +336,14 @@ module _ (text legs : List ℕ) (n : ℕ) (c₀ t₀ s₀ : List ℕ) (write : B
           }
 
       pub going-emit : (x : State) (c′ next′ : List ℕ) → r ≡ Emit x
-          → c′ ≡ cond write (placed next (x .entry) c) c → next′ ≡ bumped next (x .entry .kind)
+          → c′ ≡ sets c (cond sorts (getD next (x .entry .kind) 0) (seen .constraints) * constraintWidth) (constraintNumbers (x .entry))
+          → next′ ≡ bumped next (x .entry .kind)
           → Going (tk .next) x record { constraints = seen .constraints + 1; tracks = seen .tracks; subnets = seen .subnets; ids = seen .ids } ids next′ c′ t
       going-emit x c′ next′ is put bump =
           let to = next-on x (withConstraint (x .entry) (g .d)) (ap (λ (y : Step). turned y (g .d)) is) in
+          let room : length (g .d .constraints ++ x .entry ∷ []) ≤ C = to .keeps .tables .constraints-lawful .in-room in
+          let fits : (length (g .d .constraints) + 1) * constraintWidth ≤ length c₀ =
+          omega (arith, length-append (g .d .constraints) (x .entry ∷ []), div-mul-le-self (length c₀) constraintWidth) in
           record {
             d = withConstraint (x .entry) (g .d);
             runs = to .runs;
@@ -344,7 +353,7 @@ module _ (text legs : List ℕ) (n : ℕ) (c₀ t₀ s₀ : List ℕ) (write : B
             ids-long = g .ids-long;
             ids-there = g .ids-there;
             places = bump ∙ rw (g .places) (sym (nexts-more s₀ (g .d .constraints) (x .entry)));
-            table = put ∙ rw (g .places, g .table) (sym (written-more write s₀ c₀ (g .d .constraints) (x .entry)));
+            table = put ∙ rw (g .places, g .table, g .counted) (sym (written-more sorts s₀ c₀ (g .d .constraints) (x .entry) fits));
             tracks = g .tracks;
           }
 
@@ -407,16 +416,16 @@ module _ (text legs : List ℕ) (n : ℕ) (c₀ t₀ s₀ : List ℕ) (write : B
 
       -- ---- the last token
 
-      pub ends-good : (x : State) → r ≡ Finish x → Walks s₀ write (outcome text legs n c₀ t₀) c₀ t₀ (Good seen) next c t
+      pub ends-good : (x : State) → r ≡ Finish x → Walks s₀ sorts (outcome text legs n c₀ t₀) c₀ t₀ (Good seen) next c t
       unfolding Walks
       ends-good x is =
           let whole : outcome text legs n c₀ t₀ ≡ good (g .d) = left ∙ ap (λ (y : Step). onward Legs C T (turned y (g .d)) Rest) is in
-          subst (λ (o : Reading Document). Walks s₀ write o c₀ t₀ (Good seen) next c t) (sym whole)
+          subst (λ (o : Reading Document). Walks s₀ sorts o c₀ t₀ (Good seen) next c t) (sym whole)
           (record { answer = ap Good (g .counted); places = g .places; table = g .table; tracks = g .tracks })
 
-      pub ends-refused : (number place : ℕ) → r ≡ Fault number place → Walks s₀ write (outcome text legs n c₀ t₀) c₀ t₀ (Refused number place) next c t
+      pub ends-refused : (number place : ℕ) → r ≡ Fault number place → Walks s₀ sorts (outcome text legs n c₀ t₀) c₀ t₀ (Refused number place) next c t
       unfolding Walks
       ends-refused number place is =
           let whole : outcome text legs n c₀ t₀ ≡ refused (refusal number constraintsFile place) =
           left ∙ ap (λ (y : Step). onward Legs C T (turned y (g .d)) Rest) is in
-          subst (λ (o : Reading Document). Walks s₀ write o c₀ t₀ (Refused number place) next c t) (sym whole) refl
+          subst (λ (o : Reading Document). Walks s₀ sorts o c₀ t₀ (Refused number place) next c t) (sym whole) refl

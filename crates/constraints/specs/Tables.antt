@@ -1,5 +1,5 @@
 -- What a walk over the text leaves in the tables, and what a reading of constraints.json answers.
-use Prim.Native.Nat.{ℕ, _+_, _*_, _/_, _≤_}
+use Prim.Native.Nat.{ℕ, _+_, _*_, _/_, _≤_, _<_}
 use mathlib.Core.Path.{_≡_}
 use mathlib.Core.Bool.{Bool, cond}
 use mathlib.Core.List.{List, [], _∷_}
@@ -35,8 +35,13 @@ abbrev pub writes : (next table : List ℕ) → List Constraint → List ℕ
 writes next table [] = table
 writes next table (c ∷ cs) = writes (bumped next (c .kind)) (placed next c table) cs
 
-abbrev pub written : (write : Bool) → (next table : List ℕ) → List Constraint → List ℕ
-written write next table cs = cond write (writes next table cs) table
+-- so in a walk that sorts, and in file order in one that does not
+abbrev pub written : (sorts : Bool) → (next table : List ℕ) → List Constraint → List ℕ
+written sorts next table cs = cond sorts (writes next table cs) (over (flat constraintNumbers cs) table)
+
+-- n constraints stand by kind: none is of a lower kind than the one before it
+abbrev pub Upward : (n : ℕ) (table : List ℕ) → Type 0
+Upward n table = (i : ℕ) → i + 1 < n → getD table (i * constraintWidth) 0 ≤ getD table ((i + 1) * constraintWidth) 0
 
 -- kinds 1 to 5 by how many each has: where each starts
 abbrev pub startsOf : List ℕ → List ℕ
@@ -52,15 +57,15 @@ outcome text legs n constraints tracks =
     run (column legWidth n legs) (length constraints / constraintWidth) (length tracks / trackWidth) (start plainRules) empty (tokensOf text)
 
 -- the next places and the tables c and t before, those and c′ and t′ after
-pub record Filled (starts : List ℕ) (write : Bool) (d : Document) (c t : List ℕ) (r : Walked) (next c′ t′ : List ℕ) : Type 0 where
+pub record Filled (starts : List ℕ) (sorts : Bool) (d : Document) (c t : List ℕ) (r : Walked) (next c′ t′ : List ℕ) : Type 0 where
   pub answer : r ≡ Good (countsOf d)
   pub places : next ≡ nexts starts (d .constraints)
-  pub table : c′ ≡ written write starts c (d .constraints)
+  pub table : c′ ≡ written sorts starts c (d .constraints)
   pub tracks : t′ ≡ over (flat trackNumbers (d .tracks)) t
 
-unfoldable pub Walks : (starts : List ℕ) (write : Bool) → Reading Document → (c t : List ℕ) → Walked → (next c′ t′ : List ℕ) → Type 0
-Walks starts write (refused x) c t r next c′ t′ = r ≡ Refused (x .number) (x .place)
-Walks starts write (good d) c t r next c′ t′ = Filled starts write d c t r next c′ t′
+unfoldable pub Walks : (starts : List ℕ) (sorts : Bool) → Reading Document → (c t : List ℕ) → Walked → (next c′ t′ : List ℕ) → Type 0
+Walks starts sorts (refused x) c t r next c′ t′ = r ≡ Refused (x .number) (x .place)
+Walks starts sorts (good d) c t r next c′ t′ = Filled starts sorts d c t r next c′ t′
 
 -- what a walk needs: a text that is not too long, the legs that are said to be there, places that are not past all limits
 pub record Able (text legs : List ℕ) (n : ℕ) (starts : List ℕ) : Type 0 where

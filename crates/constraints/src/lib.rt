@@ -6,6 +6,7 @@ ghost use Rattle.constraints.specs.Tables.{reading, Reads};
 use rules::answers::Refusal;
 use rules::sizes::Text;
 use tables::PLACES;
+use tables::in_order;
 use tables::starts_of;
 use walks::Walked;
 use walks::walk;
@@ -21,7 +22,8 @@ pub enum Read {
     Refused(u8, u32),
 }
 
-// The first walk judges the text, writes the tracks and counts the constraints of each kind; the second writes the constraints.
+// The first walk judges the text, writes tracks and constraints as they come and counts those of each kind.
+// Files mostly have them by kind; where a file does not, a second walk sorts them.
 pub fn read_constraints(
     text: &[u8],
     legs: &[u32],
@@ -39,6 +41,10 @@ pub fn read_constraints(
     match walk(text, legs, n, constraints, tracks, &mut counts, false) {
         Walked::Refused(number, place) => Read::Refused(number, place),
         Walked::Good(seen) => {
+            let read = seen.constraints;
+            if in_order(&constraints[..], read) {
+                return Read::Whole(read, seen.tracks, seen.subnets);
+            }
             let mut next = starts_of(counts);
             walk(text, legs, n, constraints, tracks, &mut next, true);
             Read::Whole(seen.constraints, seen.tracks, seen.subnets)

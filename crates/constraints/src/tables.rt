@@ -1,13 +1,14 @@
 // Entries written into the lent tables. What has no room there is not written.
 ghost use mathlib.Core.Path.{_≡_};
-ghost use mathlib.Core.Bool.{cond};
+ghost use mathlib.Core.Bool.{true, cond};
 ghost use mathlib.Core.List.{[], _∷_};
 ghost use Prim.Native.Nat.{_+_, _*_, _≤_};
 ghost use lib.ListN.{getD, set};
 ghost use lib.Seq.{sets};
 ghost use Rattle.rules.specs.Limits.{constraintWidth, trackWidth, mostConstraints, mostTracks};
 ghost use Rattle.rules.specs.Constraints.{constraintNumbers};
-ghost use Rattle.constraints.specs.Tables.{bumped, placed, startsOf};
+ghost use Rattle.constraints.specs.Tables.{bumped, startsOf, Upward};
+ghost use Rattle.ids.specs.Column.{Records};
 use rules::kinds::Kind;
 use rules::sizes::Constraint;
 use rules::sizes::Track;
@@ -31,16 +32,6 @@ fn put_constraint(table: &mut [u32], place: usize, c: Constraint)
     put_number(table, i + 3, c.low);
     put_number(table, i + 4, c.high);
     put_number(table, i + 5, c.connection);
-}
-
-// The first walk writes no constraints.
-fn put_if(write: bool, table: &mut [u32], place: usize, c: Constraint)
-    requires { ⌜ place ≤ mostConstraints + mostConstraints ⌝ }
-    ensures { λ r. ⌜ now (table .exit) ≡ cond write (sets (now (table .entry)) (place * constraintWidth) (constraintNumbers c)) (now (table .entry)) ⌝ }
-{
-    if write {
-        put_constraint(table, place, c);
-    }
 }
 
 pub fn put_track(table: &mut [u32], place: usize, id: u32, subnet: u32)
@@ -74,14 +65,39 @@ fn bump(next: &mut [usize], kind: u32)
     }
 }
 
-// A constraint goes to the next place of its kind.
-pub fn emit(write: bool, table: &mut [u32], next: &mut [usize], c: Constraint)
-    requires { ⌜ getD (now next) (c .kind) 0 ≤ mostConstraints + mostConstraints ⌝ }
-    ensures { λ r. ⌜ (now (table .exit) ≡ cond write (placed (now (next .entry)) c (now (table .entry))) (now (table .entry))) × (now (next .exit) ≡ bumped (now (next .entry)) (c .kind)) ⌝ }
+// Where a constraint goes: to the next place of its kind, or behind the `count` before it.
+fn place_of(sorts: bool, next: &[usize], kind: u32, count: usize) -> usize
+    ensures { λ r. ⌜ r ≡ cond sorts (getD (now (next .entry)) kind 0) count ⌝ }
 {
-    let place = next_of(&next[..], c.kind);
-    put_if(write, table, place, c);
+    if sorts {
+        return next_of(next, kind);
+    }
+    count
+}
+
+// A constraint goes there, and the next place of its kind is taken.
+pub fn emit(sorts: bool, table: &mut [u32], next: &mut [usize], count: usize, c: Constraint)
+    requires { ⌜ (getD (now next) (c .kind) 0 ≤ mostConstraints + mostConstraints) × (count ≤ mostConstraints) ⌝ }
+    ensures { λ r. ⌜ (now (table .exit) ≡ sets (now (table .entry)) (cond sorts (getD (now (next .entry)) (c .kind) 0) count * constraintWidth) (constraintNumbers c)) × (now (next .exit) ≡ bumped (now (next .entry)) (c .kind)) ⌝ }
+{
+    let place = place_of(sorts, &next[..], c.kind, count);
+    put_constraint(table, place, c);
     bump(next, c.kind);
+}
+
+// Whether n constraints stand by kind.
+pub fn in_order(table: &[u32], n: usize) -> bool
+    requires { ⌜ Records constraintWidth n (now table) ⌝ }
+    ensures { λ r. ⌜ (r ≡ true → Upward n (now (table .entry))) ⌝ }
+{
+    let mut i = 1;
+    while i < n {
+        if table[i * Constraint::WIDTH] < table[(i - 1) * Constraint::WIDTH] {
+            return false;
+        }
+        i += 1;
+    }
+    true
 }
 
 // A place for each kind, by its number.

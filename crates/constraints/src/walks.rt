@@ -49,7 +49,7 @@ fn starting() -> State
     }
 }
 
-// Tracks are written as they come, and, in a walk that writes, each constraint at the next place of its kind.
+// Tracks are written as they come, and so are constraints; in a walk that sorts, each constraint at the next place of its kind.
 pub fn walk(
     text: &[u8],
     legs: &[u32],
@@ -57,10 +57,10 @@ pub fn walk(
     constraints: &mut [u32],
     tracks: &mut [u32],
     next: &mut [usize],
-    write: bool,
+    sorts: bool,
 ) -> Walked
     requires { ⌜ Able (now text) (now legs) n (now next) ⌝ }
-    ensures { λ r. ⌜ Walks (now (next .entry)) write (outcome (now (text .entry)) (now (legs .entry)) n (now (constraints .entry)) (now (tracks .entry))) (now (constraints .entry)) (now (tracks .entry)) r (now (next .exit)) (now (constraints .exit)) (now (tracks .exit)) ⌝ }
+    ensures { λ r. ⌜ Walks (now (next .entry)) sorts (outcome (now (text .entry)) (now (legs .entry)) n (now (constraints .entry)) (now (tracks .entry))) (now (constraints .entry)) (now (tracks .entry)) r (now (next .exit)) (now (constraints .exit)) (now (tracks .exit)) ⌝ }
 {
     let room = Room::of(constraints.len(), tracks.len());
     let mut seen = Counts::none();
@@ -76,7 +76,7 @@ pub fn walk(
                 st = after;
             }
             Step::Emit(after) => {
-                emit(write, constraints, next, after.entry);
+                emit(sorts, constraints, next, seen.constraints, after.entry);
                 seen.constraints += 1;
                 st = after;
             }

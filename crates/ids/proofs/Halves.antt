@@ -109,14 +109,14 @@ module _ (width n : ℕ) (table : List ℕ) (id : ℕ) where
           above = λ k p q. omega (arith, rising-to ids up middle k p q, entry);
         }
 
+  pub at-place : (up : Ascending ids) (at : ℕ) → at < n → getD table (at * width) 0 ≡ id → At at ≡ placeOf id ids
+  at-place up at h e = sym (ascending-first ids up id at (omega (arith, column-length width n table)) (column-at width n table at h ∙ e))
+
   -- ---- what the parting place says
 
   module _ (up : Ascending ids) (at : ℕ) (p : Parted ids id at) where
     pub past-end : n ≤ at → Nothing ≡ placeOf id ids
     past-end h = sym (none-is id ids (λ k q e. omega (arith, p .below k (omega (arith, column-length width n table)))))
-
-    pub at-place : at < n → getD table (at * width) 0 ≡ id → At at ≡ placeOf id ids
-    at-place h e = sym (ascending-first ids up id at (omega (arith, column-length width n table)) (column-at width n table at h ∙ e))
 
     pub not-there : at < n → (getD table (at * width) 0 ≡ id → ⊥) → Nothing ≡ placeOf id ids
     not-there h e = sym (none-is id ids (λ k q i. go k q i (ltb k at) refl))

@@ -55,7 +55,7 @@ fn parting(table: &[u32], width: usize, n: usize, id: u32) -> usize
 }
 
 // The record with an id, where all ids rise.
-fn among(table: &[u32], width: usize, n: usize, id: u32) -> Found
+fn halved(table: &[u32], width: usize, n: usize, id: u32) -> Found
     requires { ⌜ Records width n (now table) × Ascending (column width n (now table)) ⌝ }
     ensures { λ r. ⌜ r ≡ placeOf id (column width n (now (table .entry))) ⌝ }
 {
@@ -67,6 +67,32 @@ fn among(table: &[u32], width: usize, n: usize, id: u32) -> Found
         return Found::At(at);
     }
     Found::Nothing
+}
+
+// Where an id stands if each is one more than the one before: a guess, of which nothing is promised.
+fn guess(table: &[u32], id: u32) -> usize {
+    if table.len() == 0 {
+        return 0;
+    }
+    let first = table[0];
+    if id < first {
+        return 0;
+    }
+    (id - first) as usize
+}
+
+// `halved`, but faster: rising ids mostly count up by one.
+fn among(table: &[u32], width: usize, n: usize, id: u32) -> Found
+    requires { ⌜ Records width n (now table) × Ascending (column width n (now table)) ⌝ }
+    ensures { λ r. ⌜ r ≡ placeOf id (column width n (now (table .entry))) ⌝ }
+{
+    let near = guess(table, id);
+    if near < n {
+        if table[near * width] == id {
+            return Found::At(near);
+        }
+    }
+    halved(table, width, n, id)
 }
 
 // The first of n records with an id, where the first so many ids rise: `row_of`, but fast.

@@ -14,13 +14,14 @@ use Rattle.profiles.specs.declared.number.Ended.the-variants.{Value}
 use Rattle.profiles.specs.declared.quick.Run.{Run}
 use Rattle.profiles.specs.declared.quick.Pointed.{Pointed}
 use Rattle.profiles.specs.declared.quick.Pointed.the-variants.{At}
+use Rattle.profiles.specs.declared.quick.Sign.{Sign}
 use Rattle.profiles.specs.declared.quick.Spaced.{Spaced}
 use Rattle.profiles.specs.declared.reader.Past.{Past}
 use Rattle.profiles.specs.declared.reader.Listed.{Listed}
 use Rattle.profiles.specs.declared.reader.State.the-variants.{Whole, Fraction}
 use Rattle.profiles.specs.Near.{cap, Ends}
 use Rattle.profiles.specs.Holds.{Jump}
-use Rattle.profiles.specs.Quick.{Runs, tail, Points, missed, pointed, Spaces, unspaced, spaced, unlasting, lasting, Fractions, Samples}
+use Rattle.profiles.specs.Quick.{Runs, tail, Points, missed, pointed, Spaces, unspaced, spaced, unlasting, lasting, Fractions, Signs, signed, unsigned, Samples}
 use Rattle.profiles.proofs.Near.{pushes-zero, pushes-first, pushes-next}
 use Rattle.profiles.proofs.Steps.{whole-digits, point-value, minus-first}
 use Rattle.profiles.proofs.Fraction.{fraction-digits}
@@ -120,10 +121,14 @@ samples-at {part} {from} {w} {next} {negative} p e f = go (rw e at p) f
     go (pointed h g) unlasting = unlasting
     go (pointed h g) (lasting k e z j) = lasting k e z (λ past l profiles samples. leap-then (g past l negative profiles samples) (j past l profiles samples))
 
-pub samples-minus : {part : List ℕ} {from : ℕ} {r : Spaced} → from < length part → getD part from 0 ≡ minus → Samples part (from + 1) true r → Samples part from false r
+samples-minus : {part : List ℕ} {from : ℕ} {r : Spaced} → from < length part → getD part from 0 ≡ minus → Samples part (from + 1) true r → Samples part from false r
 samples-minus h e unlasting = unlasting
 samples-minus h e (lasting k s z j) =
     lasting k s z (λ past l profiles samples. leap-then (jump-step minus h (sym e) (minus-first past l false Empty refl refl) profiles samples) (j past l profiles samples))
 
+pub samples-signed : {part : List ℕ} {from : ℕ} {s : Sign} {r : Spaced} → from < length part → Signs part from s → Samples part (s .next) (s .negative) r → Samples part from false r
+samples-signed h (signed e) x = samples-minus h e x
+samples-signed h unsigned x = x
+
 pub ruleset quick =
-    (missed, unspaced, spaced, unlasting, running-none, running-next, running-end, points-at, points-zero, points-digits, fractioning-none, fractioning-next, fractioning-end, points-inside, samples-at, samples-minus)
+    (missed, unspaced, spaced, unlasting, running-none, running-next, running-end, points-at, points-zero, points-digits, fractioning-none, fractioning-next, fractioning-end, points-inside, samples-at, signed, unsigned, samples-signed)

@@ -1,15 +1,16 @@
 -- What a look at several bytes finds: the state that they lead to, wherever the part begins and whatever row is open.
-use Prim.Native.Nat.{ℕ, _≤_, _<_}
+use Prim.Native.Nat.{ℕ, _+_, _≤_, _<_}
 use mathlib.Core.Path.{_≡_}
-use mathlib.Core.Bool.{Bool}
+use mathlib.Core.Bool.{Bool, true, false}
 use mathlib.Core.List.{List}
 use lib.ListN.{length, getD}
-use Rattle.rules.specs.Bytes.{space}
+use Rattle.rules.specs.Bytes.{minus, space}
 use Rattle.profiles.specs.declared.number.Number.{Number}
 use Rattle.profiles.specs.declared.number.Number.the-variants.{Empty, Digits}
 use Rattle.profiles.specs.declared.quick.Run.{Run}
 use Rattle.profiles.specs.declared.quick.Pointed.{Pointed}
 use Rattle.profiles.specs.declared.quick.Pointed.the-variants.{At, Miss}
+use Rattle.profiles.specs.declared.quick.Sign.{Sign}
 use Rattle.profiles.specs.declared.quick.Spaced.{Spaced}
 use Rattle.profiles.specs.declared.quick.Spaced.the-variants.{At as SpaceAt, Miss as NoSpace}
 use Rattle.profiles.specs.declared.reader.Past.{Past}
@@ -48,3 +49,8 @@ Fractions part from negative whole = Lasting part from (λ past l. Fraction past
 
 abbrev pub Samples : List ℕ → (from : ℕ) (negative : Bool) → Spaced → Type 0
 Samples part from negative = Lasting part from (λ past l. Whole past l negative Empty)
+
+-- a minus in front, or none
+pub data Signs (part : List ℕ) (from : ℕ) : Sign → Type 0 where
+  signed : getD part from 0 ≡ minus → Signs part from (record { negative = true; next = from + 1 })
+  unsigned : Signs part from (record { negative = false; next = from })

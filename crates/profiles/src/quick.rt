@@ -3,9 +3,9 @@ use crate::number;
 use crate::number::Ended;
 use crate::number::Number;
 use crate::reader::Tail;
-ghost use Prim.Native.Nat.{_≤_};
+ghost use Prim.Native.Nat.{_≤_, _<_};
 ghost use lib.ListN.{length};
-ghost use Rattle.profiles.specs.Quick.{Runs, Points, Spaces, Fractions, Samples};
+ghost use Rattle.profiles.specs.Quick.{Runs, Points, Spaces, Fractions, Signs, Samples};
 ghost use mathlib.Core.Bool.{false};
 
 // Digits after others: the number that they make, and the place behind them.
@@ -136,14 +136,34 @@ fn unsigned_at(part: &[u8], from: usize, negative: bool) -> Spaced
     }
 }
 
+// Whether a sample begins with a minus, and the place of its first digit.
+pub struct Sign {
+    pub negative: bool,
+    pub next: usize,
+}
+
+fn sign_at(part: &[u8], from: usize) -> Sign
+    requires { ⌜ from < length (now part) ⌝ }
+    ensures { λ r. ⌜ Signs (now (part .entry)) from r ⌝ }
+{
+    if part[from] == b'-' {
+        return Sign {
+            negative: true,
+            next: from + 1,
+        };
+    }
+    Sign {
+        negative: false,
+        next: from,
+    }
+}
+
 pub fn sample_at(part: &[u8], from: usize) -> Spaced
     ensures { λ r. ⌜ Samples (now (part .entry)) from false r ⌝ }
 {
     if part.len() <= from {
         return Spaced::Miss;
     }
-    if part[from] == b'-' {
-        return unsigned_at(part, from + 1, true);
-    }
-    unsigned_at(part, from, false)
+    let sign = sign_at(part, from);
+    unsigned_at(part, sign.next, sign.negative)
 }

@@ -4,3 +4,4 @@ pub mod Differing
 pub mod Going
 pub mod Unpacking
 pub mod Wholly
+pub mod Clearing

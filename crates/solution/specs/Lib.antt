@@ -3,3 +3,4 @@ pub mod Before
 pub mod Against
 pub mod Promise
 pub mod Whole
+pub mod Ends

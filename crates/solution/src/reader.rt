@@ -8,11 +8,11 @@ ghost use Rattle.solution.specs.Whole.{Headed, RowsRead, comparedAnswer,
 use crate::after;
 use crate::compare;
 use crate::compare::Compared;
+use crate::ends;
 use rules::answers::Refusal;
 use rules::sizes::Choice;
 use rules::sizes::Leg;
 use rules::sizes::Text;
-use text::pieces;
 use text::words;
 use timetable::line;
 use timetable::reader;
@@ -47,7 +47,7 @@ fn read_rows(text: &[u8], h: u32, legs: &[u32], n: usize, choices: &mut [u32]) -
     let mut i = Leg::HEADER_LENGTH;
     while i < text.len() {
         let place = i as u32;
-        let e = pieces::find(text, b'\n', i);
+        let e = ends::line_end(text, i);
         if text.len() <= e {
             return Choices::Fault(Refusal::ROW_FORM, place);
         }

@@ -163,6 +163,8 @@ entry-over H line p table wide h w =
             long = g .long;
             kept = λ ranged few room. absurd (omega (arith, o .entries-are, length-snoc list (configuration d t v)));
           };
+      next-entry = refl;
+      no-fault = refl;
     }
 
 pub entry-in : (H : ℕ) (line : Line) (p : ℕ) (table table′ : List ℕ) (wide hit : Bool) (nominal : ℕ) → line .entries ≤ mostListed
@@ -190,4 +192,6 @@ entry-in H line p table table′ wide hit nominal h w i n s l =
             long = l ∙ g .long;
             kept = rw q (kept-in H (lent .configurations) table before list d t v (g .horizon) (g .long) (g .kept) (line .configurations + line .entries) k);
           };
+      next-entry = refl;
+      no-fault = refl;
     }

@@ -10,6 +10,7 @@ pub mod Accept
 pub mod Ended
 pub mod Header
 pub mod Turn
+pub mod Listing
 pub mod Run
 pub mod Feed
 pub mod Whole

@@ -12,7 +12,9 @@ use Rattle.timetable.specs.declared.number.Taken.{Taken}
 use Rattle.timetable.specs.Digits.{takenFrom}
 use Rattle.timetable.specs.Held.{tables}
 use Rattle.timetable.specs.Text.{Signed, Leads, Placed, Ran}
-use Rattle.timetable.proofs.Turn.{taken-forward, led-none, led-taken, led-signed, led-stopped, led-over}
+use Rattle.timetable.specs.declared.entries.Listed.{Listed}
+use Rattle.timetable.specs.Entries.{Lists}
+use Rattle.timetable.proofs.Turn.{taken-forward, led-then, led-none, led-taken, led-signed, led-stopped, led-over}
 
 pub record Going (H read : ℕ) (part : List ℕ) (from : ℕ) (legs₀ configurations₀ : List ℕ) (line₀ : Line) (number₀ : Number) (legs configurations : List ℕ) (line : Line) (number : Number) (i : ℕ) : Type 0 where
   pub within : i ≤ length part
@@ -23,8 +25,9 @@ pub record Going (H read : ℕ) (part : List ℕ) (from : ℕ) (legs₀ configur
   pub led : Leads H read part from number₀ line₀ (tables legs₀ configurations₀) i number line (tables legs configurations)
 
 -- less is left
-pub less-left : (number : Number) (part : List ℕ) (i : ℕ) (t : Taken) → t ≡ takenFrom number i (drop i part) → i < length part → length part - (t .next + 1) < length part - i
-less-left number part i t e h = omega (arith, taken-forward number part i t e)
+pub less-left : (number : Number) (part : List ℕ) (i : ℕ) (t : Taken) (H : ℕ) (line : Line) (r : Listed) (table table′ : List ℕ) → t ≡ takenFrom number i (drop i part) → i < length part
+    → Lists H line part (t .next + 1) r table table′ → length part - r .next < length part - i
+less-left number part i t H line r table table′ e h l = omega (arith, taken-forward number part i t e, l .forward)
 
 pub going : (H read : ℕ) (part : List ℕ) (from : ℕ) (legs configurations : List ℕ) (line : Line) (number : Number) → Placed read part from line
     → Going H read part from legs configurations line number legs configurations line number from
@@ -40,19 +43,24 @@ going H read part from legs configurations line number p =
 
 module _ {H read : ℕ} {part : List ℕ} {from : ℕ} {legs₀ configurations₀ : List ℕ} {line₀ : Line} {number₀ : Number} {legs configurations : List ℕ} {line : Line} {number : Number} {i : ℕ}
     (g : Going H read part from legs₀ configurations₀ line₀ number₀ legs configurations line number i) where
-  -- a turn
-  pub goes-on : (t : Taken) (at : ℕ) (line′ : Line) (legs′ configurations′ : List ℕ) → i < length part → t ≡ takenFrom number i (drop i part) → t .next < length part
-      → at ≡ read + t .next → Signed H line (t .number) (getD part (t .next) 0) at line′ (tables legs configurations) (tables legs′ configurations′)
-      → line′ .fault ≡ 0 → length legs′ ≡ length legs → length configurations′ ≡ length configurations
-      → Going H read part from legs₀ configurations₀ line₀ number₀ legs′ configurations′ line′ Empty (t .next + 1)
-  goes-on t at line′ legs′ configurations′ h e k a s c l m =
+  -- a turn: a byte that closes a number, and then whole entries
+  pub goes-on : (t : Taken) (at : ℕ) (line′ : Line) (legs′ configurations′ : List ℕ) (r : Listed) (configurations″ : List ℕ) → i < length part → t ≡ takenFrom number i (drop i part)
+      → t .next < length part → at ≡ read + t .next → Signed H line (t .number) (getD part (t .next) 0) at line′ (tables legs configurations) (tables legs′ configurations′)
+      → length legs′ ≡ length legs → length configurations′ ≡ length configurations
+      → Lists H line′ part (t .next + 1) r configurations′ configurations″ → length configurations″ ≡ length configurations′
+      → Going H read part from legs₀ configurations₀ line₀ number₀ legs′ configurations″ (r .line) Empty (r .next)
+  goes-on t at line′ legs′ configurations′ r configurations″ h e k a s l m x n =
+      let past : length timetableHeader ≤ read + (t .next + 1) = omega (arith, g .past h, taken-forward number part i t e) in
       record {
-        within = omega arith;
-        past = λ q. omega (arith, g .past h, taken-forward number part i t e);
-        clear = c;
+        within = x .inside;
+        past = λ q. omega (arith, x .forward);
+        clear = x .clear;
         legs-long = l ∙ g .legs-long;
-        configurations-long = m ∙ g .configurations-long;
-        led = led-signed H read part from number₀ line₀ (tables legs₀ configurations₀) i number line (tables legs configurations) (g .led) t at line′ (tables legs′ configurations′) (g .clear) h (g .past h) e k a s;
+        configurations-long = n ∙ m ∙ g .configurations-long;
+        led =
+            led-then
+            (led-signed H read part from number₀ line₀ (tables legs₀ configurations₀) i number line (tables legs configurations) (g .led) t at line′ (tables legs′ configurations′) (g .clear) h (g .past h) e k a s)
+            (x .listed read legs′ past);
       }
 
   -- the part ends in a number

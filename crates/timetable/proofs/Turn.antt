@@ -162,6 +162,12 @@ unfolding reach
 stays H lent k place [] = refl
 stays H lent k place (b ∷ s) = stays H lent k place s
 
+-- one way after another
+pub led-then : {H read : ℕ} {part : List ℕ} {from : ℕ} {number₀ : Number} {line₀ : Line} {now₀ : Tables} {i : ℕ} {number : Number} {line : Line} {now : Tables} {i′ : ℕ} {number′ : Number} {line′ : Line} {now′ : Tables}
+    → Leads H read part from number₀ line₀ now₀ i number line now → Leads H read part i number line now i′ number′ line′ now′ → Leads H read part from number₀ line₀ now₀ i′ number′ line′ now′
+led-then a b =
+    record { leads = λ lent reached h. let x = a .leads lent reached h in let y = b .leads lent (x .0) (x .1) in (y .0, y .1, y .2 ∙ x .2) }
+
 module _ (H read : ℕ) (part : List ℕ) (from : ℕ) (number₀ : Number) (line₀ : Line) (now₀ : Tables) where
   pub led-none : Leads H read part from number₀ line₀ now₀ from number₀ line₀ now₀
   led-none = record { leads = λ lent reached h. (reached, h, refl) }

@@ -139,6 +139,8 @@ pub record Entered (H : ℕ) (line : Line) (p : ℕ) (line′ : Line) (table tab
   pub entered : (lent : Tables) (legs : List ℕ) (place : ℕ) (before : List Row) (closed : List ℕ) (list : List Configuration) (d t v : ℕ)
       → InLine H lent line (tables legs table) place before closed list (d ∷ t ∷ []) → p ≡ held v
       → InLine H lent line′ (tables legs table′) place before closed (list ++ configuration d t v ∷ []) []
+  pub next-entry : line′ .slot ≡ entrySlot
+  pub no-fault : line′ .fault ≡ line .fault
 
 -- what a byte that no digit follows must give: the row goes on with an empty number, or breaks its form
 abbrev pub AfterByte : (H : ℕ) (lent : Tables) (line : Line) (now : Tables) (place : ℕ) → List Row → Option Open → Type 0

@@ -4,3 +4,4 @@ pub mod Held
 pub mod RowOver
 pub mod Promise
 pub mod Text
+pub mod Entries

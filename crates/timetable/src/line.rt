@@ -4,10 +4,10 @@ ghost use mathlib.Core.Bool.{true, not, cond};
 ghost use mathlib.Core.List.{[], _∷_};
 ghost use Prim.Native.Nat.{_+_, _≤_, _<_};
 ghost use lib.Dec.{leb, ltb};
-ghost use lib.ListN.{getD};
+ghost use lib.ListN.{getD, set};
 ghost use Rattle.rules.specs.Limits.{mostText, mostId, legWidth, configurationWidth};
 ghost use Rattle.rules.specs.Timetable.{configuration, inRange, same, legNumbers};
-ghost use Rattle.timetable.specs.Held.{separatorOf, stoppedWith, storedAt, Entered, Closed, tables};
+ghost use Rattle.timetable.specs.Held.{separatorOf, lastSlot, lineWith, stoppedWith, storedAt, Entered, Closed, tables};
 ghost use Rattle.timetable.specs.RowOver.{Ended, rangeHolds, countsHold, isNew, roomHolds, lineTests, lowest, legHeld, storedLeg, Bounded, nextLine};
 ghost use Rattle.timetable.specs.Text.{Signed};
 use crate::number;
@@ -43,7 +43,7 @@ pub struct Line {
 const SEPARATORS: [u8; 10] = [b',', b',', b',', b',', b',', b'_', b'_', b',', b'_', b'_'];
 
 // The first and the third number of an entry.
-const ENTRY: usize = 8;
+pub const ENTRY: usize = 8;
 
 const LAST: usize = 10;
 
@@ -144,6 +144,19 @@ pub fn entry(line: Line, p: u32, h: u32, configurations: &mut [u32]) -> Line
         p,
     );
     out
+}
+
+// A whole entry.
+pub fn listed(line: Line, d: u32, t: u32, p: u32, h: u32, configurations: &mut [u32]) -> Line
+    ensures { λ r. ⌜ Entered h (lineWith line lastSlot (set (set (line .numbers) 8 d) 9 t) (line .entries) (line .nominal) (line .wide)) p r (now (configurations .entry)) (now (configurations .exit)) ⌝ }
+{
+    let mut numbers = line.numbers;
+    numbers[8] = d;
+    numbers[9] = t;
+    let mut out = line;
+    out.numbers = numbers;
+    out.slot = LAST;
+    entry(out, p, h, configurations)
 }
 
 // A number is closed by a byte that is no LF.

@@ -7,6 +7,7 @@ ghost use Rattle.timetable.specs.declared.number.Number.the-variants.{Em
 ghost use Rattle.timetable.specs.Held.{tables};
 ghost use Rattle.timetable.specs.Promise.{ReadAs};
 ghost use Rattle.timetable.specs.Text.{firstLine, headedFrom, Placed, Ran, Fed, Finished};
+use crate::entries;
 use crate::line;
 use crate::line::Line;
 use crate::number;
@@ -88,7 +89,7 @@ fn header(part: &[u8], read: usize) -> Headed
     }
 }
 
-// The rows of a part from a place on: the digits of a number in one loop, and then the byte that closes it.
+// The rows of a part from a place on: the digits of a number in one loop, the byte that closes it, and then the entries that follow whole.
 pub fn run_rows(
     before: Line,
     unclosed: Number,
@@ -126,7 +127,9 @@ pub fn run_rows(
                 line,
             };
         }
-        i = next + 1;
+        let list = entries::run_list(line, part, next + 1, h, configurations);
+        line = list.line;
+        i = list.next;
     }
     Reader {
         read: read + part.len(),

@@ -53,7 +53,7 @@ enum-known-step-2 : tie.Need-enum-known-step-2 Inv-loop μ-loop
 enum-known-step-2 c = search needs
 
 emit-requires : tie.Need-emit-requires Inv-loop μ-loop
-emit-requires c κs = next-low _ _ _ _ _ _ _ (c .before .before .before .before .before .before .before .before .before .before .loop .inv) ((c .before .before .before .before .before .before .before .before .before .before .before .before .before .before .before .before .before .before .before) .pre) _
+emit-requires c κs = (next-low _ _ _ _ _ _ _ (c .before .before .before .before .before .before .before .before .before .before .loop .inv) ((c .before .before .before .before .before .before .before .before .before .before .before .before .before .before .before .before .before .before .before) .pre) _, few _ _ _ _ _ _ _ (c .before .before .before .before .before .before .before .before .before .before .loop .inv) .constraints)
 
 add-seen : tie.Need-add-seen Inv-loop μ-loop
 add-seen c = omega (arith, few _ _ _ _ _ _ _ (c .before .before .before .before .before .before .before .before .before .before .before .before .before .before .before .before .loop .inv) .constraints)

@@ -1,4 +1,4 @@
--- `profiles::quick::sample_at` meets its contract: a minus, or none. Assumes nothing.
+-- `profiles::quick::sample_at` meets its contract: the number behind its sign. Assumes nothing.
 use Rattle.profiles.proofs.Looks.{quick}
 use borrow.Author.Needs.{needs}
 use Rattle.profiles.proofs.quick.sample_at.Statement.{statement}
@@ -7,11 +7,8 @@ use Rattle.profiles.proofs.quick.sample_at.Tie as tie
 returns : tie.Need-returns
 returns c = search (quick, needs)
 
-shared-slice-read-if2 : tie.Need-shared-slice-read-if2
-shared-slice-read-if2 c = search needs
-
-add-unsigned-at : tie.Need-add-unsigned-at
-add-unsigned-at c = search needs
+sign-at-requires : tie.Need-sign-at-requires
+sign-at-requires c κs = search needs
 
 unsigned-at-requires : tie.Need-unsigned-at-requires
 unsigned-at-requires c κs = search needs
@@ -19,20 +16,5 @@ unsigned-at-requires c κs = search needs
 returns-2 : tie.Need-returns-2
 returns-2 c = search (quick, needs)
 
-unsigned-at-requires-2 : tie.Need-unsigned-at-requires-2
-unsigned-at-requires-2 c κs = search needs
-
-returns-3 : tie.Need-returns-3
-returns-3 c = search needs
-
 pub sample-at-spec : {M : Type 1} → statement M
-sample-at-spec =
-    tie.close
-    (tie.spec
-    returns
-    shared-slice-read-if2
-    add-unsigned-at
-    unsigned-at-requires
-    returns-2
-    unsigned-at-requires-2
-    returns-3)
+sample-at-spec = tie.close (tie.spec returns sign-at-requires unsigned-at-requires returns-2)

@@ -25,8 +25,8 @@ loop-holds c = search (going-first, needs)
 cast-place : tie.Need-cast-place Inv-loop μ-loop
 cast-place c = search needs
 
-find-requires : tie.Need-find-requires Inv-loop μ-loop
-find-requires c κs = search needs
+line-end-requires : tie.Need-line-end-requires Inv-loop μ-loop
+line-end-requires c κs = search needs
 
 same-length : tie.Need-same-length Inv-loop μ-loop
 same-length c = search needs
@@ -86,7 +86,7 @@ read-rows-spec =
     none-differs-requires
     loop-holds
     cast-place
-    find-requires
+    line-end-requires
     same-length
     returns
     cast-row

@@ -1,7 +1,9 @@
--- The rows of a part: each turn takes a number's digits and the byte after them. Assumes nothing.
+-- The rows of a part: each turn takes a number's digits, the byte after them, and the entries that follow whole. Assumes nothing.
 use Prim.Native.Nat.{_-_}
+use mathlib.Core.Path.{refl}
 use lib.ListN.{length}
 use borrow.Author.Needs.{needs}
+use Rattle.timetable.proofs.Listing.{begun}
 use Rattle.timetable.proofs.Run.{Going, less-left, going, goes-on, ran-taken, ran-stopped, ran-over}
 use Rattle.timetable.proofs.reader.run_rows.Statement.{statement}
 use Rattle.timetable.proofs.reader.run_rows.Tie as tie
@@ -18,8 +20,8 @@ loop-holds c = search (going, needs)
 take-requires : tie.Need-take-requires Inv-loop μ-loop
 take-requires c κs = search needs
 
-add-t18 : tie.Need-add-t18 Inv-loop μ-loop
-add-t18 c = search needs
+add-t19 : tie.Need-add-t19 Inv-loop μ-loop
+add-t19 c = search needs
 
 same-length : tie.Need-same-length Inv-loop μ-loop
 same-length c = search needs
@@ -42,8 +44,8 @@ shared-slice-read-sign c = search needs
 sign-requires : tie.Need-sign-requires Inv-loop μ-loop
 sign-requires c κs = search needs
 
-add-t26 : tie.Need-add-t26 Inv-loop μ-loop
-add-t26 c = search needs
+add-t27 : tie.Need-add-t27 Inv-loop μ-loop
+add-t27 c = search needs
 
 same-length-3 : tie.Need-same-length-3 Inv-loop μ-loop
 same-length-3 c = search needs
@@ -54,17 +56,30 @@ same-length-4 c = search needs
 returns-2 : tie.Need-returns-2 Inv-loop μ-loop
 returns-2 c = search (ran-stopped, needs)
 
-add-i : tie.Need-add-i Inv-loop μ-loop
-add-i c = search needs
+add-run-list : tie.Need-add-run-list Inv-loop μ-loop
+add-run-list c = search needs
+
+run-list-requires : tie.Need-run-list-requires Inv-loop μ-loop
+run-list-requires c κs = search (begun, needs)
 
 loop-less : tie.Need-loop-less Inv-loop μ-loop
 loop-less c = search (less-left, needs)
 
 loop-again : tie.Need-loop-again Inv-loop μ-loop
-loop-again c = search (goes-on, needs)
+loop-again c =
+    goes-on (c .before .before .before .before .before .before .before .before .before .before .before .before .before .before .before .before .before .before .loop .inv) _ _ _ _ _ _ _
+    (c .before .before .before .before .before .before .before .before .before .before .before .before .before .before .before .before .before .loop-test .taken)
+    (c .before .before .before .before .before .before .before .before .before .before .before .before .before .before .before .before .take .ensures)
+    (c .before .before .before .before .before .before .before .before .before .before .before .before .before .before .before .if1 .left)
+    refl
+    (c .before .before .before .before .before .before .before .before .before .before .before .sign .ensures)
+    (search needs)
+    (search needs)
+    (c .before .before .before .run-list .ensures)
+    (search needs)
 
-add-t28 : tie.Need-add-t28 Inv-loop μ-loop
-add-t28 c = search needs
+add-t31 : tie.Need-add-t31 Inv-loop μ-loop
+add-t31 c = search needs
 
 same-length-5 : tie.Need-same-length-5 Inv-loop μ-loop
 same-length-5 c = search needs
@@ -83,7 +98,7 @@ run-rows-spec =
     μ-loop
     loop-holds
     take-requires
-    add-t18
+    add-t19
     same-length
     same-length-2
     returns
@@ -91,14 +106,15 @@ run-rows-spec =
     cast-at
     shared-slice-read-sign
     sign-requires
-    add-t26
+    add-t27
     same-length-3
     same-length-4
     returns-2
-    add-i
+    add-run-list
+    run-list-requires
     loop-less
     loop-again
-    add-t28
+    add-t31
     same-length-5
     same-length-6
     returns-3)

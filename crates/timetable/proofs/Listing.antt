@@ -1,0 +1,152 @@
+-- Whole entries at once lead where their bytes lead: three numbers, each closed by its byte. Assumes nothing.
+use Prim.Native.Nat.{ℕ, _+_, _-_, _≤_, _<_}
+use mathlib.Core.Path.{_≡_, refl, ap, sym, subst, _∙_}
+use mathlib.Core.Bool.{Bool, false}
+use mathlib.Core.List.{List}
+use native.Mathlib.Omega.{arith}
+use lib.ListN.{length, getD, set, drop}
+use Rattle.rules.specs.Bytes.{lineFeed, space, underscore}
+use Rattle.rules.specs.Timetable.{timetableHeader}
+use Rattle.timetable.specs.declared.line.Line.{Line}
+use Rattle.timetable.specs.declared.number.Number.the-variants.{Empty}
+use Rattle.timetable.specs.declared.number.Taken.{Taken}
+use Rattle.timetable.specs.declared.entries.Cut.{Cut}
+use Rattle.timetable.specs.declared.entries.Cut.the-variants.{At}
+use Rattle.timetable.specs.declared.entries.Spotted.{Spotted}
+use Rattle.timetable.specs.declared.entries.Spotted.the-variants.{Entry}
+use Rattle.timetable.specs.Digits.{takenFrom, isEmpty, valueOf}
+use Rattle.timetable.specs.Held.{lastSlot, entrySlot, separatorOf, lineWith, tables, Entered, Closed}
+use Rattle.timetable.specs.Text.{Signed, Leads}
+use Rattle.timetable.specs.Entries.{NumberAt, Cuts, missed, cut, EntryAt, Spots, unspotted, spotted, Begun, Lists}
+use Rattle.timetable.proofs.Close.{close-slot, close-entry}
+use Rattle.timetable.proofs.Ended.{sign-close}
+use Rattle.timetable.proofs.Turn.{taken-forward, led-none, led-signed}
+
+-- ---- a look at several bytes
+
+pub cut-at : (part : List ℕ) (from closes : ℕ) (t : Taken) (empty : Bool) (v : ℕ) → t ≡ takenFrom Empty from (drop from part) → t .next < length part → getD part (t .next) 0 ≡ closes
+    → empty ≡ isEmpty (t .number) → empty ≡ false → v ≡ valueOf (t .number) → Cuts part from closes (At v (t .next + 1))
+cut-at part from closes t empty v e h b x y z =
+    cut (record { number = t; number-is = e; inside = h; byte = b; digits = sym x ∙ y; value = z; behind = refl })
+
+cut-number : {part : List ℕ} {from closes : ℕ} {r : Cut} {v next : ℕ} → Cuts part from closes r → r ≡ At v next → NumberAt part from closes v next
+cut-number {part} {from} {closes} {r} {v} {next} c e = go (rw e at c)
+  where
+    go : Cuts part from closes (At v next) → NumberAt part from closes v next
+    go (cut n) = n
+
+pub spotted-at : (part : List ℕ) (from : ℕ) (a b c : Cut) (d t p second third next : ℕ) → Cuts part from underscore a → a ≡ At d second → Cuts part second underscore b → b ≡ At t third
+    → Cuts part third space c → c ≡ At p next → Spots part from (Entry d t p next)
+spotted-at part from a b c d t p second third next x e y f z g =
+    spotted (record { second = second; third = third; departure = cut-number x e; travel = cut-number y f; profile = cut-number z g })
+
+entry-of : {part : List ℕ} {from : ℕ} {r : Spotted} {d t p next : ℕ} → Spots part from r → r ≡ Entry d t p next → EntryAt part from d t p next
+entry-of {part} {from} {r} {d} {t} {p} {next} c e = go (rw e at c)
+  where
+    go : Spots part from (Entry d t p next) → EntryAt part from d t p next
+    go (spotted n) = n
+
+number-forward : {part : List ℕ} {from closes v next : ℕ} → NumberAt part from closes v next → (from < next) × (next ≤ length part)
+number-forward {part} {from} n =
+    (omega (arith, taken-forward Empty part from (n .number) (n .number-is), n .behind), omega (arith, n .inside, n .behind))
+
+entry-forward : {part : List ℕ} {from d t p next : ℕ} → EntryAt part from d t p next → (from < next) × (next ≤ length part)
+entry-forward e =
+    (omega (arith, number-forward (e .departure) .0, number-forward (e .travel) .0, number-forward (e .profile) .0), number-forward (e .profile) .1)
+
+-- ---- a number of an entry, and its byte
+
+module _ {H read : ℕ} {part : List ℕ} {from : ℕ} {line₀ : Line} {legs₀ table₀ legs table : List ℕ} {i : ℕ} {line : Line}
+    (led : Leads H read part from Empty line₀ (tables legs₀ table₀) i Empty line (tables legs table)) (clear : line .fault ≡ 0) (past : length timetableHeader ≤ read + i) where
+  led-closed : {closes v next : ℕ} (line′ : Line) (table′ : List ℕ) → NumberAt part i closes v next → (closes ≡ lineFeed → ⊥) → Closed H line v closes line′ table table′
+      → Leads H read part from Empty line₀ (tables legs₀ table₀) next Empty line′ (tables legs table′)
+  led-closed {closes} {v} {next} line′ table′ n other closed =
+      let at : ℕ = read + n .number .next in
+      let b : ℕ = getD part (n .number .next) 0 in
+      let closed′ : Closed H line v b line′ table table′ = rw (n .byte) closed in
+      let signed : Signed H line (n .number .number) b at line′ (tables legs table) (tables legs table′) =
+      sign-close H line line′ (n .number .number) b at legs table table′ false v (sym (n .digits)) refl (n .value) (λ q. other (sym (n .byte) ∙ q)) closed′ in
+      rw (n .behind)
+      (led-signed H read part from Empty line₀ (tables legs₀ table₀) i Empty line (tables legs table) led (n .number) at line′ (tables legs table′) clear
+      (omega (arith, taken-forward Empty part i (n .number) (n .number-is), n .inside)) past (n .number-is) (n .inside) refl signed)
+
+-- ---- the entry
+
+module _ {H read : ℕ} {part : List ℕ} {from : ℕ} {line₀ : Line} {legs₀ table₀ legs table : List ℕ} {i : ℕ} {line : Line}
+    (led : Leads H read part from Empty line₀ (tables legs₀ table₀) i Empty line (tables legs table)) (clear : line .fault ≡ 0) (past : length timetableHeader ≤ read + i)
+    (slot : line .slot ≡ entrySlot) where
+  led-entry : {d t p next : ℕ} (line′ : Line) (table′ : List ℕ) → EntryAt part i d t p next
+      → Entered H (lineWith line lastSlot (set (set (line .numbers) 8 d) 9 t) (line .entries) (line .nominal) (line .wide)) p line′ table table′
+      → Leads H read part from Empty line₀ (tables legs₀ table₀) next Empty line′ (tables legs table′)
+  led-entry {d} {t} {p} {next} line′ table′ e entered =
+      let line₁ : Line = lineWith line (line .slot + 1) (set (line .numbers) (line .slot) d) (line .entries) (line .nominal) (line .wide) in
+      let line₂ : Line = lineWith line₁ (line₁ .slot + 1) (set (line₁ .numbers) (line₁ .slot) t) (line .entries) (line .nominal) (line .wide) in
+      let same : line₂ ≡ lineWith line lastSlot (set (set (line .numbers) 8 d) 9 t) (line .entries) (line .nominal) (line .wide) =
+      ap (λ (s : ℕ). lineWith line (s + 1 + 1) (set (set (line .numbers) s d) (s + 1) t) (line .entries) (line .nominal) (line .wide)) slot in
+      let first : Closed H line d underscore line₁ table table = close-slot H line d underscore table underscore (ap separatorOf (sym slot)) refl (omega arith) in
+      let second : Closed H line₁ t underscore line₂ table table =
+      close-slot H line₁ t underscore table underscore (ap (λ (s : ℕ). separatorOf (s + 1)) (sym slot)) refl (omega arith) in
+      let third : Closed H line₂ p space line′ table table′ =
+      close-entry H line₂ p space table space (ap (λ (s : ℕ). separatorOf (s + 1 + 1)) (sym slot)) refl line′ table′ (omega arith) (rw same entered) in
+      let led₁ = led-closed led clear past line₁ table (e .departure) (λ q. omega arith) first in
+      let led₂ = led-closed led₁ clear (omega (arith, number-forward (e .departure) .0)) line₂ table (e .travel) (λ q. omega arith) second in
+      led-closed led₂ clear (omega (arith, number-forward (e .departure) .0, number-forward (e .travel) .0)) line′ table′ (e .profile) (λ q. omega arith) third
+
+-- ---- entries
+
+pub record Listing (H : ℕ) (part : List ℕ) (from : ℕ) (table₀ : List ℕ) (line₀ : Line) (table : List ℕ) (line : Line) (i : ℕ) : Type 0 where
+  pub forward : from ≤ i
+  pub inside : i ≤ length part
+  pub clear : line .fault ≡ 0
+  pub at-entry : line .slot ≡ entrySlot
+  pub long : length table ≡ length table₀
+  pub listed : (read : ℕ) (legs : List ℕ) → length timetableHeader ≤ read + from
+      → Leads H read part from Empty line₀ (tables legs table₀) i Empty line (tables legs table)
+
+pub listing : (H : ℕ) (part : List ℕ) (from : ℕ) (table : List ℕ) (line : Line) → Begun part from line → line .slot ≡ entrySlot → Listing H part from table line table line from
+listing H part from table line b s =
+    record {
+      forward = omega arith;
+      inside = b .within;
+      clear = b .clear;
+      at-entry = s;
+      long = refl;
+      listed = λ read legs past. led-none H read part from Empty line (tables legs table);
+    }
+
+module _ {H : ℕ} {part : List ℕ} {from : ℕ} {table₀ : List ℕ} {line₀ : Line} {table : List ℕ} {line : Line} {i : ℕ} (g : Listing H part from table₀ line₀ table line i) where
+  pub listing-next : {r : Spotted} {d t p next : ℕ} (line′ : Line) (table′ : List ℕ) → Spots part i r → r ≡ Entry d t p next
+      → Entered H (lineWith line lastSlot (set (set (line .numbers) 8 d) 9 t) (line .entries) (line .nominal) (line .wide)) p line′ table table′
+      → length table′ ≡ length table → Listing H part from table₀ line₀ table′ line′ next
+  listing-next line′ table′ found e entered l =
+      let x = entry-of found e in
+      record {
+        forward = omega (arith, g .forward, entry-forward x .0);
+        inside = entry-forward x .1;
+        clear = entered .no-fault ∙ g .clear;
+        at-entry = entered .next-entry;
+        long = l ∙ g .long;
+        listed = λ read legs past. led-entry (g .listed read legs past) (g .clear) (omega (arith, g .forward)) (g .at-entry) line′ table′ x entered;
+      }
+
+  pub listing-less : {r : Spotted} {d t p next : ℕ} → Spots part i r → r ≡ Entry d t p next → i < length part → length part - next < length part - i
+  listing-less found e h = let x = entry-of found e in omega (arith, entry-forward x .0, entry-forward x .1)
+
+  pub listing-over : Lists H line₀ part from (record { line = line; next = i }) table₀ table
+  listing-over = record { forward = g .forward; inside = g .inside; clear = g .clear; listed = g .listed }
+
+pub lists-none : (H : ℕ) (part : List ℕ) (from : ℕ) (table : List ℕ) (line : Line) → Begun part from line → Lists H line part from (record { line = line; next = from }) table table
+lists-none H part from table line b =
+    record {
+      forward = omega arith;
+      inside = b .within;
+      clear = b .clear;
+      listed = λ read legs past. led-none H read part from Empty line (tables legs table);
+    }
+
+pub begun : (part : List ℕ) (from : ℕ) (line : Line) → from ≤ length part → line .fault ≡ 0 → Begun part from line
+begun part from line h c = record { within = h; clear = c }
+
+pub ruleset looks = (missed, unspotted, cut-at, spotted-at)
+
+pub ruleset entering = (listing, listing-next, listing-less, listing-over, lists-none, begun)

@@ -21,12 +21,13 @@ use Rattle.laws.proofs.Ordered.{OfKind, ordered-length}
 use Rattle.laws.proofs.Documents.{good-is-lawful}
 use Rattle.ids.specs.Column.{Records, column}
 use Rattle.turns.specs.declared.steps.Counts.{Counts}
+use Rattle.rules.proofs.Lists.{flat-length, over-length}
 use Rattle.constraints.specs.declared.walks.Walked.{Walked}
 use Rattle.constraints.specs.declared.walks.Walked.the-variants.{Good, Refused}
 use Rattle.constraints.specs.declared.Read.the-variants.{Whole, Refused as NotRead}
 use Rattle.turns.specs.Steps.{countsOf}
 use Rattle.constraints.specs.Tables.{nexts, startsOf, outcome, Filled, Upward, Walks, Able, reading, readOf, Tables, Reads}
-use Rattle.constraints.proofs.Filling.{flat-length, over-length, constraint-long}
+use Rattle.constraints.proofs.Filling.{constraint-long}
 use Rattle.constraints.proofs.InOrder.{upward-ordered}
 use Rattle.constraints.proofs.ByKind.{none, counted, all-counted, by-kind}
 
@@ -94,7 +95,7 @@ module _ (text legs : List ℕ) (n : ℕ) (c t : List ℕ) where
       filed = flat constraintNumbers (d .constraints)
 
       size : (cs : List Constraint) → length (flat constraintNumbers cs) ≡ length cs * constraintWidth
-      size = flat-length constraintWidth constraintNumbers constraint-long
+      size = flat-length constraintNumbers constraintWidth constraint-long
 
       again : length (d .constraints) * constraintWidth ≤ length (over filed c)
       again = omega (arith, room, over-length filed c (omega (arith, size (d .constraints), room)))

@@ -15,8 +15,9 @@ use Rattle.rules.specs.Constraints.{ofKind, ordered, constraintNumbers}
 use Rattle.rules.specs.declared.sizes.Constraint.{Constraint}
 use Rattle.rules.specs.Verdict.{All}
 use Rattle.laws.proofs.Ordered.{OfKind, ordered-length}
+use Rattle.rules.proofs.Lists.{flat-append, flat-length}
 use Rattle.constraints.specs.Tables.{bumped, nexts, writes, startsOf}
-use Rattle.constraints.proofs.Filling.{flat-append, flat-length, constraint-long}
+use Rattle.constraints.proofs.Filling.{constraint-long}
 
 -- ---- a table in segments, one for each kind from a kind on: what is written, and what is free
 
@@ -338,7 +339,7 @@ module _ (cs : List Constraint) (known : All OfKind cs) (t : List ℕ) (room : l
   unfolding over ordered
   tables-written =
       let size : length (flat constraintNumbers (ordered cs)) ≡ sumOf (λ n. n) (sizes 1 5 cs) * constraintWidth =
-      flat-length constraintWidth constraintNumbers constraint-long (ordered cs) ∙ ap (λ (n : ℕ). n * constraintWidth) (ordered-size cs known) in
+      flat-length constraintNumbers constraintWidth constraint-long (ordered cs) ∙ ap (λ (n : ℕ). n * constraintWidth) (ordered-size cs known) in
       rw (size, left-drop (sizes 1 5 cs) t) (simp (flat-append, append-assoc))
 
   -- constraints: by kind and then by file; the room past the last keeps its contents

@@ -2,50 +2,21 @@
 use Prim.Native.Nat.{ℕ, suc, _+_, _*_, _≤_, _<_}
 use mathlib.Core.Path.{_≡_, refl, ap, sym, _∙_}
 use mathlib.Core.Bool.{Bool, true, false, cond}
-use mathlib.Core.List.{List, [], _∷_, _++_, append-assoc}
+use mathlib.Core.List.{List, [], _∷_, _++_}
 use native.Mathlib.Omega.{arith}
-use native.Mathlib.Nat.{add-comm, suc-mul}
-use lib.ListN.{length, getD, take, drop, set, length-append, length-drop, length-set}
-use lib.Seq.{take-suc-set, sets, sets-eq, length-sets, drop-drop, take-append-seam, drop-append-add, ext-getD, getD-take}
+use lib.ListN.{length, getD, take, drop, set, length-append, length-set}
+use lib.Seq.{take-suc-set, sets, length-sets, ext-getD, getD-take}
 use Rattle.rules.specs.Limits.{constraintWidth, trackWidth}
 use Rattle.rules.specs.Lists.{flat, over}
 use Rattle.rules.specs.Constraints.{constraintNumbers, trackNumbers}
 use Rattle.rules.specs.declared.sizes.Constraint.{Constraint}
 use Rattle.rules.specs.declared.sizes.Track.{Track}
+use Rattle.rules.proofs.Lists.{flat-append, flat-length, over-length, over-more}
 use Rattle.ids.specs.Column.{column, trackIdsOf}
 use Rattle.ids.proofs.Column.{column-length, column-at}
 use Rattle.ids.proofs.Written.{column-written}
 use Rattle.constraints.specs.Tables.{bumped, nexts, placed, writes, written}
 use Rattle.constraints.proofs.Putting.{counted-low}
-
--- ---- records one after the other
-
-module _ {A : Type 0} where
-  pub flat-append : (f : A → List ℕ) (xs ys : List A) → flat f (xs ++ ys) ≡ flat f xs ++ flat f ys
-  flat-append f [] ys = refl
-  flat-append f (x ∷ xs) ys = ap (λ (l : List ℕ). f x ++ l) (flat-append f xs ys) ∙ sym (append-assoc (f x) (flat f xs) (flat f ys))
-
-  pub flat-length : (width : ℕ) (f : A → List ℕ) → ((x : A) → length (f x) ≡ width) → (xs : List A) → length (flat f xs) ≡ length xs * width
-  flat-length width f each [] = omega arith
-  flat-length width f each (x ∷ xs) =
-      length-append (f x) (flat f xs) ∙ rw (each x, flat-length width f each xs, suc-mul (length xs) width) (add-comm width (length xs * width))
-
--- ---- what was written at the front of a table
-
-module _ (w t : List ℕ) where
-  pub over-length : length w ≤ length t → length (over w t) ≡ length t
-  unfolding over
-  over-length h = omega (arith, length-append w (drop (length w) t), length-drop (length w) t)
-
-  -- one record more
-  pub over-more : (v : List ℕ) → length w + length v ≤ length t → sets (over w t) (length w) v ≡ over (w ++ v) t
-  unfolding over
-  over-more v h =
-      let long : length (w ++ drop (length w) t) ≡ length t = omega (arith, length-append w (drop (length w) t), length-drop (length w) t) in
-      let fits : length w + length v ≤ length (w ++ drop (length w) t) = omega arith in
-      let rest : drop (length w + length v) (w ++ drop (length w) t) ≡ drop (length (w ++ v)) t =
-      drop-append-add w (drop (length w) t) (length v) ∙ drop-drop (length v) (length w) t ∙ ap (λ (k : ℕ). drop k t) (sym (length-append w v)) in
-      sets-eq v (w ++ drop (length w) t) (length w) fits ∙ rw (take-append-seam w (drop (length w) t), rest)
 
 -- ---- the tracks
 
@@ -84,7 +55,7 @@ pub written-more : (sorts : Bool) (next t : List ℕ) (cs : List Constraint) (c 
     ≡ sets (written sorts next t cs) (cond sorts (getD (nexts next cs) (c .kind) 0) (length cs) * constraintWidth) (constraintNumbers c)
 written-more true next t cs c h = writes-more next t cs c
 written-more false next t cs c h =
-    let size : length (flat constraintNumbers cs) ≡ length cs * constraintWidth = flat-length constraintWidth constraintNumbers constraint-long cs in
+    let size : length (flat constraintNumbers cs) ≡ length cs * constraintWidth = flat-length constraintNumbers constraintWidth constraint-long cs in
     let fits : length (flat constraintNumbers cs) + length (constraintNumbers c) ≤ length t = omega (arith, size) in
     ap (λ (w : List ℕ). over w t) (flat-append constraintNumbers cs (c ∷ []))
     ∙ sym (over-more (flat constraintNumbers cs) t (constraintNumbers c) fits)
@@ -107,7 +78,7 @@ writes-length next t (c ∷ cs) =
 pub written-length : (sorts : Bool) (next t : List ℕ) (cs : List Constraint) → length cs * constraintWidth ≤ length t → length (written sorts next t cs) ≡ length t
 written-length true next t cs h = writes-length next t cs
 written-length false next t cs h =
-    over-length (flat constraintNumbers cs) t (omega (arith, flat-length constraintWidth constraintNumbers constraint-long cs))
+    over-length (flat constraintNumbers cs) t (omega (arith, flat-length constraintNumbers constraintWidth constraint-long cs))
 
 -- ---- the ids of the subnets
 

@@ -29,12 +29,13 @@ use Rattle.tokens.specs.Seen.{tokensAt, found, isEnd, Seen, Within}
 use Rattle.turns.specs.declared.steps.Counts.{Counts}
 use Rattle.turns.specs.declared.steps.Step.{Step}
 use Rattle.turns.specs.declared.steps.Step.the-variants.{On, Emit, Opened, Named, Listed, Finish, Fault}
+use Rattle.rules.proofs.Lists.{flat-append, flat-length, over-length, over-more}
 use Rattle.constraints.specs.declared.walks.Walked.the-variants.{Good, Refused}
 use Rattle.rules.specs.declared.sizes.Track.{Track}
 use Rattle.turns.specs.Steps.{turned, countsOf, Tied, Ready}
 use Rattle.constraints.specs.Tables.{bumped, nexts, written, outcome, Able, Walks}
 use Rattle.turns.proofs.ByAction.{past-found}
-use Rattle.constraints.proofs.Filling.{flat-append, flat-length, over-length, over-more, track-long, tracks-held, ids-held, id-held, nexts-more, nexts-low, nexts-length, written-more, written-length}
+use Rattle.constraints.proofs.Filling.{track-long, tracks-held, ids-held, id-held, nexts-more, nexts-low, nexts-length, written-more, written-length}
 
 -- ---- no token comes after the text's end
 
@@ -199,7 +200,7 @@ module _ (text legs : List ℕ) (n : ℕ) (c₀ t₀ s₀ : List ℕ) (sorts : B
     tracks-fit : length (flat trackNumbers (g .d .tracks)) ≤ length t₀
     tracks-fit =
         let room : length (g .d .tracks) ≤ T = g .keeps .tables .tracks-lawful .in-room in
-        omega (arith, flat-length trackWidth trackNumbers track-long (g .d .tracks), div-mul-le-self (length t₀) trackWidth)
+        omega (arith, flat-length trackNumbers trackWidth track-long (g .d .tracks), div-mul-le-self (length t₀) trackWidth)
 
     constraints-fit : length (g .d .constraints) * constraintWidth ≤ length c₀
     constraints-fit =
@@ -230,7 +231,7 @@ module _ (text legs : List ℕ) (n : ℕ) (c₀ t₀ s₀ : List ℕ) (sorts : B
         record {
           legs-there = able .legs-there;
           few-legs = able .few-legs;
-          tracks-there = record { one = omega arith; whole = rw (g .counted) (omega (arith, tracks-long, tracks-fit, flat-length trackWidth trackNumbers track-long (g .d .tracks))) };
+          tracks-there = record { one = omega arith; whole = rw (g .counted) (omega (arith, tracks-long, tracks-fit, flat-length trackNumbers trackWidth track-long (g .d .tracks))) };
           ids-there = record { one = omega arith; whole = rw (g .counted) (omega (arith, g .ids-long, few-ids Legs C T st (g .d) (g .keeps))) };
           word-starts = s .word-starts;
           word-ends = s .word-ends;
@@ -395,7 +396,7 @@ module _ (text legs : List ℕ) (n : ℕ) (c₀ t₀ s₀ : List ℕ) (sorts : B
       going-listed x id t′ is put =
           let to = next-on x (withTrack id (g .d)) (ap (λ (y : Step). turned y (g .d)) is) in
           let k : Track = record { id = id; subnet = g .d .opened - 1 } in
-          let size = flat-length trackWidth trackNumbers track-long (g .d .tracks) in
+          let size = flat-length trackNumbers trackWidth track-long (g .d .tracks) in
           let room : length (g .d .tracks ++ k ∷ []) ≤ T = to .keeps .tables .tracks-lawful .in-room in
           let fits : length (flat trackNumbers (g .d .tracks)) + length (trackNumbers k) ≤ length t₀ =
           omega (arith, size, length-append (g .d .tracks) (k ∷ []), div-mul-le-self (length t₀) trackWidth) in

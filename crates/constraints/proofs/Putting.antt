@@ -1,24 +1,34 @@
 -- Stores into a table, one after the other, as the definitions write them. Assumes nothing.
-use Prim.Native.Nat.{ℕ, zero, suc, _+_, _≤_}
-use mathlib.Core.Path.{_≡_}
+use Prim.Native.Nat.{ℕ, zero, suc, _+_, _≤_, _<_}
+use mathlib.Core.Path.{_≡_, refl, ap, _∙_}
 use mathlib.Core.List.{List, [], _∷_}
 use native.Mathlib.Omega.{arith}
-use native.Mathlib.Numerals.{add-one}
-use lib.ListN.{getD, set}
-use lib.Seq.{sets}
+use native.Mathlib.Nat.{add-zero}
+use lib.ListN.{length, getD, drop, set, length-set, drop-of-length-le}
+use lib.Seq.{sets, drop-cons}
 
-pub sets-two : (t : List ℕ) (i a b : ℕ) → set (set t i a) (i + 1) b ≡ sets t i (a ∷ b ∷ [])
-sets-two t i a b = rw (add-one i)
+-- the loop's invariant: what is left to be stored makes of the table what all of it makes
+pub record Putting (t₀ : List ℕ) (place : ℕ) (numbers t : List ℕ) (k : ℕ) : Type 0 where
+  pub inside : k ≤ length numbers
+  pub long : length t ≡ length t₀
+  pub left : sets t (place + k) (drop k numbers) ≡ sets t₀ place numbers
 
-pub sets-six : (t : List ℕ) (i a b c d e f : ℕ)
-    → set (set (set (set (set (set t i a) (i + 1) b) (i + 2) c) (i + 3) d) (i + 4) e) (i + 5) f ≡ sets t i (a ∷ b ∷ c ∷ d ∷ e ∷ f ∷ [])
-sets-six t i a b c d e f =
-    let one : i + 1 ≡ suc i = omega arith in
-    let two : i + 2 ≡ suc (suc i) = omega arith in
-    let three : i + 3 ≡ suc (suc (suc i)) = omega arith in
-    let four : i + 4 ≡ suc (suc (suc (suc i))) = omega arith in
-    let five : i + 5 ≡ suc (suc (suc (suc (suc i)))) = omega arith in
-    rw (one, two, three, four, five)
+pub putting-none : (t : List ℕ) (place : ℕ) (numbers : List ℕ) → Putting t place numbers t 0
+putting-none t place numbers = record { inside = omega arith; long = refl; left = rw (add-zero place) }
+
+module _ {t₀ : List ℕ} {place : ℕ} {numbers t : List ℕ} {k : ℕ} (p : Putting t₀ place numbers t k) where
+  pub putting-one : {t′ : List ℕ} → k < length numbers → t′ ≡ set t (place + k) (getD numbers k 0) → Putting t₀ place numbers t′ (k + 1)
+  putting-one h e =
+      let q : place + (k + 1) ≡ suc (place + k) = omega arith in
+      let n : k + 1 ≡ suc k = omega arith in
+      record {
+        inside = omega arith;
+        long = ap length e ∙ length-set t (place + k) (getD numbers k 0) ∙ p .long;
+        left = rw (e, q, n) (rw (drop-cons numbers k 0 h) at (p .left));
+      }
+
+  pub putting-all : length numbers ≤ k → t ≡ sets t₀ place numbers
+  putting-all h = rw (drop-of-length-le numbers h) at (p .left)
 
 -- one more than what stands there: no entry grows by more than one
 pub counted-low : (l : List ℕ) (i k : ℕ) → getD (set l i (getD l i 0 + 1)) k 0 ≤ getD l k 0 + 1

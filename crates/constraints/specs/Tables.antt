@@ -27,6 +27,10 @@ abbrev pub nexts : (next : List ℕ) → List Constraint → List ℕ
 nexts next [] = next
 nexts next (c ∷ cs) = nexts (bumped next (c .kind)) cs
 
+-- no entry is put past this place
+abbrev pub lastPlace : ℕ
+lastPlace = (mostConstraints + mostConstraints) * constraintWidth
+
 -- an entry goes to the next place of its kind
 abbrev pub placed : (next : List ℕ) → Constraint → (table : List ℕ) → List ℕ
 placed next c table = sets table (getD next (c .kind) 0 * constraintWidth) (constraintNumbers c)

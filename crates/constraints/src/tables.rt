@@ -7,7 +7,7 @@ ghost use lib.ListN.{getD, set};
 ghost use lib.Seq.{sets};
 ghost use Rattle.rules.specs.Limits.{constraintWidth, trackWidth, mostConstraints, mostTracks};
 ghost use Rattle.rules.specs.Constraints.{constraintNumbers};
-ghost use Rattle.constraints.specs.Tables.{bumped, startsOf, Upward};
+ghost use Rattle.constraints.specs.Tables.{lastPlace, bumped, startsOf, Upward};
 ghost use Rattle.ids.specs.Column.{Records};
 use rules::kinds::Kind;
 use rules::sizes::Constraint;
@@ -21,26 +21,32 @@ fn put_number(table: &mut [u32], i: usize, n: u32)
     }
 }
 
+// Numbers one after the other, from a place on.
+fn put_numbers(table: &mut [u32], place: usize, numbers: &[u32])
+    requires { ⌜ place ≤ lastPlace ⌝ }
+    ensures { λ r. ⌜ now (table .exit) ≡ sets (now (table .entry)) place (now (numbers .entry)) ⌝ }
+{
+    let mut k = 0;
+    while k < numbers.len() {
+        put_number(table, place + k, numbers[k]);
+        k += 1;
+    }
+}
+
 fn put_constraint(table: &mut [u32], place: usize, c: Constraint)
     requires { ⌜ place ≤ mostConstraints + mostConstraints ⌝ }
     ensures { λ r. ⌜ now (table .exit) ≡ sets (now (table .entry)) (place * constraintWidth) (constraintNumbers c) ⌝ }
 {
-    let i = place * Constraint::WIDTH;
-    put_number(table, i, c.kind);
-    put_number(table, i + 1, c.first);
-    put_number(table, i + 2, c.second);
-    put_number(table, i + 3, c.low);
-    put_number(table, i + 4, c.high);
-    put_number(table, i + 5, c.connection);
+    let numbers = [c.kind, c.first, c.second, c.low, c.high, c.connection];
+    put_numbers(table, place * Constraint::WIDTH, &numbers);
 }
 
 pub fn put_track(table: &mut [u32], place: usize, id: u32, subnet: u32)
     requires { ⌜ place ≤ mostTracks ⌝ }
     ensures { λ r. ⌜ now (table .exit) ≡ sets (now (table .entry)) (place * trackWidth) (id ∷ subnet ∷ []) ⌝ }
 {
-    let i = place * Track::WIDTH;
-    put_number(table, i, id);
-    put_number(table, i + 1, subnet);
+    let numbers = [id, subnet];
+    put_numbers(table, place * Track::WIDTH, &numbers);
 }
 
 // The next place of a kind.

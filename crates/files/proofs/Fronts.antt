@@ -1,10 +1,9 @@
 -- Tables that hold records at their front: how many fit, and the columns of the legs. Assumes nothing.
-use Prim.Native.Nat.{ℕ, _+_, _*_, _≤_}
+use Prim.Native.Nat.{ℕ, _+_}
 use mathlib.Core.Path.{_≡_, refl, sym, ap, ap₂, _∙_}
 use mathlib.Core.List.{List, [], _∷_, map}
 use native.Mathlib.Omega.{arith}
-use native.Mathlib.Nat.{mul-comm}
-use lib.ListN.{length, getD, drop, length-append}
+use lib.ListN.{length, drop}
 use lib.Seq.{drop-append-seam}
 use Rattle.rules.specs.Limits.{legWidth}
 use Rattle.rules.specs.Lists.{flat, over}
@@ -13,9 +12,9 @@ use Rattle.rules.specs.Timetable.{Row, legOf, legsFrom, legsOf, legNumbers}
 use Rattle.rules.specs.Reading.{legIds}
 use Rattle.rules.specs.declared.sizes.Leg.{Leg}
 use Rattle.ids.specs.Column.{Records, column}
-use Rattle.ids.proofs.Written.{tabulate-same, column-written}
-use Rattle.rows.specs.Subnets.{trackPlace, legTracks}
-use Rattle.constraints.proofs.Filling.{flat-length}
+use Rattle.ids.proofs.Written.{column-written}
+use Rattle.rows.specs.Subnets.{legTracks}
+pub use Rattle.rows.proofs.Holding.{front-records}
 use Rattle.tables.specs.View.{legAt}
 use Rattle.tables.proofs.Tabulated.{tabulate-map}
 use Rattle.tables.proofs.Offers.{legs-length, legs-seen}
@@ -24,13 +23,6 @@ use Rattle.tables.proofs.Offers.{legs-length, legs-seen}
 pub front-held : {A : Type 0} (w t : List A) {table : List A} → table ≡ over w t → table ≡ over w table
 unfolding over
 front-held w t e = rw (e, drop-append-seam w (drop (length w) t))
-
--- records at the front are within the table
-pub front-records : {A : Type 0} (f : A → List ℕ) (width : ℕ) → 1 ≤ width → ((x : A) → length (f x) ≡ width) → (xs : List A) (t : List ℕ)
-    → {n : ℕ} {table : List ℕ} → n ≡ length xs → table ≡ over (flat f xs) t → Records width n table
-unfolding over
-front-records f width one each xs t n e =
-    rw (n, e) (record { one = one; whole = omega (arith, length-append (flat f xs) (drop (length (flat f xs)) t), flat-length width f each xs) })
 
 -- what each leg says of its row, wherever its list starts
 legs-map : (f : Leg → ℕ) (g : Row → ℕ) → ((first : ℕ) (r : Row) → f (legOf first r) ≡ g r) → (first : ℕ) (rows : List Row) → map f (legsFrom first rows) ≡ map g rows
@@ -56,8 +48,7 @@ module _ (legs : List ℕ) (n : ℕ) (rows : List Row) (many : n ≡ length rows
   pub legs-tracks : legTracks n legs ≡ map (λ r. r .track) rows
   unfolding legTracks
   legs-tracks =
-      tabulate-same n (λ i. getD legs (i * legWidth + trackPlace) 0) (λ i. legAt legs i .track) (λ i. ap (λ k. getD legs (k + trackPlace) 0) (mul-comm i legWidth))
-      ∙ tabulate-map (λ (l : Leg). l .track) n (legAt legs)
+      tabulate-map (λ (l : Leg). l .track) n (legAt legs)
       ∙ ap (map (λ (l : Leg). l .track)) seen
       ∙ legs-map (λ l. l .track) (λ r. r .track) (λ first r. refl) 0 rows
     where

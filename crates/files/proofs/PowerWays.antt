@@ -11,9 +11,10 @@ use Rattle.rules.specs.Lists.{over}
 use Rattle.rules.specs.Answers.{timetableFile, refusal, Reading, refused, good}
 use Rattle.rules.specs.Rows.{RowFault, firstFault, placeOfRow}
 use Rattle.rules.specs.Timetable.{Row}
-use Rattle.rules.specs.Profiles.{Curve, sampled, profilesOf, profileFault}
+use Rattle.rules.specs.Profiles.{Curve, sampled, profilesOf, profilesFrom, profileNumbers, profileFault}
 use Rattle.rules.specs.declared.answers.Refusal.{Refusal}
 use Rattle.ids.specs.Column.{Records}
+use Rattle.ids.proofs.Curves.{profiles-length}
 use Rattle.profiles.specs.declared.reader.Rows.{Rows}
 use Rattle.profiles.specs.declared.reader.Rows.the-variants.{Refused as NotRead, Read}
 use Rattle.rows.specs.declared.lists.Fault.{Fault}
@@ -21,12 +22,12 @@ use Rattle.rows.specs.declared.lists.Fault.the-variants.{Row as AtRow, Nothing}
 use Rattle.profiles.specs.Reads.{rowsOf, Reads}
 use Rattle.profiles.specs.Holds.{profileTable}
 use Rattle.rows.specs.Counts.{Tables, Tabled, faultOf, FirstFault}
-use Rattle.rows.proofs.Holding.{tabled-tables, tabled-records}
+use Rattle.rows.proofs.Holding.{tabled-tables}
 use Rattle.files.specs.declared.Counts.{Counts}
 use Rattle.files.specs.declared.Filed.the-variants.{Whole, Refused}
 use Rattle.files.specs.Parts.{powersOf, Draft, Lists, Listed, PowersRead}
 use Rattle.files.proofs.Parted.{part-refused, part-good}
-use Rattle.files.proofs.Fronts.{front-held}
+use Rattle.files.proofs.Fronts.{front-held, front-records}
 
 not-read : (o : Reading (List Curve)) (r : Refusal) → NotRead r ≡ rowsOf o → o ≡ refused r
 not-read (refused s) r e = cc
@@ -80,7 +81,11 @@ module _ (counts : Counts) (timetable text legs configurations profiles : List �
 
     -- what 12 and 13 are tested over
     pub powers-able : Listed timetable legs (counts .legs) configurations → Tables legs (counts .legs) configurations × Records profileWidth m profiles′
-    powers-able l = (tabled-tables (tabled (l .rows) (l .draft) (l .lists)), tabled-records (tabled (l .rows) (l .draft) (l .lists)))
+    powers-able l = (
+      tabled-tables (tabled (l .rows) (l .draft) (l .lists)),
+      front-records profileNumbers profileWidth (omega arith) (λ p. refl) (profilesFrom 0 (got .curves)) profiles
+          (got .profiles-many ∙ sym (profiles-length 0 (got .curves))) table,
+    )
 
     module _ {fault : Fault} (f : FirstFault legs (counts .legs) configurations profiles′ m fault) where
       found : (rows : List Row) → Draft timetable legs (counts .legs) rows → Lists configurations rows → fault ≡ faultOf (firstFault 0 (profileFault (got .curves)) rows)

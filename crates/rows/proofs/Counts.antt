@@ -1,5 +1,5 @@
 -- A profile looked up, and the entries of a list one after the other. Assumes nothing.
-use Prim.Native.Nat.{ℕ, zero, suc, _+_, _*_, _-_, _≤_, _<_}
+use Prim.Native.Nat.{ℕ, zero, suc, _+_, _*_, _≤_, _<_}
 use mathlib.Core.Path.{_≡_, refl, ap, sym, _∙_}
 use mathlib.Core.Bool.{Bool, true, false, not, cond, _&&_}
 use mathlib.Core.List.{List, [], _∷_, _++_}
@@ -8,7 +8,7 @@ use native.Mathlib.Omega.{arith}
 use native.Mathlib.Numerals.{add-one}
 use native.Mathlib.Nat.{not-suc-le-zero}
 use lib.Dec.{eqb}
-use lib.ListN.{length, getD}
+use lib.ListN.{length}
 use borrow.Author.Tests.{eq-eqb, ne-eqb, not-true, not-false}
 use Rattle.rules.specs.Limits.{profileWidth}
 use Rattle.rules.specs.Lists.{every, isSome, placeFrom}
@@ -16,17 +16,19 @@ use Rattle.rules.specs.Answers.{notThere, wrongSamples}
 use Rattle.rules.specs.Energy.{tabulate}
 use Rattle.rules.specs.Timetable.{configuration}
 use Rattle.rules.specs.declared.sizes.Configuration.{Configuration}
+use Rattle.rules.proofs.Truth.{and-true, and-false}
+use Rattle.rules.proofs.Lists.{every-more, tabulate-more}
 use Rattle.ids.specs.declared.Found.{Found}
 use Rattle.ids.specs.declared.Found.the-variants.{At, Nothing}
 use Rattle.ids.specs.Column.{column, foundOf, placeOf, Records, Rising}
 use Rattle.ids.proofs.Column.{column-length}
-use Rattle.ids.proofs.More.{every-more}
+use Rattle.tables.specs.View.{profileAt, configurationAt}
 use Rattle.rows.specs.declared.lists.Seen.{Seen}
 use Rattle.rows.specs.declared.lists.Sight.{Sight}
 use Rattle.rows.specs.declared.lists.Sight.the-variants.{On, Gone}
 use Rattle.rows.specs.declared.lists.Counted.{Counted}
 use Rattle.rows.specs.declared.lists.Counted.the-variants.{Samples, Missing}
-use Rattle.rows.specs.Counts.{countAt, countedOf, configurationAt, listAt, lastsFor, listFault, numberOf, Sighted, SightedBy, Sees}
+use Rattle.rows.specs.Counts.{countAt, countedOf, listAt, lastsFor, listFault, numberOf, Sighted, SightedBy, Sees}
 
 -- an entry that is one of the table's
 pub entry-in : {profiles : List ℕ} {m i : ℕ} → Records profileWidth m profiles → i < m → (i + 1) * profileWidth ≤ length profiles
@@ -53,7 +55,7 @@ module _ {profiles : List ℕ} {m rising : ℕ} (id : ℕ) {f : Found} (r : Risi
       place-within (λ x. eqb x id) (column profileWidth m profiles) 0 i (found-some (placeFrom 0 (λ x. eqb x id) (column profileWidth m profiles)) i (sym e ∙ q)) in
       entry-in (r .records) (omega (arith, column-length profileWidth m profiles))
 
-  pub count-found : {i n : ℕ} → f ≡ At i → n ≡ getD profiles (i * profileWidth + 2) 0 → Samples n ≡ countedOf (countAt profiles m id)
+  pub count-found : {i n : ℕ} → f ≡ At i → n ≡ profileAt profiles i .count → Samples n ≡ countedOf (countAt profiles m id)
   count-found q h = rw (← e, q, h)
 
   pub count-missing : f ≡ Nothing → Missing ≡ countedOf (countAt profiles m id)
@@ -68,14 +70,6 @@ count-some (some k) n e = let q : k ≡ n = cc in ap some q
 count-none : (o : Option ℕ) → Missing ≡ countedOf o → o ≡ none
 count-none none e = refl
 count-none (some k) e = (cc)
-
-and-true : (t : Bool) → t && true ≡ t
-and-true true = refl
-and-true false = refl
-
-and-false : (t : Bool) → t && false ≡ false
-and-false true = refl
-and-false false = refl
 
 module _ (count : ℕ → Option ℕ) (seen : Seen) (travel id : ℕ) where
   abbrev known : Configuration → Bool
@@ -137,10 +131,6 @@ module _ (count : ℕ → Option ℕ) (seen : Seen) (travel id : ℕ) where
 
 -- ---- a list
 
-tabulate-more : {A : Type 0} (n : ℕ) (f : ℕ → A) → tabulate (suc n) f ≡ tabulate n f ++ f n ∷ []
-tabulate-more zero f = refl
-tabulate-more (suc n) f = ap (λ xs. f 0 ∷ xs) (tabulate-more n (λ i. f (suc i)))
-
 every-off : {A : Type 0} (p : A → Bool) (n : ℕ) (f : ℕ → A) (k : ℕ) → k < n → p (f k) ≡ false → every p (tabulate n f) ≡ false
 every-off p zero f k h e = absurd (not-suc-le-zero h)
 every-off p (suc n) f zero h e = rw e
@@ -153,7 +143,7 @@ every-off p (suc n) f (suc k) h e = go (p (f 0)) (every-off p n (λ i. f (suc i)
 -- the loop's invariant at entry k
 pub record Seeing (table : List ℕ) (first count : ℕ) (lookup : ℕ → Option ℕ) (seen : Seen) (k : ℕ) : Type 0 where
   pub inside : k ≤ count
-  pub sighted : Sighted lookup (listAt table first k) seen
+  pub sighted : Sighted lookup (listAt (configurationAt table) first k) seen
 
 pub seeing-none : (table : List ℕ) (first count : ℕ) (lookup : ℕ → Option ℕ) → Seeing table first count lookup (record { any = false; travel = 0; profile = 0; wrong = false }) 0
 seeing-none table first count lookup =
@@ -163,31 +153,31 @@ module _ {table : List ℕ} {first count : ℕ} {lookup : ℕ → Option ℕ} {s
   pub seeing-on : {c : Configuration} {x : Sight} {next : Seen} → k < count → c ≡ configurationAt table (first + k) → Sees lookup seen (c .travel) (c .profile) x → x ≡ On next
       → Seeing table first count lookup next (k + 1)
   seeing-on {c} {x} {next} h e sees q =
-      let one : SightedBy lookup (listAt table first k) (configuration (c .departure) (c .travel) (c .profile)) (On next) = rw q at (sees (listAt table first k) (c .departure) (s .sighted)) in
+      let one : SightedBy lookup (listAt (configurationAt table) first k) (configuration (c .departure) (c .travel) (c .profile)) (On next) = rw q at (sees (listAt (configurationAt table) first k) (c .departure) (s .sighted)) in
       record {
         inside = omega arith;
         sighted = rw (add-one, tabulate-more k (λ j. configurationAt table (first + j)), ← e) one;
       }
 
   pub seeing-gone : {c : Configuration} {x : Sight} → k < count → c ≡ configurationAt table (first + k) → Sees lookup seen (c .travel) (c .profile) x → x ≡ Gone
-      → notThere ≡ numberOf (listFault lookup (listAt table first count))
+      → notThere ≡ numberOf (listFault lookup (listAt (configurationAt table) first count))
   seeing-gone {c} {x} h e sees q =
-      let gone : isSome (lookup (c .profile)) ≡ false = rw q at (sees (listAt table first k) (c .departure) (s .sighted)) in
-      let off : every (λ d. isSome (lookup (d .profile))) (listAt table first count) ≡ false =
+      let gone : isSome (lookup (c .profile)) ≡ false = rw q at (sees (listAt (configurationAt table) first k) (c .departure) (s .sighted)) in
+      let off : every (λ d. isSome (lookup (d .profile))) (listAt (configurationAt table) first count) ≡ false =
       every-off (λ d. isSome (lookup (d .profile))) count (λ j. configurationAt table (first + j)) k h (rw e at gone) in
       rw off
 
-  all : count ≤ k → Sighted lookup (listAt table first count) seen
+  all : count ≤ k → Sighted lookup (listAt (configurationAt table) first count) seen
   all h = let n : k ≡ count = omega (arith, s .inside) in rw n at (s .sighted)
 
-  pub seeing-wrong : count ≤ k → seen .wrong ≡ true → wrongSamples ≡ numberOf (listFault lookup (listAt table first count))
+  pub seeing-wrong : count ≤ k → seen .wrong ≡ true → wrongSamples ≡ numberOf (listFault lookup (listAt (configurationAt table) first count))
   seeing-wrong h w =
-      let q : every (λ c. lastsFor (c .travel) (lookup (c .profile))) (listAt table first count) ≡ false = not-true _ (sym (all h .wrong) ∙ w) in
+      let q : every (λ c. lastsFor (c .travel) (lookup (c .profile))) (listAt (configurationAt table) first count) ≡ false = not-true _ (sym (all h .wrong) ∙ w) in
       rw (all h .there, q)
 
-  pub seeing-all : count ≤ k → seen .wrong ≡ false → 0 ≡ numberOf (listFault lookup (listAt table first count))
+  pub seeing-all : count ≤ k → seen .wrong ≡ false → 0 ≡ numberOf (listFault lookup (listAt (configurationAt table) first count))
   seeing-all h w =
-      let q : every (λ c. lastsFor (c .travel) (lookup (c .profile))) (listAt table first count) ≡ true = not-false _ (sym (all h .wrong) ∙ w) in
+      let q : every (λ c. lastsFor (c .travel) (lookup (c .profile))) (listAt (configurationAt table) first count) ≡ true = not-false _ (sym (all h .wrong) ∙ w) in
       rw (all h .there, q)
 
 pub ruleset counts =

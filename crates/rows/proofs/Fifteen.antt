@@ -16,11 +16,12 @@ use Rattle.rules.specs.Rows.{orElse, firstFault}
 use Rattle.rules.specs.Timetable.{Row}
 use Rattle.rules.specs.Constraints.{subnetOf, subnetFault}
 use Rattle.rules.specs.declared.sizes.Track.{Track}
+use Rattle.rules.proofs.Lists.{tabulate-length, tabulate-at}
 use Rattle.ids.specs.declared.Found.{Found}
 use Rattle.ids.specs.declared.Found.the-variants.{At, Nothing}
 use Rattle.ids.specs.Column.{Records, column, trackIdsOf, foundOf, placeOf}
-use Rattle.ids.proofs.Column.{length-tabulate, getD-tabulate}
 use Rattle.ids.proofs.Places.{some-there, none-there}
+use Rattle.tables.specs.View.{legAt}
 use Rattle.rows.specs.Subnets.{trackPlace, legTracks, unlisted, faultAt, Fifteen}
 
 -- ---- by lists of tracks alone
@@ -55,14 +56,14 @@ unlistedFrom legs n tracks m i = placeFrom i (unlisted (column trackWidth m trac
 module _ (legs : List ℕ) (n : ℕ) where
   tracks-length : length (legTracks n legs) ≡ n
   unfolding legTracks
-  tracks-length = length-tabulate n (λ i. getD legs (i * legWidth + trackPlace) 0)
+  tracks-length = tabulate-length n (λ i. legAt legs i .track)
 
-  track-at : (i : ℕ) → i < n → getD (legTracks n legs) i 0 ≡ getD legs (i * legWidth + trackPlace) 0
+  track-at : (i : ℕ) → i < n → getD (legTracks n legs) i 0 ≡ legAt legs i .track
   unfolding legTracks
-  track-at i h = getD-tabulate n (λ j. getD legs (j * legWidth + trackPlace) 0) i 0 h
+  track-at i h = tabulate-at n (λ j. legAt legs j .track) 0 i h
 
 -- a track stands in the table
-pub in-legs : {legs : List ℕ} {n i : ℕ} → Records legWidth n legs → i < n → i * legWidth + trackPlace < length legs
+pub in-legs : {legs : List ℕ} {n i : ℕ} → Records legWidth n legs → i < n → legWidth * i + trackPlace < length legs
 in-legs r h = omega (arith, r .whole)
 
 -- every track before row i is listed: what is left has the fault that all has
@@ -79,21 +80,21 @@ module _ {legs : List ℕ} {n : ℕ} {tracks : List ℕ} {m : ℕ} where
   fifteen r e rows ts held =
       ap faultAt e ∙ rw (held .of-rows, held .of-tracks) (first-unlisted 0 ts rows)
 
-  module _ {i track : ℕ} {f : Found} (l : Listed legs n tracks m i) (h : i < n) (e : track ≡ getD legs (i * legWidth + trackPlace) 0)
+  module _ {i track : ℕ} {f : Found} (l : Listed legs n tracks m i) (h : i < n) (e : track ≡ legAt legs i .track)
       (q : f ≡ placeOf track (column trackWidth m tracks)) where
-    found-by : f ≡ placeOf (getD legs (i * legWidth + trackPlace) 0) (column trackWidth m tracks)
+    found-by : f ≡ placeOf (legAt legs i .track) (column trackWidth m tracks)
     found-by = q ∙ ap (λ (x : ℕ). placeOf x (column trackWidth m tracks)) e
 
     pub listed-next : {row : ℕ} → f ≡ At row → Listed legs n tracks m (i + 1)
     listed-next {row} is =
-        let there = some-there (getD legs (i * legWidth + trackPlace) 0) (column trackWidth m tracks) f found-by row is in
+        let there = some-there (legAt legs i .track) (column trackWidth m tracks) f found-by row is in
         let on : unlistedFrom legs n tracks m i ≡ unlistedFrom legs n tracks m (i + 1) =
         simp add-one (rw (drop-cons (legTracks n legs) i 0 (rw (tracks-length legs n) h), track-at legs n i h, there)) in
         record { inside = omega arith; left = sym on ∙ l .left }
 
     pub listed-gone : f ≡ Nothing → Fifteen legs n tracks m (At i)
     listed-gone is =
-        let nowhere = none-there (getD legs (i * legWidth + trackPlace) 0) (column trackWidth m tracks) f found-by is in
+        let nowhere = none-there (legAt legs i .track) (column trackWidth m tracks) f found-by is in
         let here : unlistedFrom legs n tracks m i ≡ some i =
         rw (drop-cons (legTracks n legs) i 0 (rw (tracks-length legs n) h), track-at legs n i h, nowhere) in
         fifteen _ (ap foundOf (sym here ∙ l .left))

@@ -5,7 +5,7 @@ use mathlib.Core.Bool.{Bool, true, false, not, cond}
 use mathlib.Core.List.{List, [], _∷_, _++_}
 use mathlib.Core.Option.{Option, none, some}
 use lib.Dec.{eqb}
-use lib.ListN.{length, getD}
+use lib.ListN.{length}
 use Rattle.rules.specs.Limits.{profileWidth, configurationWidth, legWidth}
 use Rattle.rules.specs.Lists.{every, isSome, flat, over}
 use Rattle.rules.specs.Answers.{notThere, wrongSamples}
@@ -18,6 +18,7 @@ use Rattle.rules.specs.declared.sizes.Configuration.{Configuration}
 use Rattle.ids.specs.declared.Found.{Found}
 use Rattle.ids.specs.declared.Found.the-variants.{At, Nothing}
 use Rattle.ids.specs.Column.{column, placeOf}
+use Rattle.tables.specs.View.{legAt, profileAt}
 use Rattle.rows.specs.declared.lists.Seen.{Seen}
 use Rattle.rows.specs.declared.lists.Sight.{Sight}
 use Rattle.rows.specs.declared.lists.Sight.the-variants.{On, Gone}
@@ -28,7 +29,7 @@ use Rattle.rows.specs.declared.lists.Counted.the-variants.{Samples, Miss
 
 -- how many samples the profile with an id has
 abbrev pub countFound : List ℕ → Found → Option ℕ
-countFound profiles (At i) = some (getD profiles (i * profileWidth + 2) 0)
+countFound profiles (At i) = some (profileAt profiles i .count)
 countFound profiles Nothing = none
 
 abbrev pub countAt : List ℕ → (m id : ℕ) → Option ℕ
@@ -38,13 +39,9 @@ abbrev pub countedOf : Option ℕ → Counted
 countedOf none = Missing
 countedOf (some n) = Samples n
 
--- a list's entries in the table
-abbrev pub configurationAt : List ℕ → ℕ → Configuration
-configurationAt table j =
-    configuration (getD table (j * configurationWidth) 0) (getD table (j * configurationWidth + 1) 0) (getD table (j * configurationWidth + 2) 0)
-
-abbrev pub listAt : List ℕ → (first count : ℕ) → List Configuration
-listAt table first count = tabulate count (λ k. configurationAt table (first + k))
+-- a part of the configurations
+abbrev pub listAt : (ℕ → Configuration) → (first count : ℕ) → List Configuration
+listAt at first count = tabulate count (λ k. at (first + k))
 
 -- a list's fault, by how many samples each profile has
 abbrev pub lastsFor : ℕ → Option ℕ → Bool
@@ -78,20 +75,10 @@ Sees count seen travel profile r =
 
 -- ---- row by row
 
--- where a row's list starts, how many entries it has, and the list
-abbrev pub firstAt : List ℕ → ℕ → ℕ
-firstAt legs i = getD legs (i * legWidth + 5) 0
-
-abbrev pub manyAt : List ℕ → ℕ → ℕ
-manyAt legs i = getD legs (i * legWidth + 6) 0
-
-abbrev pub rowAt : List ℕ → List ℕ → ℕ → List Configuration
-rowAt legs configurations i = listAt configurations (firstAt legs i) (manyAt legs i)
-
 -- a row and its list stand in the tables
 pub record InTables (legs configurations : List ℕ) (i : ℕ) : Type 0 where
   pub leg-in : (i + 1) * legWidth ≤ length legs
-  pub list-in : (firstAt legs i + manyAt legs i) * configurationWidth ≤ length configurations
+  pub list-in : (legAt legs i .first + legAt legs i .count) * configurationWidth ≤ length configurations
 
 pub record Tables (legs : List ℕ) (n : ℕ) (configurations : List ℕ) : Type 0 where
   pub each-row : (i : ℕ) → i < n → InTables legs configurations i

@@ -1,12 +1,11 @@
 -- 15 over flat tables: the first row whose track is in no subnet.
-use Prim.Native.Nat.{ℕ, _+_, _*_}
+use Prim.Native.Nat.{ℕ}
 use mathlib.Core.Path.{_≡_}
 use mathlib.Core.Bool.{Bool, not}
 use mathlib.Core.List.{List, map}
 use mathlib.Core.Option.{Option, none, some}
 use lib.Dec.{eqb}
-use lib.ListN.{getD}
-use Rattle.rules.specs.Limits.{legWidth, trackWidth}
+use Rattle.rules.specs.Limits.{trackWidth}
 use Rattle.rules.specs.Lists.{any}
 use Rattle.rules.specs.Answers.{noSubnet}
 use Rattle.rules.specs.Rows.{RowFault, firstFault}
@@ -17,6 +16,7 @@ use Rattle.rules.specs.declared.sizes.Track.{Track}
 use Rattle.ids.specs.declared.Found.{Found}
 use Rattle.ids.specs.declared.Found.the-variants.{At, Nothing}
 use Rattle.ids.specs.Column.{column, trackIdsOf}
+use Rattle.tables.specs.View.{legAt}
 
 -- where a leg's track stands in its entry
 abbrev pub trackPlace : ℕ
@@ -24,7 +24,7 @@ trackPlace = 2
 
 -- the tracks of the first n legs
 unfoldable pub legTracks : (n : ℕ) → List ℕ → List ℕ
-legTracks n legs = tabulate n (λ i. getD legs (i * legWidth + trackPlace) 0)
+legTracks n legs = tabulate n (λ i. legAt legs i .track)
 
 abbrev pub unlisted : List ℕ → ℕ → Bool
 unlisted listed track = not (any (λ x. eqb x track) listed)

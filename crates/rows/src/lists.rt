@@ -6,16 +6,34 @@ use rules::sizes::Leg;
 use rules::sizes::Profile;
 ghost use mathlib.Core.Path.{_≡_};
 ghost use Prim.Native.Nat.{_+_, _*_, _≤_, _<_};
-ghost use lib.ListN.{length, getD};
+ghost use lib.ListN.{length};
 ghost use Rattle.rules.specs.Limits.{profileWidth, configurationWidth};
 ghost use Rattle.ids.specs.Column.{Records, Rising};
-ghost use Rattle.rows.specs.Counts.{countAt, countedOf, configurationAt, listAt, listFault, numberOf, Sees, rowAt, InTables, Tables, FirstFault};
+ghost use Rattle.tables.specs.View.{profileAt, configurationAt, listIn};
+ghost use Rattle.rows.specs.Counts.{countAt, countedOf, listAt, listFault, numberOf, Sees, InTables, Tables, FirstFault};
+
+// Entries are read where they are known to stand, and nothing is tested: `tables` reads them anywhere.
+// In a leg's entry: where its list starts.
+const FIRST: usize = 5;
+
+// And how long the list is.
+const COUNT: usize = 6;
+
+// In the entry of a configuration.
+const DEPARTURE: usize = 0;
+
+const TRAVEL: usize = 1;
+
+const PROFILE: usize = 2;
+
+// In a profile's entry: how many samples it has.
+const SAMPLES: usize = 2;
 
 fn count_at(profiles: &[u32], i: usize) -> u32
     requires { ⌜ (i + 1) * profileWidth ≤ length (now profiles) ⌝ }
-    ensures { λ r. ⌜ r ≡ getD (now (profiles .entry)) (i * profileWidth + 2) 0 ⌝ }
+    ensures { λ r. ⌜ r ≡ profileAt (now (profiles .entry)) i .count ⌝ }
 {
-    profiles[i * Profile::WIDTH + 2]
+    profiles[Profile::WIDTH * i + SAMPLES]
 }
 
 // How many samples a profile has, where it is there.
@@ -92,11 +110,11 @@ fn configuration_at(configurations: &[u32], j: usize) -> Configuration
     requires { ⌜ (j + 1) * configurationWidth ≤ length (now configurations) ⌝ }
     ensures { λ r. ⌜ r ≡ configurationAt (now (configurations .entry)) j ⌝ }
 {
-    let at = j * Configuration::WIDTH;
+    let at = Configuration::WIDTH * j;
     Configuration {
-        departure: configurations[at],
-        travel: configurations[at + 1],
-        profile: configurations[at + 2],
+        departure: configurations[at + DEPARTURE],
+        travel: configurations[at + TRAVEL],
+        profile: configurations[at + PROFILE],
     }
 }
 
@@ -111,7 +129,7 @@ fn list_fault(
     rising: usize,
 ) -> u8
     requires { ⌜ ((first + count) * configurationWidth ≤ length (now configurations)) × Rising profileWidth m rising (now profiles) ⌝ }
-    ensures { λ r. ⌜ r ≡ numberOf (listFault (countAt (now (profiles .entry)) m) (listAt (now (configurations .entry)) first count)) ⌝ }
+    ensures { λ r. ⌜ r ≡ numberOf (listFault (countAt (now (profiles .entry)) m) (listAt (configurationAt (now (configurations .entry))) first count)) ⌝ }
 {
     let mut seen = Seen {
         any: false,
@@ -144,11 +162,11 @@ fn leg_fault(
     rising: usize,
 ) -> u8
     requires { ⌜ InTables (now legs) (now configurations) i × Rising profileWidth m rising (now profiles) ⌝ }
-    ensures { λ r. ⌜ r ≡ numberOf (listFault (countAt (now (profiles .entry)) m) (rowAt (now (legs .entry)) (now (configurations .entry)) i)) ⌝ }
+    ensures { λ r. ⌜ r ≡ numberOf (listFault (countAt (now (profiles .entry)) m) (listIn (now (legs .entry)) (now (configurations .entry)) i)) ⌝ }
 {
-    let at = i * Leg::WIDTH;
-    let first = legs[at + 5] as usize;
-    let count = legs[at + 6] as usize;
+    let at = Leg::WIDTH * i;
+    let first = legs[at + FIRST] as usize;
+    let count = legs[at + COUNT] as usize;
     list_fault(configurations, first, count, profiles, m, rising)
 }
 

@@ -17,7 +17,7 @@ pub fn subnet_fault(legs: &[u32], n: usize, tracks: &[u32], m: usize) -> Found
     let rising = ids::rising_of(tracks, Track::WIDTH, m);
     let mut i = 0;
     while i < n {
-        let track = legs[i * Leg::WIDTH + TRACK];
+        let track = legs[Leg::WIDTH * i + TRACK];
         match ids::find(tracks, Track::WIDTH, m, rising, track) {
             Found::At(_) => {
                 i += 1;

@@ -1,13 +1,14 @@
 -- The rows of a merge, row by row. Assumes nothing.
-use Prim.Native.Nat.{ℕ, zero, suc, _+_}
+use Prim.Native.Nat.{ℕ, suc}
 use mathlib.Core.Path.{_≡_, ap, sym, _∙_}
-use mathlib.Core.List.{List, _++_, append-assoc, append-nil}
+use mathlib.Core.List.{List, [], _∷_, _++_, append-nil}
 use Rattle.rules.specs.Lists.{flat}
 use Rattle.rules.specs.Energy.{tabulate}
 use Rattle.rules.specs.Timetable.{Row}
 use Rattle.rules.specs.Merge.{zipped, spelledRow}
 use Rattle.rules.specs.declared.sizes.Configuration.{Configuration}
 use Rattle.rules.specs.declared.sizes.Leg.{Leg}
+use Rattle.rules.proofs.Lists.{tabulate-more, flat-append}
 use Rattle.laws.proofs.Tabulate.{tabulate-zipped}
 use Rattle.tables.specs.View.{legAt, configurationAt}
 use Rattle.writer.specs.Rows.{rowOf}
@@ -16,10 +17,8 @@ use Rattle.writer.specs.declared.merge.Direction.{Direction}
 
 -- one entry more
 flat-more : {A : Type 0} (f : A → List ℕ) (n : ℕ) (g : ℕ → A) → flat f (tabulate (suc n) g) ≡ flat f (tabulate n g) ++ f (g n)
-flat-more f zero g = append-nil (f (g 0))
-flat-more f (suc n) g =
-    ap (λ (r : List ℕ). f (g 0) ++ r) (flat-more f n (λ i. g (suc i)))
-    ∙ sym (append-assoc (f (g 0)) (flat f (tabulate n (λ i. g (suc i)))) (f (g (suc n))))
+flat-more f n g =
+    ap (flat f) (tabulate-more n g) ∙ flat-append f (tabulate n g) (g n ∷ []) ∙ ap (λ (r : List ℕ). flat f (tabulate n g) ++ r) (append-nil (f (g n)))
 
 module _ (d : Direction) (legs configurations first second : List ℕ) where
   -- row i of the merge

@@ -35,16 +35,25 @@ pub fn put_bytes(buffer: &mut [u8], at: usize, s: &[u8]) -> usize
     place
 }
 
-// A whole number: its digits, with no needless zero. The digits are laid from the back into the ten places that a `u32` can need.
+// Digits count in tens.
+const TEN: u32 = 10;
+
+// No `u32` has more of them.
+const DIGITS: usize = 10;
+
+// The place of the last.
+const LAST: usize = DIGITS - 1;
+
+// A whole number: its digits, with no needless zero. They are laid from the back.
 pub fn put_number(buffer: &mut [u8], at: usize, n: u32) -> usize
     ensures { λ r. ⌜ Written (now (buffer .entry)) at (spelled n) (now (buffer .exit)) r ⌝ }
 {
-    let mut digits = [0u8; 10];
-    let mut k = 9;
+    let mut digits = [0u8; DIGITS];
+    let mut k = LAST;
     let mut left = n;
-    while 10 <= left {
-        digits[k] = b'0' + (left % 10) as u8;
-        left /= 10;
+    while TEN <= left {
+        digits[k] = b'0' + (left % TEN) as u8;
+        left /= TEN;
         k -= 1;
     }
     digits[k] = b'0' + left as u8;

@@ -59,7 +59,7 @@ pub fn report<'a>(
         &choices,
     );
     if let Answer::Accepted = answer {
-        told::energies::tell(report.figures);
+        told::energies::tell(h, report.figures);
     }
     told::close(answer);
 }

@@ -3,6 +3,7 @@ ghost use Prim.Native.Nat.{_+_, _<_, _^_};
 use given::arguments;
 use given::arguments::Given;
 use given::files;
+use given::files::Loaded;
 use given::rooms::Room;
 use rules::answers::File;
 use shown::checks;
@@ -48,6 +49,26 @@ impl Words {
     pub const OF_TWO: usize = 8;
 }
 
+// The verdict on a solution, or its energies.
+fn show_solution<'a>(
+    asked: Asked,
+    h: u32,
+    timetable: &'a [u8],
+    profiles: &[u8],
+    constraints: &[u8],
+    solution: &'a [u8],
+) {
+    match asked {
+        Asked::Verdict => checks::judge(h, timetable, profiles, constraints, solution),
+        Asked::Energies => energies::report(h, timetable, profiles, constraints, solution),
+    }
+}
+
+// Whether the files that every group has were read whole.
+fn are_whole(t: Loaded, p: Loaded, c: Loaded, s: Loaded) -> bool {
+    files::is_whole(t) && files::is_whole(p) && files::is_whole(c) && files::is_whole(s)
+}
+
 // The group whose word is argument `at`.
 pub fn answer_solution(at: usize, asked: Asked)
     requires { ⌜ at + 6 < 2 ^ 64 ⌝ }
@@ -58,37 +79,22 @@ pub fn answer_solution(at: usize, asked: Asked)
     let mut solution = [0u8; Room::TEXT];
     let given = arguments::horizon(at + 1);
     let t = files::load(at + 2, File::TIMETABLE, &mut timetable);
+    let draft = &timetable[..t.length];
     let p = files::load(at + 3, File::PROFILES, &mut profiles);
+    let samples = &profiles[..p.length];
     let c = files::load(at + 4, File::CONSTRAINTS, &mut constraints);
+    let records = &constraints[..c.length];
     let s = files::load(at + 5, File::SOLUTION, &mut solution);
+    let chosen = &solution[..s.length];
     let Given::Seconds(h) = given else {
         say::no_answer(b"H is no whole number");
         return;
     };
-    if !files::is_whole(t) || !files::is_whole(p) || !files::is_whole(c) || !files::is_whole(s) {
+    if !are_whole(t, p, c, s) {
         say::answer(b"none");
         return;
     }
-    let tn = t.length;
-    let pn = p.length;
-    let cn = c.length;
-    let sn = s.length;
-    match asked {
-        Asked::Verdict => checks::judge(
-            h,
-            &timetable[..tn],
-            &profiles[..pn],
-            &constraints[..cn],
-            &solution[..sn],
-        ),
-        Asked::Energies => energies::report(
-            h,
-            &timetable[..tn],
-            &profiles[..pn],
-            &constraints[..cn],
-            &solution[..sn],
-        ),
-    }
+    show_solution(asked, h, draft, samples, records, chosen);
 }
 
 // The same for the group of a merge.
@@ -98,40 +104,27 @@ pub fn answer_two(at: usize, direction: Direction)
     let mut timetable = [0u8; Room::TEXT];
     let mut profiles = [0u8; Room::TEXT];
     let mut constraints = [0u8; Room::TEXT];
-    let mut first = [0u8; Room::TEXT];
-    let mut second = [0u8; Room::TEXT];
+    let mut solution = [0u8; Room::TEXT];
+    let mut second_solution = [0u8; Room::TEXT];
+    let out = at + 7;
     let given = arguments::horizon(at + 1);
     let t = files::load(at + 2, File::TIMETABLE, &mut timetable);
+    let draft = &timetable[..t.length];
     let p = files::load(at + 3, File::PROFILES, &mut profiles);
+    let samples = &profiles[..p.length];
     let c = files::load(at + 4, File::CONSTRAINTS, &mut constraints);
-    let a = files::load(at + 5, File::SOLUTION, &mut first);
-    let b = files::load(at + 6, File::SECOND_SOLUTION, &mut second);
+    let records = &constraints[..c.length];
+    let a = files::load(at + 5, File::SOLUTION, &mut solution);
+    let first = &solution[..a.length];
+    let b = files::load(at + 6, File::SECOND_SOLUTION, &mut second_solution);
+    let second = &second_solution[..b.length];
     let Given::Seconds(h) = given else {
         say::no_answer(b"H is no whole number");
         return;
     };
-    if !files::is_whole(t)
-        || !files::is_whole(p)
-        || !files::is_whole(c)
-        || !files::is_whole(a)
-        || !files::is_whole(b)
-    {
+    if !are_whole(t, p, c, a) || !files::is_whole(b) {
         say::answer(b"none");
         return;
     }
-    let tn = t.length;
-    let pn = p.length;
-    let cn = c.length;
-    let an = a.length;
-    let bn = b.length;
-    merges::merge(
-        direction,
-        h,
-        &timetable[..tn],
-        &profiles[..pn],
-        &constraints[..cn],
-        &first[..an],
-        &second[..bn],
-        at + 7,
-    );
+    merges::merge(direction, h, draft, samples, records, first, second, out);
 }

@@ -1,6 +1,7 @@
 // The energies of an accepted solution: the exact kilojoules, and beside them what people count in.
 use crate::say;
 use rules::figures::Figures;
+use rules::figures::Peak;
 
 fn energy(name: &[u8], kj: u64) {
     say::text(name);
@@ -10,13 +11,10 @@ fn energy(name: &[u8], kj: u64) {
     say::text(b" MWh\n");
 }
 
-// A quarter hour's energy, and its average power.
-fn peak(name: &[u8], kj: u64) {
+fn peak(name: &[u8], h: u32, p: Peak) {
     say::text(name);
-    say::number(kj);
-    say::text(b" kJ, ");
-    say::mw(kj);
-    say::text(b" MW\n");
+    say::peak(h, p);
+    say::text(b"\n");
 }
 
 fn above(x: i64) -> u64 {
@@ -30,12 +28,13 @@ fn fluctuation(kw: i64) {
     say::text(b" kW\n");
 }
 
-pub fn tell(g: Figures) {
+// H says whether there is a whole quarter.
+pub fn tell(h: u32, g: Figures) {
     let peaks = g.peaks;
     energy(b"before recuperation: ", g.before);
     energy(b"drawn: ", g.drawn);
     energy(b"lost: ", g.lost);
     fluctuation(g.fluctuation);
-    peak(b"peak quarter before recuperation: ", peaks.before);
-    peak(b"peak quarter drawn: ", peaks.drawn);
+    peak(b"peak quarter before recuperation: ", h, peaks.before);
+    peak(b"peak quarter drawn: ", h, peaks.drawn);
 }

@@ -1,5 +1,6 @@
 // Standard output: texts, and what crate `words` makes of numbers, times and names.
 use libc::STDOUT_FILENO;
+use rules::figures::Peak;
 
 // More bytes than any number, time or name has.
 const LINE: usize = 128;
@@ -33,9 +34,9 @@ pub fn mwh(kj: u64) {
     front(&line, end);
 }
 
-pub fn mw(kj: u64) {
+pub fn peak(h: u32, p: Peak) {
     let mut line = [0u8; LINE];
-    let end = words::energies::put_mw(&mut line, 0, kj);
+    let end = words::energies::put_peak(&mut line, 0, h, p);
     front(&line, end);
 }
 

@@ -1,7 +1,8 @@
 -- Times: seconds after midnight, and the same as a clock that goes on past 24 hours.
-use Prim.Native.Nat.{ℕ, _/_, _%_}
+use Prim.Native.Nat.{ℕ, _+_, _*_, _/_, _%_}
 use Prim.Native.Char.{code}
 use mathlib.Core.List.{List, _∷_, _++_}
+use Rattle.rules.specs.Limits.{quarterSeconds}
 use Rattle.rules.specs.Bytes.{bytes, spelled}
 use Rattle.words.specs.Numbers.{twoDigits}
 
@@ -20,3 +21,7 @@ clockOf s = twoDigits (s / hour) ++ colon ∷ twoDigits (s / minute % minute) ++
 
 unfoldable pub timeOf : (seconds : ℕ) → List ℕ
 timeOf s = spelled s ++ bytes " s (" ++ clockOf s ++ bytes ")"
+
+-- the first second of quarter k, and the first after it
+unfoldable pub quarterOf : (k : ℕ) → List ℕ
+quarterOf k = clockOf (quarterSeconds * k) ++ bytes " to " ++ clockOf (quarterSeconds * k + quarterSeconds)

@@ -1,9 +1,12 @@
 // Energies for people, with three decimals. They are rounded down: no more is shown than there is, and the exact kilojoules stand beside them.
 ghost use Prim.Native.Nat.{_<_, _≤_};
 ghost use Rattle.writer.specs.Written.{Written};
-ghost use Rattle.words.specs.Energies.{mostUnit, decimalsOf, mwhOf, mwOf};
+ghost use Rattle.words.specs.Energies.{mostUnit, decimalsOf, mwhOf, mwOf, peakText};
 use crate::numbers;
+use crate::times;
 use rules::figures::Figures;
+use rules::figures::Peak;
+use rules::sizes::Horizon;
 use writer::bytes;
 
 // `n` in units of `unit`.
@@ -25,8 +28,22 @@ pub fn put_mwh(buffer: &mut [u8], at: usize, kj: u64) -> usize
 }
 
 // The kilojoules of a quarter hour as its average megawatts.
-pub fn put_mw(buffer: &mut [u8], at: usize, kj: u64) -> usize
+fn put_mw(buffer: &mut [u8], at: usize, kj: u64) -> usize
     ensures { λ r. ⌜ Written (now (buffer .entry)) at (mwOf kj) (now (buffer .exit)) r ⌝ }
 {
     put_decimals(buffer, at, Figures::KJ_A_MW, kj)
+}
+
+// The peak quarter within H: its energy, its average power and its time.
+pub fn put_peak(buffer: &mut [u8], at: usize, h: u32, p: Peak) -> usize
+    ensures { λ r. ⌜ Written (now (buffer .entry)) at (peakText h p) (now (buffer .exit)) r ⌝ }
+{
+    let unit = numbers::put_whole(buffer, at, p.kj);
+    let power = bytes::put_bytes(buffer, unit, b" kJ, ");
+    if h < Horizon::QUARTER {
+        return bytes::put_bytes(buffer, power, b"no whole quarter hour within the horizon");
+    }
+    let mw = put_mw(buffer, power, p.kj);
+    let time = bytes::put_bytes(buffer, mw, b" MW, ");
+    times::put_quarter(buffer, time, p.quarter)
 }

@@ -1,7 +1,8 @@
 // Times: seconds after midnight, and the same as a clock that goes on past 24 hours.
 ghost use Rattle.writer.specs.Written.{Written};
-ghost use Rattle.words.specs.Times.{clockOf, timeOf};
+ghost use Rattle.words.specs.Times.{clockOf, timeOf, quarterOf};
 use crate::numbers;
+use rules::sizes::Horizon;
 use writer::bytes;
 
 const MINUTE: u64 = 60;
@@ -27,4 +28,14 @@ pub fn put_time(buffer: &mut [u8], at: usize, seconds: u64) -> usize
     let clock = bytes::put_bytes(buffer, unit, b" s (");
     let end = put_clock(buffer, clock, seconds);
     bytes::put_byte(buffer, end, b')')
+}
+
+// From when to when a quarter hour lasts, counted from 0: `07:15:00 to 07:30:00`.
+pub fn put_quarter(buffer: &mut [u8], at: usize, quarter: u32) -> usize
+    ensures { λ r. ⌜ Written (now (buffer .entry)) at (quarterOf quarter) (now (buffer .exit)) r ⌝ }
+{
+    let start = Horizon::QUARTER as u64 * quarter as u64;
+    let to = put_clock(buffer, at, start);
+    let end = bytes::put_bytes(buffer, to, b" to ");
+    put_clock(buffer, end, start + Horizon::QUARTER as u64)
 }

@@ -94,14 +94,15 @@ impl Drop for Folder {
 type Line = (&'static str, usize, fn(&Times) -> Ms, Option<fn(&Pandas) -> Ms>);
 
 fn print_stages(instance: &Instance, sides: &[Box<dyn Side>], times: &[Times], pandas: Option<&Pandas>) {
-    let lines: [Line; 8] = [
+    let lines: [Line; 9] = [
         ("timetable", instance.timetable.len(), Times::timetable, Some(|p| p.timetable)),
         ("profiles, 12 and 13", instance.profiles.len(), Times::profiles, Some(|p| p.profiles)),
         ("constraints, 15", instance.constraints.len(), Times::constraints, Some(|p| p.constraints)),
         ("the leg lookup of the constraints", 0, Times::lookup, None),
         ("solution, 14, verdict", instance.solution.len(), Times::solution, Some(|p| p.check - p.timetable - p.profiles - p.constraints)),
         ("curves and sums", 0, Times::curves, Some(|p| p.energy - p.check)),
-        ("check in all", instance.bytes(), |t| t.check, Some(|p| p.check)),
+        ("check but for the leg lookup", instance.bytes(), |t| t.check - t.lookup(), Some(|p| p.check)),
+        ("energy but for the leg lookup", instance.bytes(), |t| t.energy - t.lookup(), Some(|p| p.energy)),
         ("energy in all", instance.bytes(), |t| t.energy, Some(|p| p.energy)),
     ];
     let names: Vec<&str> = sides.iter().map(|side| side.name()).chain(pandas.map(|_| "pandas")).collect();
@@ -147,15 +148,20 @@ fn print_memory(folder: &Path, instance: &Instance, sides: &[Box<dyn Side>], pan
 }
 
 fn print_growth(sides: &mut [Box<dyn Side>], largest: usize, runs: usize) {
-    println!("\nGrowth: check in all, in ms (and in microseconds a leg).\n");
+    println!("\nGrowth: check but for the leg lookup, in ms (in microseconds a leg; in ms with the leg lookup).\n");
     println!("| legs | ids | MB | {} |", sides.iter().map(|side| side.name()).collect::<Vec<&str>>().join(" | "));
     println!("|{}", "-|".repeat(3 + sides.len()));
     for (ids, name) in [(Ids::InOrder, "in order"), (Ids::Shuffled, "shuffled")] {
         for legs in GROWTH.into_iter().chain([largest]) {
             let instance = Instance::underground(legs, ids);
-            let times = measure::checks(sides, &instance, runs);
-            let cells: Vec<String> = times.iter().map(|ms| format!("{ms:.2} ({:.2})", 1e3 * ms / legs as f64)).collect();
+            let times = measure::all(sides, &instance, runs);
+            let cells: Vec<String> = times.iter().map(|times| growth_cell(times, legs)).collect();
             println!("| {legs} | {name} | {:.1} | {} |", instance.bytes() as f64 / 1e6, cells.join(" | "));
         }
     }
+}
+
+fn growth_cell(times: &Times, legs: usize) -> String {
+    let rest = times.check - times.lookup();
+    format!("{rest:.2} ({:.2}; {:.2})", 1e3 * rest / legs as f64, times.check)
 }

@@ -69,19 +69,6 @@ pub fn all(sides: &mut [Box<dyn Side>], instance: &Instance, runs: usize) -> Vec
     times
 }
 
-/// The check in all, of every side.
-pub fn checks(sides: &mut [Box<dyn Side>], instance: &Instance, runs: usize) -> Vec<Ms> {
-    agree(sides, instance);
-    let texts = instance.texts();
-    let mut best = vec![f64::INFINITY; sides.len()];
-    for _ in 0..runs {
-        for (side, best) in sides.iter_mut().zip(&mut best) {
-            *best = best.min(timed(|| side.check(instance.h, &texts)));
-        }
-    }
-    best
-}
-
 fn once(side: &mut dyn Side, instance: &Instance, times: &mut Times) {
     let stages = [
         (Upto::Nothing, &mut times.nothing),

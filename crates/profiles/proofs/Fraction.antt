@@ -2,16 +2,17 @@
 use Prim.Native.Nat.{ℕ, suc, _+_, _*_, _-_, _/_, _≤_, _<_, min}
 use mathlib.Core.Path.{_≡_, refl, sym, _∙_}
 use mathlib.Core.Bool.{Bool, true, false, cond}
-use mathlib.Core.List.{List}
+use mathlib.Core.List.{List, [], _∷_}
 use mathlib.Core.Option.{Option, none}
 use native.Mathlib.Omega.{arith}
 use lib.Dec.{leb, eqb}
-use lib.ListN.{length}
+use lib.ListN.{length, length-append}
 use lib.IntN.{ℤ}
 use borrow.Author.Tests.{eq-eqb, ne-eqb, le-leb, lt-leb, lt-ltb, le-ltb}
 use Rattle.rules.specs.Limits.{mostText, profileWidth}
 use Rattle.rules.specs.Answers.{badRow}
 use Rattle.rules.specs.Bytes.{lineFeed, space, digitZero, digitNine}
+use Rattle.rules.specs.Made.{signed}
 use Rattle.profiles.specs.declared.number.Number.the-variants.{Empty}
 use Rattle.profiles.specs.declared.reader.Past.{Past}
 use Rattle.profiles.specs.declared.reader.Listed.{Listed}
@@ -19,7 +20,7 @@ use Rattle.profiles.specs.declared.reader.Tail.{Tail}
 use Rattle.profiles.specs.declared.reader.State.{State}
 use Rattle.profiles.specs.declared.reader.State.the-variants.{Whole as InWhole, Fraction, Stopped}
 use Rattle.profiles.specs.Near.{cap, empty-near}
-use Rattle.profiles.specs.Open.{fraction, fractionStep, Open, inList, openStep, openEnd, Reached, reach}
+use Rattle.profiles.specs.Open.{fraction, fractionStep, Open, inList, openStep, openEnd, Reached, reach, kwOf}
 use Rattle.profiles.specs.Holds.{Digits, Holds, in-whole, in-fraction, at-stop, Live, Steps, Free, Closes, Ending, Ends}
 use Rattle.profiles.proofs.Near.{digit, low, high}
 use Rattle.profiles.proofs.Steps.{reach-byte, reach-line, reach-stop, onward}
@@ -103,6 +104,7 @@ module _ {past : Past} {l : Listed} {t : Tail} {at : ℕ} {profiles : List ℕ} 
             lent = e ∙ g′ .long;
             closed = c;
             going = g′;
+            some-closed = omega (arith, g′ .counted, length-append done (signed (t .negative) (kwOf n count value) ∷ []));
           }
 
 module _ (past : Past) (l m : Listed) (t : Tail) (b : ℕ) (profiles : List ℕ) (samples samples′ : List ℤ) (some-digit : t .digits ≡ 0 → ⊥) (closes : Closes past l t samples m samples′) where

@@ -11,11 +11,15 @@ use lib.Dec.{leb, ltb, eqb}
 use lib.ListN.{length, set, length-append, length-map}
 use lib.Seq.{sets}
 use lib.IntN.{ℤ}
-use borrow.Author.Tests.{ne-eqb, ltb-true, leb-true}
-use Rattle.rules.specs.Limits.{mostProfiles, mostSampled, mostSamples, profileWidth}
+use borrow.Author.Tests.{ne-eqb, ltb-true, leb-true, le-ltb}
+use Rattle.rules.specs.Limits.{mostId, mostProfiles, leastSampled, mostSampled, mostSamples, profileWidth}
 use Rattle.rules.specs.Lists.{any, over}
 use Rattle.rules.specs.Answers.{Judged, wrong, right, outOfRange, tooMany, alreadySeen, noRoom}
 use Rattle.rules.specs.Profiles.{Curve, sampled, judgeForm, sampleTable, profileNumbers}
+use Rattle.rules.specs.Made.{profileMade}
+use Rattle.rules.specs.declared.sizes.Profile.{Profile}
+use Rattle.rules.specs.declared.sizes.ProfileMade.{ProfileMade}
+use Rattle.rules.specs.declared.sizes.ProfileMade.the-variants.{Within}
 use Rattle.lines.specs.Machine.{inRow}
 use Rattle.ids.specs.Column.{curveIdsOf}
 use Rattle.profiles.specs.declared.number.Number.the-variants.{Empty}
@@ -25,7 +29,7 @@ use Rattle.profiles.specs.declared.reader.Listed.{Listed}
 use Rattle.profiles.specs.declared.reader.State.the-variants.{Id, Stopped}
 use Rattle.profiles.specs.Near.{empty-near}
 use Rattle.profiles.specs.Open.{start, curve}
-use Rattle.profiles.specs.Holds.{profileTable, inRange, Climbs, Closed, Going, Holds, in-id, at-stop, Ending, Faults, Ends}
+use Rattle.profiles.specs.Holds.{profileTable, inRange, Climbs, Closed, Going, Holds, in-id, at-stop, Ending, enteredMade, Faults, Ends}
 use Rattle.profiles.proofs.Tables.{over-more, sampled-more, samples-more, table-more, table-length, entryOf}
 use Rattle.profiles.proofs.Faults.{same-length, told}
 
@@ -50,6 +54,7 @@ over-sets w t (v ∷ vs) h =
 record Kept (before : List Curve) (id : ℕ) (done : List ℤ) (profiles samples : ℕ) : Type 0 where
   range : inRange id done ≡ true
   profiles-few : length before < mostProfiles
+  sampled-few : length done ≤ mostSampled
   samples-few : sampled before + length done ≤ mostSamples
   profiles-room : length before < profiles
   samples-room : sampled before + length done ≤ samples
@@ -74,6 +79,7 @@ module _ (before : List Curve) (id : ℕ) (done : List ℤ) (profiles samples : 
       record {
         range = five .0;
         profiles-few = ltb-true (length before) mostProfiles (count .0);
+        sampled-few = leb-true (length done) mostSampled (both (leb (length done) mostSampled) _ (count .1) .0);
         samples-few = leb-true (sampled before + length done) mostSamples (both (leb (length done) mostSampled) _ (count .1) .1);
         profiles-room = ltb-true (length before) profiles (room .0);
         samples-room = leb-true (sampled before + length done) samples (room .1);
@@ -102,6 +108,21 @@ module _ {past : Past} {l : Listed} {profiles : List ℕ} {room fault : ℕ} (fa
   pub entry-fits : Ending past l profiles room → (past .profiles + 1) * profileWidth ≤ length profiles
   entry-fits e =
       omega (arith, behind e .profiles-room, e .closed .counted, same-length (e .closed), div-mul-le-self (length (e .profiles₀)) profileWidth)
+
+  -- so the constructor makes the entry
+  pub profile-made : Ending past l profiles room → profileMade (l .id) (past .samples) (l .count) ≡ Within (record { id = l .id; first = past .samples; count = l .count })
+  profile-made e =
+      let k = behind e in
+      let id-low : e .id ≤ mostId = leb-true (e .id) mostId (both (leb (e .id) mostId) _ (k .range) .0) in
+      rw (
+        le-ltb mostId (l .id) (omega (arith, id-low, e .going .same-id)),
+        le-ltb (l .count) leastSampled (e .some-closed),
+        le-ltb mostSampled (l .count) (omega (arith, k .sampled-few, e .going .counted)),
+      )
+
+  pub made-entered : Ending past l profiles room → (made : ProfileMade) (profiles′ : List ℕ) → made ≡ profileMade (l .id) (past .samples) (l .count)
+      → profiles′ ≡ enteredMade made (past .profiles) profiles → profiles′ ≡ sets profiles (past .profiles * profileWidth) (l .id ∷ past .samples ∷ l .count ∷ [])
+  made-entered e made profiles′ m q = q ∙ ap (λ x. enteredMade x (past .profiles) profiles) (m ∙ profile-made e)
 
   module _ (at : ℕ) (rise : Rise) (profiles′ : List ℕ) (climbs : Climbs past (l .id) rise)
       (entered : profiles′ ≡ sets profiles (past .profiles * profileWidth) (l .id ∷ past .samples ∷ l .count ∷ [])) where
@@ -155,9 +176,12 @@ module _ {past : Past} {l : Listed} {profiles : List ℕ} {room fault : ℕ} (fa
         in-id {past = nextPast} (omega arith) (closed-more lent c g) (samples-entered lent c g) empty-near in
         subst (λ (p : ℕ). Holds profiles₀ samples₀ (suc at) (Id nextPast Empty) profiles′ samples (inRow p (suc at) (before ++ curve id done ∷ []) start)) (add-one at) h)
 
+pub within-entered : (made : ProfileMade) (p : Profile) (n : ℕ) (t t′ : List ℕ) → made ≡ Within p → t′ ≡ sets t (n * profileWidth) (profileNumbers p) → t′ ≡ enteredMade made n t
+within-entered made p n t t′ m e = rw m e
+
 pub row-bad : {past : Past} {l : Listed} {profiles : List ℕ} {room fault : ℕ} → Faults past l profiles room fault → (fault ≡ 0 → ⊥)
     → (at : ℕ) → Ends at past l profiles room (Stopped fault (past .place)) profiles
 row-bad {fault = fault} faults z at profiles₀ samples₀ samples before id done lent c g =
     rw (faults profiles₀ samples₀ (suc at) samples before id done lent c g, ne-eqb fault 0 z) at-stop
 
-pub ruleset rows = (three-stores, profiles-fit, samples-fit, entry-fits, row-good, row-bad)
+pub ruleset rows = (three-stores, profiles-fit, samples-fit, entry-fits, made-entered, within-entered, row-good, row-bad)

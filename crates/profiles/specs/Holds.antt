@@ -1,17 +1,20 @@
 -- What the code's state and the lent tables say of a text that is read so far.
-use Prim.Native.Nat.{ℕ, suc, _+_, _/_, _≤_, _<_, min}
+use Prim.Native.Nat.{ℕ, suc, _+_, _*_, _/_, _≤_, _<_, min}
 use mathlib.Core.Path.{_≡_}
 use mathlib.Core.Bool.{Bool, false, not, cond, _&&_}
 use mathlib.Core.List.{List, [], _∷_, _++_}
 use mathlib.Core.Option.{some}
 use lib.Dec.{leb, eqb}
 use lib.ListN.{length, take, drop}
+use lib.Seq.{sets}
 use lib.IntN.{ℤ, natAbs}
 use Rattle.rules.specs.Limits.{mostId, mostKw, profileWidth}
 use Rattle.rules.specs.Lists.{every, flat, over}
 use Rattle.rules.specs.Answers.{Judged, wrong, right, profilesFile}
 use Rattle.rules.specs.Made.{signed}
 use Rattle.rules.specs.Profiles.{judgeForm, Curve, sampled, profilesFrom, profileNumbers, sampleTable, profilesHeader}
+use Rattle.rules.specs.declared.sizes.ProfileMade.{ProfileMade}
+use Rattle.rules.specs.declared.sizes.ProfileMade.the-variants.{Within, OutOfRange}
 use Rattle.lines.specs.Number.{Number as Whole}
 use Rattle.lines.specs.Fold.{fold}
 use Rattle.lines.specs.Machine.{inHeader, inRow, stopped, onLine}
@@ -134,6 +137,12 @@ pub record Ending (past : Past) (l : Listed) (profiles : List ℕ) (room : ℕ) 
   pub lent : room ≡ length samples₀
   pub closed : Closed profiles₀ samples₀ past profiles before
   pub going : Going profiles₀ samples₀ past l next samples before id done
+  pub some-closed : 1 ≤ l .count
+
+-- what the constructor made, at its place
+abbrev pub enteredMade : ProfileMade → (n : ℕ) → List ℕ → List ℕ
+enteredMade (Within p) n profiles = sets profiles (n * profileWidth) (profileNumbers p)
+enteredMade OutOfRange n profiles = profiles
 
 -- the first fault of a row that ends
 abbrev pub Faults : Past → Listed → List ℕ → (room : ℕ) → ℕ → Type 0

@@ -1,7 +1,8 @@
 -- The code's number is the machine's, told apart up to a cap that is above every limit.
-use Prim.Native.Nat.{ℕ, min}
+use Prim.Native.Nat.{ℕ, _+_, min}
 use mathlib.Core.Path.{_≡_}
 use mathlib.Core.Option.{Option, none, some}
+use Rattle.rules.specs.Limits.{mostId}
 use Rattle.lines.specs.Number.{Number as Whole, empty, zero, digits, numberStep, numberEnd}
 use Rattle.profiles.specs.declared.number.Number.{Number}
 use Rattle.profiles.specs.declared.number.Number.the-variants.{Empty, Zero, Digits}
@@ -11,7 +12,7 @@ use Rattle.profiles.specs.declared.number.Ended.{Ended}
 use Rattle.profiles.specs.declared.number.Ended.the-variants.{Value, Broken as Unfit}
 
 abbrev pub cap : ℕ
-cap = 1_000_000_000
+cap = mostId + 1
 
 pub data Near : Number → Whole → Type 0 where
   empty-near : Near Empty empty

@@ -1,7 +1,9 @@
 // A whole number byte by byte. Past every limit all numbers are one: the value stays at CAP.
 ghost use mathlib.Core.Path.{_≡_};
 ghost use Prim.Native.Nat.{_+_, _*_, _-_, _≤_, min};
+ghost use Rattle.rules.specs.Bytes.{digitZero, digitNine};
 ghost use Rattle.profiles.specs.Near.{cap, Pushes, Ends};
+use rules::sizes::Id;
 
 pub enum Number {
     Empty,
@@ -10,7 +12,7 @@ pub enum Number {
 }
 
 impl Number {
-    pub const CAP: u32 = 1_000_000_000;
+    pub const CAP: u32 = Id::MOST + 1;
 }
 
 // A digit more, or a needless leading zero.
@@ -27,8 +29,8 @@ pub enum Ended {
 
 // The value with one digit more.
 pub fn push(value: u32, b: u8) -> u32
-    requires { ⌜ (48 ≤ b) × (b ≤ 57) ⌝ }
-    ensures { λ r. ⌜ r ≡ min (value * 10 + (b - 48)) cap ⌝ }
+    requires { ⌜ (digitZero ≤ b) × (b ≤ digitNine) ⌝ }
+    ensures { λ r. ⌜ r ≡ min (value * 10 + (b - digitZero)) cap ⌝ }
 {
     let wide = (value as u64) * 10 + ((b - b'0') as u64);
     if (Number::CAP as u64) < wide {
@@ -39,7 +41,7 @@ pub fn push(value: u32, b: u8) -> u32
 }
 
 pub fn number_step(n: Number, b: u8) -> Pushed
-    requires { ⌜ (48 ≤ b) × (b ≤ 57) ⌝ }
+    requires { ⌜ (digitZero ≤ b) × (b ≤ digitNine) ⌝ }
     ensures { λ r. ⌜ Pushes n b r ⌝ }
 {
     match n {

@@ -9,6 +9,7 @@ use rules::answers::File;
 use rules::answers::Refusal;
 use rules::sizes::Id;
 use rules::sizes::Profile;
+use rules::sizes::ProfileMade;
 use rules::sizes::Sample;
 use rules::sizes::SampleMade;
 use rules::sizes::Text;
@@ -21,10 +22,10 @@ ghost use lib.Dec.{leb, ltb};
 ghost use lib.ListN.{length, getD, set};
 ghost use Rattle.rules.specs.Limits.{mostText, mostId, mostKw, mostProfiles, mostSampled, mostSamples, profileWidth};
 ghost use Rattle.rules.specs.Answers.{refusal, noRoom, profilesFile};
-ghost use Rattle.rules.specs.Bytes.{minus, point};
-ghost use Rattle.rules.specs.Profiles.{profilesHeader};
+ghost use Rattle.rules.specs.Bytes.{digitZero, digitNine, minus, point};
+ghost use Rattle.rules.specs.Profiles.{profilesHeader, profileNumbers};
 ghost use Rattle.profiles.specs.Open.{kwOf};
-ghost use Rattle.profiles.specs.Holds.{Live, Steps, Free, ClosesTo, Climbs, Ending, Faults, Ends, Feeds, countIn, ManyRead, Quickens};
+ghost use Rattle.profiles.specs.Holds.{Live, Steps, Free, ClosesTo, Climbs, Ending, enteredMade, Faults, Ends, Feeds, countIn, ManyRead, Quickens};
 ghost use Rattle.profiles.specs.Reads.{Starts, Finishes, Reads};
 
 // The rows that are closed: how many, how many samples they have, how many ids rise from the first on and the last of these;
@@ -93,7 +94,7 @@ fn header_step(at: u32, b: u8) -> State
 }
 
 fn id_digit(past: Past, n: Number, b: u8) -> State
-    requires { ⌜ (48 ≤ b) × (b ≤ 57) ⌝ }
+    requires { ⌜ (digitZero ≤ b) × (b ≤ digitNine) ⌝ }
     ensures { λ r. ⌜ ((at : ℕ) → Free at (State.Id past n) b r) ⌝ }
 {
     match number::number_step(n, b) {
@@ -140,7 +141,7 @@ fn list_of(id: u32) -> Listed
 }
 
 fn whole_digit(past: Past, l: Listed, negative: bool, n: Number, b: u8) -> State
-    requires { ⌜ (48 ≤ b) × (b ≤ 57) ⌝ }
+    requires { ⌜ (digitZero ≤ b) × (b ≤ digitNine) ⌝ }
     ensures { λ r. ⌜ ((at : ℕ) → Free at (State.Whole past l negative n) b r) ⌝ }
 {
     match number::number_step(n, b) {
@@ -333,14 +334,24 @@ fn row_fault(past: Past, l: Listed, profiles: &[u32], room: usize) -> u8
 }
 
 // The entry of a profile.
-fn enter(profiles: &mut [u32], n: u32, id: u32, first: u32, count: u32)
+fn enter(profiles: &mut [u32], n: u32, profile: Profile)
     requires { ⌜ (n + 1) * profileWidth ≤ length (now profiles) ⌝ }
-    ensures { λ _. ⌜ now (profiles .exit) ≡ sets (now (profiles .entry)) (n * profileWidth) (id ∷ first ∷ count ∷ []) ⌝ }
+    ensures { λ _. ⌜ now (profiles .exit) ≡ sets (now (profiles .entry)) (n * profileWidth) (profileNumbers profile) ⌝ }
 {
     let at = (n as usize) * Profile::WIDTH;
-    profiles[at] = id;
-    profiles[at + 1] = first;
-    profiles[at + 2] = count;
+    profiles[at] = profile.id;
+    profiles[at + 1] = profile.first;
+    profiles[at + 2] = profile.count;
+}
+
+// A profile out of its limits is not entered; a row that is right has none.
+fn enter_made(profiles: &mut [u32], n: u32, made: ProfileMade)
+    requires { ⌜ (n + 1) * profileWidth ≤ length (now profiles) ⌝ }
+    ensures { λ _. ⌜ now (profiles .exit) ≡ enteredMade made n (now (profiles .entry)) ⌝ }
+{
+    if let ProfileMade::Within(profile) = made {
+        enter(profiles, n, profile);
+    }
 }
 
 fn close_row(past: Past, l: Listed, at: u32, profiles: &mut [u32], room: usize) -> State
@@ -350,7 +361,8 @@ fn close_row(past: Past, l: Listed, at: u32, profiles: &mut [u32], room: usize) 
     let fault = row_fault(past, l, profiles, room);
     if fault == 0 {
         let rise = climb(past, l.id);
-        enter(profiles, past.profiles, l.id, past.samples, l.count);
+        let made = Profile::new(l.id, past.samples, l.count);
+        enter_made(profiles, past.profiles, made);
         let next = Past {
             place: at + 1,
             profiles: past.profiles + 1,
@@ -373,7 +385,7 @@ fn fraction_end(
     profiles: &mut [u32],
     samples: &mut [i32],
 ) -> State
-    requires { ⌜ Live at (State.Fraction past l t) (now profiles) (now samples) × ((at < mostText) × (b < 48)) ⌝ }
+    requires { ⌜ Live at (State.Fraction past l t) (now profiles) (now samples) × ((at < mostText) × (b < digitZero)) ⌝ }
     ensures { λ r. ⌜ Steps at (State.Fraction past l t) (now (profiles .entry)) (now (samples .entry)) b r (now (profiles .exit)) (now (samples .exit)) ⌝ }
 {
     if t.digits == 0 {
@@ -392,7 +404,7 @@ fn fraction_end(
 }
 
 fn fraction_digit(past: Past, l: Listed, t: Tail, b: u8) -> State
-    requires { ⌜ (48 ≤ b) × (b ≤ 57) ⌝ }
+    requires { ⌜ (digitZero ≤ b) × (b ≤ digitNine) ⌝ }
     ensures { λ r. ⌜ ((at : ℕ) → Free at (State.Fraction past l t) b r) ⌝ }
 {
     if 3 <= t.digits {

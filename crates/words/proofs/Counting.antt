@@ -1,21 +1,20 @@
 -- Counting off the tables: the entries end at the first fill number; the records of smaller kinds stand in front. Assumes nothing.
-use Prim.Native.Nat.{ℕ, zero, suc, _+_, _*_, _-_, _/_, _^_, _≤_, _<_}
+use Prim.Native.Nat.{ℕ, zero, suc, _+_, _-_, _/_, _^_, _≤_, _<_}
 use native.Mathlib.Omega.{arith}
 use native.Mathlib.Numerals.{add-one}
 use mathlib.Core.Path.{_≡_, refl, ap, sym, _∙_}
 use mathlib.Core.List.{List, [], _∷_, _++_}
-use native.Mathlib.Nat.{zero-mul, suc-mul, sub-zero, mul-div-cancel}
-use lib.ListN.{length, drop, replicate, length-append}
+use native.Mathlib.Nat.{sub-zero, mul-div-cancel}
+use lib.ListN.{length, drop, replicate}
 use lib.Dec.{ltb}
 use borrow.Author.Tests.{ne-eqb, lt-ltb, le-ltb}
 use Rattle.rules.specs.Limits.{constraintWidth, unsignedFill}
 use Rattle.rules.specs.Lists.{flat, over}
 use Rattle.rules.specs.declared.sizes.Constraint.{Constraint}
 use Rattle.rules.specs.declared.sizes.Profile.{Profile}
+use Rattle.rules.proofs.Lists.{lead-within, tabulate-length, flat-length}
 use Rattle.laws.specs.Demands.{Unfilled}
-use Rattle.laws.proofs.Tabulate.{tabulate-length}
 use Rattle.text.specs.Places.{isOther, upTo}
-use Rattle.text.proofs.Runs.{lead-le}
 use Rattle.tables.specs.View.{profileAt, constraintAt, constraintsIn}
 use Rattle.tables.proofs.Tabulated.{tabulate-from, tabulate-past}
 use Rattle.words.specs.Counts.{samplesIn, kindsBelow, recordAt}
@@ -38,14 +37,10 @@ unfolding over
 numbers-read w n h = rw (drop-same (length w) n unsignedFill) (up-to-fill w (n - length w) h)
 
 module _ {A : Type 0} (numbers : A → List ℕ) (width : ℕ) (wide : (x : A) → length (numbers x) ≡ width) where
-  flat-wide : (xs : List A) → length (flat numbers xs) ≡ length xs * width
-  flat-wide [] = sym (zero-mul width)
-  flat-wide (x ∷ xs) = length-append (numbers x) (flat numbers xs) ∙ rw (wide x, flat-wide xs, suc-mul (length xs) width) (omega arith)
-
   -- what `entries` answers is how many were read (`no-field-is-fill` gives the premise for each table)
   pub entries-read : (xs : List A) (n : ℕ) → 0 < width → Unfilled (flat numbers xs)
       → upTo unsignedFill (over (flat numbers xs) (replicate n unsignedFill)) / width ≡ length xs
-  entries-read xs n h u = rw (numbers-read (flat numbers xs) n u, flat-wide xs) (mul-div-cancel (length xs) h)
+  entries-read xs n h u = rw (numbers-read (flat numbers xs) n u, flat-length numbers width wide xs) (mul-div-cancel (length xs) h)
 
 -- ---- the records of smaller kinds
 
@@ -82,9 +77,9 @@ module _ (t : List ℕ) (kind position : ℕ) {m before : ℕ} (counted : m ≡ 
     (found : before ≡ length (kindsBelow kind (constraintsIn m t))) where
   pub place-fits : length t < 2 ^ 64 → position < 2 ^ 32 → before + position < 2 ^ 64
   place-fits h k =
-      let in-front = lead-le (λ c. ltb (c .kind) kind) (constraintsIn m t) in
+      let in-front = lead-within (λ c. ltb (c .kind) kind) (constraintsIn m t) in
       let all = tabulate-length m (constraintAt t) in
-      omega (arith, lead-le (isOther unsignedFill) t)
+      omega (arith, lead-within (isOther unsignedFill) t)
 
   pub record-found : {r : Constraint} → r ≡ constraintAt t (before + position) → r ≡ recordAt t kind position
   record-found e = e ∙ rw (found, counted)

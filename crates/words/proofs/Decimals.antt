@@ -7,11 +7,11 @@ use mathlib.Core.Bool.{Bool, true, false}
 use mathlib.Core.List.{List, [], _∷_, _++_}
 use mathlib.Core.Option.{some}
 use lib.Dec.{ltb}
-use borrow.Author.Tests.{ltb-true, ltb-false, lt-ltb, le-ltb, le-leb}
+use borrow.Author.Tests.{ltb-true, ltb-false, lt-ltb, le-leb}
 use Rattle.rules.specs.Bytes.{digitZero, digitNine, isDigit, point, splitOn, spelled, thousandthsOf, decimalOf}
 use Rattle.rules.proofs.Pieces.{Free, split-front, split-alone}
 use Rattle.rules.proofs.Numbers.{spelled-digit, spelled-free, whole-spelled}
-use Rattle.words.specs.Numbers.{twoDigits, threeDigits}
+use Rattle.words.specs.Numbers.{threeDigits}
 use Rattle.words.specs.Energies.{decimalsOf}
 use Rattle.words.proofs.Spellings.{last-digit}
 

@@ -10,7 +10,7 @@ use lib.Dec.{ltb}
 use borrow.Author.Tests.{ltb-true, ltb-false}
 use Rattle.rules.specs.Bytes.{splitOn}
 use Rattle.text.specs.Places.{isOther, upTo}
-use Rattle.text.proofs.Runs.{lead-le}
+use Rattle.rules.proofs.Lists.{lead-within}
 use Rattle.text.proofs.Laws.{split-more, split-last}
 
 -- line `left` from a place on is line k of the whole
@@ -41,7 +41,7 @@ module _ {sep : ℕ} {s : List ℕ} {k start left end : ℕ} (inv : Left sep s k
   rest = drop start s
 
   pub left-end : end ≤ length s
-  left-end = omega (arith, lead-le (isOther sep) rest, length-drop start s, inv .within)
+  left-end = omega (arith, lead-within (isOther sep) rest, length-drop start s, inv .within)
 
   -- past a separator one line fewer is left
   pub left-next : end < length s → 0 < left → Left sep s k (end + 1) (left - 1)

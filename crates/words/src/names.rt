@@ -1,6 +1,6 @@
 // Names, in document 01's words. Those of one sort stand in one text, a line each, and are found by their number.
 ghost use mathlib.Core.Path.{_≡_};
-ghost use Prim.Native.Nat.{_+_, _*_, _-_};
+ghost use Prim.Native.Nat.{_+_, _*_};
 ghost use lib.ListN.{getD};
 ghost use mathlib.Core.List.{[]};
 ghost use Rattle.rules.specs.Bytes.{splitOn, lineFeed};

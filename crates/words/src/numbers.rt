@@ -4,22 +4,27 @@ ghost use Rattle.writer.specs.Written.{Written};
 ghost use Rattle.words.specs.Numbers.{twoDigits, threeDigits};
 use writer::bytes;
 
+// Digits count in tens.
+const TEN: u64 = 10;
+
+const HUNDRED: u64 = TEN * TEN;
+
 // The digits, with no needless zero.
 pub fn put_whole(buffer: &mut [u8], at: usize, n: u64) -> usize
     ensures { λ r. ⌜ Written (now (buffer .entry)) at (spelled n) (now (buffer .exit)) r ⌝ }
 {
-    if n < 10 {
+    if n < TEN {
         return bytes::put_byte(buffer, at, b'0' + n as u8);
     }
-    let after = put_whole(buffer, at, n / 10);
-    bytes::put_byte(buffer, after, b'0' + (n % 10) as u8)
+    let after = put_whole(buffer, at, n / TEN);
+    bytes::put_byte(buffer, after, b'0' + (n % TEN) as u8)
 }
 
 // A zero in front of one digit.
 pub fn put_two(buffer: &mut [u8], at: usize, n: u64) -> usize
     ensures { λ r. ⌜ Written (now (buffer .entry)) at (twoDigits n) (now (buffer .exit)) r ⌝ }
 {
-    if n < 10 {
+    if n < TEN {
         let after = bytes::put_byte(buffer, at, b'0');
         return put_whole(buffer, after, n);
     }
@@ -29,7 +34,7 @@ pub fn put_two(buffer: &mut [u8], at: usize, n: u64) -> usize
 pub fn put_three(buffer: &mut [u8], at: usize, n: u64) -> usize
     ensures { λ r. ⌜ Written (now (buffer .entry)) at (threeDigits n) (now (buffer .exit)) r ⌝ }
 {
-    if n < 100 {
+    if n < HUNDRED {
         let after = bytes::put_byte(buffer, at, b'0');
         return put_two(buffer, after, n);
     }

@@ -12,18 +12,21 @@ row-fault-requires c κs = search needs
 climb-requires : tie.Need-climb-requires
 climb-requires c κs = search (rows, needs)
 
-enter-requires : tie.Need-enter-requires
-enter-requires c κs = search (rows, needs)
+new-requires : tie.Need-new-requires
+new-requires c κs = search needs
 
-add-t15 : tie.Need-add-t15
-add-t15 c = search needs
+enter-made-requires : tie.Need-enter-made-requires
+enter-made-requires c κs = search (rows, needs)
 
 add-t16 : tie.Need-add-t16
-add-t16 c = let few : c .before .before .before .before .before .before .before .before .before .before .args .past .profiles < mostProfiles = search (profiles-fit, needs) in search needs
+add-t16 c = search needs
 
 add-t17 : tie.Need-add-t17
-add-t17 c =
-    let start = c .before .before .before .before .before .before .before .before .before .before .before .before in
+add-t17 c = let few : c .before .before .before .before .before .before .before .before .before .before .before .args .past .profiles < mostProfiles = search (profiles-fit, needs) in search needs
+
+add-t18 : tie.Need-add-t18
+add-t18 c =
+    let start = c .before .before .before .before .before .before .before .before .before .before .before .before .before in
     let few : start .args .past .samples + start .args .l .count ≤ mostSamples = search (samples-fit, needs) in search needs
 
 same-length : tie.Need-same-length
@@ -44,10 +47,11 @@ close-row-spec =
     (tie.spec
     row-fault-requires
     climb-requires
-    enter-requires
-    add-t15
+    new-requires
+    enter-made-requires
     add-t16
     add-t17
+    add-t18
     same-length
     returns
     same-length-2

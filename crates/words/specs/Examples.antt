@@ -30,6 +30,6 @@ unfolding decimalsOf
 peaks = refl
 
 -- one second short of a quarter, and a whole one
-pub peak-texts : peakText 899 (record { kj = 0; quarter = 0 }) ∷ peakText 900 (record { kj = 2_050; quarter = 0 }) ∷ peakText 86_400 (record { kj = 1_234_567; quarter = 29 }) ∷ [] ≡ bytes "0 kJ, no whole quarter hour within the horizon" ∷ bytes "2050 kJ, 0.002 MW, 00:00:00 to 00:15:00" ∷ bytes "1234567 kJ, 1.371 MW, 07:15:00 to 07:30:00" ∷ []
+pub peak-texts : peakText 899 (record { kj = 0; quarter = 0 }) ∷ peakText 900 (record { kj = 2_050; quarter = 0 }) ∷ peakText 90_000 (record { kj = 1_234_567; quarter = 29 }) ∷ [] ≡ bytes "0 kJ, no whole quarter hour within the horizon" ∷ bytes "2050 kJ, 0.002 MW, 00:00:00 to 00:15:00" ∷ bytes "1234567 kJ, 1.371 MW, 07:15:00 to 07:30:00" ∷ []
 unfolding clockOf quarterOf decimalsOf peakText
 peak-texts = refl

@@ -5,13 +5,16 @@ use mathlib.Core.List.{List, [], _∷_, _++_, append-assoc, append-nil}
 use lib.ListN.{length, getD, take}
 use lib.Seq.{take-suc}
 use Rattle.rules.specs.Lists.{flat}
-use Rattle.rules.specs.Bytes.{bytes}
+use Rattle.rules.specs.Bytes.{bytes, spelled}
 use Rattle.rules.specs.declared.answers.Answer.{Answer}
 use Rattle.rules.specs.declared.answers.Answer.the-variants.{Accepted, Violated, Refused}
 use Rattle.rules.specs.declared.answers.Violation.{Violation}
 use Rattle.rules.specs.declared.answers.Refusal.{Refusal}
+use Rattle.io.specs.Digits.{digits}
 use Rattle.writer.specs.Written.{Written}
-use Rattle.cases.specs.Lines.{spaced, answered}
+use Rattle.cases.specs.Lines.{styled, spaced, answered}
+use Rattle.cases.specs.declared.lines.Style.{Style}
+use Rattle.cases.specs.declared.lines.Style.the-variants.{Plain, Pattern}
 
 flat-append : {A B : Type 0} (f : A → List B) (xs ys : List A) → flat f (xs ++ ys) ≡ flat f xs ++ flat f ys
 flat-append f [] ys = refl
@@ -21,6 +24,15 @@ flat-append f (x ∷ xs) ys = rw (flat-append f xs ys, append-assoc (f x) (flat 
 pub flat-more : {A B : Type 0} (f : A → List B) (xs : List A) (i : ℕ) (d : A) → i < length xs → flat f (take (suc i) xs) ≡ flat f (take i xs) ++ f (getD xs i d)
 flat-more f xs i d h =
     rw (take-suc xs i d h, flat-append f (take i xs) (getD xs i d ∷ []), append-nil (f (getD xs i d)))
+
+-- ---- a number in its style
+
+module _ {t : List ℕ} {at : ℕ} {t′ : List ℕ} {r : ℕ} (style : Style) (n : ℕ) where
+  pub plain-styled : style ≡ Plain → Written t at (spelled n) t′ r → Written t at (styled style n) t′ r
+  plain-styled e w = rw e w
+
+  pub pattern-styled : style ≡ Pattern → Written t at (digits 16 16 n) t′ r → Written t at (styled style n) t′ r
+  pattern-styled e w = rw e w
 
 -- ---- an answer's line
 

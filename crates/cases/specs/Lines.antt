@@ -6,14 +6,20 @@ use Rattle.rules.specs.Bytes.{bytes, space, lineFeed, spelled}
 use Rattle.rules.specs.declared.answers.Answer.{Answer}
 use Rattle.rules.specs.declared.answers.Answer.the-variants.{Accepted, Violated, Refused}
 use Rattle.io.specs.Digits.{digits}
+use Rattle.cases.specs.declared.lines.Style.{Style}
+use Rattle.cases.specs.declared.lines.Style.the-variants.{Plain, Pattern}
+
+-- plain, or as a pattern of 64 bits: sixteen hexadecimal digits
+abbrev pub styled : Style → ℕ → List ℕ
+styled Plain n = spelled n
+styled Pattern n = digits 16 16 n
 
 -- numbers, a space before each
-abbrev pub spaced : List ℕ → List ℕ
-spaced = flat (λ n. space ∷ spelled n)
+abbrev pub spacedIn : Style → List ℕ → List ℕ
+spacedIn style = flat (λ n. space ∷ styled style n)
 
--- patterns of 64 bits, a space before each: sixteen hexadecimal digits
-abbrev pub patterned : List ℕ → List ℕ
-patterned = flat (λ n. space ∷ digits 16 16 n)
+abbrev pub spaced : List ℕ → List ℕ
+spaced = spacedIn Plain
 
 abbrev pub answered : Answer → List ℕ
 answered Accepted = bytes "accepted"

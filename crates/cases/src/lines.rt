@@ -4,11 +4,18 @@ ghost use mathlib.Core.List.{_++_};
 ghost use Rattle.rules.specs.Bytes.{spelled};
 ghost use Rattle.io.specs.Digits.{digits as digitsIn};
 ghost use Rattle.writer.specs.Written.{Written};
-ghost use Rattle.cases.specs.Lines.{spaced, patterned, answered, endOf};
+ghost use Rattle.cases.specs.Lines.{styled, spacedIn, spaced, answered, endOf};
 use rules::answers::Answer;
 use writer::bytes;
 
-// A whole number: its digits, with no needless zero.
+// How a number is written.
+pub enum Style {
+    // Its digits, with no needless zero.
+    Plain,
+    // The sixteen hexadecimal digits of 64 bits.
+    Pattern,
+}
+
 fn put_number(buffer: &mut [u8], at: usize, n: u64) -> usize
     ensures { λ r. ⌜ Written (now (buffer .entry)) at (spelled n) (now (buffer .exit)) r ⌝ }
 {
@@ -17,7 +24,6 @@ fn put_number(buffer: &mut [u8], at: usize, n: u64) -> usize
     bytes::put_bytes(buffer, at, &digits[..k])
 }
 
-// Sixteen hexadecimal digits.
 fn put_pattern(buffer: &mut [u8], at: usize, n: u64) -> usize
     ensures { λ r. ⌜ Written (now (buffer .entry)) at (digitsIn 16 16 n) (now (buffer .exit)) r ⌝ }
 {
@@ -26,27 +32,24 @@ fn put_pattern(buffer: &mut [u8], at: usize, n: u64) -> usize
     bytes::put_bytes(buffer, at, &digits[..k])
 }
 
-pub fn put_numbers(buffer: &mut [u8], at: usize, ns: &[u64]) -> usize
-    ensures { λ r. ⌜ Written (now (buffer .entry)) at (spaced (now (ns .entry))) (now (buffer .exit)) r ⌝ }
+fn put_styled(buffer: &mut [u8], at: usize, style: Style, n: u64) -> usize
+    ensures { λ r. ⌜ Written (now (buffer .entry)) at (styled style n) (now (buffer .exit)) r ⌝ }
 {
-    let mut place = at;
-    let mut i = 0;
-    while i < ns.len() {
-        let space = bytes::put_byte(buffer, place, b' ');
-        place = put_number(buffer, space, ns[i]);
-        i += 1;
+    match style {
+        Style::Plain => put_number(buffer, at, n),
+        Style::Pattern => put_pattern(buffer, at, n),
     }
-    place
 }
 
-pub fn put_patterns(buffer: &mut [u8], at: usize, ns: &[u64]) -> usize
-    ensures { λ r. ⌜ Written (now (buffer .entry)) at (patterned (now (ns .entry))) (now (buffer .exit)) r ⌝ }
+// Numbers, a space before each.
+pub fn put_all(buffer: &mut [u8], at: usize, style: Style, ns: &[u64]) -> usize
+    ensures { λ r. ⌜ Written (now (buffer .entry)) at (spacedIn style (now (ns .entry))) (now (buffer .exit)) r ⌝ }
 {
     let mut place = at;
     let mut i = 0;
     while i < ns.len() {
         let space = bytes::put_byte(buffer, place, b' ');
-        place = put_pattern(buffer, space, ns[i]);
+        place = put_styled(buffer, space, style, ns[i]);
         i += 1;
     }
     place
@@ -56,7 +59,7 @@ pub fn put_named(buffer: &mut [u8], at: usize, name: &[u8], ns: &[u64]) -> usize
     ensures { λ r. ⌜ Written (now (buffer .entry)) at (now (name .entry) ++ spaced (now (ns .entry))) (now (buffer .exit)) r ⌝ }
 {
     let after = bytes::put_bytes(buffer, at, name);
-    put_numbers(buffer, after, ns)
+    put_all(buffer, after, Style::Plain, ns)
 }
 
 pub fn put_answer(buffer: &mut [u8], at: usize, answer: Answer) -> usize

@@ -2,7 +2,7 @@
 
 use crate::draw::SMALL_TEXT;
 use crate::examples::travelling;
-use crate::plan::{constraint_record, record, Plan, PlanLeg};
+use crate::plan::{constraint_record, record, Plan, PlanLeg, PlanProfile};
 use crate::Named;
 use independent::{Call, Entry};
 
@@ -20,6 +20,7 @@ pub fn edges() -> Vec<Named> {
     list.extend(counts());
     list.extend(lengths());
     list.extend(quarters());
+    list.extend(peaks());
     list.extend(rooms());
     list
 }
@@ -215,6 +216,41 @@ fn quarters() -> Vec<Named> {
         list.push(named(format!("H {h}, a leg at {departure}"), Entry::Energy, &plan));
     }
     list
+}
+
+/// Peaks in a quarter that is not the first, in the first of two that are equal, and in one quarter before recuperation and another drawn.
+fn peaks() -> Vec<Named> {
+    let equal = ["910_4_7", "1810_4_7"];
+    let mut list = vec![
+        running("the greatest in quarter 1", 1_800, &["10_3_8", "910_4_7"]),
+        running("the greatest in quarter 1, of four", 3_600, &["910_4_7", "2710_3_8"]),
+        running("quarters 0 and 1 equal", 1_800, &["10_4_7", "910_4_7"]),
+        running("quarters 1 and 2 equal", 2_700, &equal),
+        running("quarter 2 is cut and left out", 2_699, &equal),
+        running("quarters 1 and 2 equal, in the other order", 2_700, &["1810_4_7", "910_4_7"]),
+    ];
+    // Quarter 0 has more before recuperation, quarter 1 draws more.
+    list.push(running("two peaks in two quarters", 1_800, &["10_4_7", "13_3_8", "910_1_9"]));
+    list
+}
+
+/// Energies of the example without its dwell, its legs chosen so; a third leg is the second once more, and profile 9 has one sample.
+fn running(name: &str, h: u32, choices: &[&str]) -> Named {
+    let mut plan = Plan::example();
+    plan.h = h;
+    plan.lists[2].records.clear();
+    plan.profiles.push(PlanProfile { id: String::from("9"), samples: vec![String::from("1.9")] });
+    for rows in files(&mut plan) {
+        let mut third = rows[1].clone();
+        third.ids[0] = String::from("3");
+        rows.push(third);
+        rows.truncate(choices.len());
+        for (row, choice) in rows.iter_mut().zip(choices) {
+            row.nominal = choice.to_string();
+            row.list = vec![row.nominal.clone()];
+        }
+    }
+    named(name.to_string(), Entry::Energy, &plan)
 }
 
 /// Each room at the need, one number less, one more, and none.

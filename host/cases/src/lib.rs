@@ -171,6 +171,22 @@ mod tests {
     }
 
     #[test]
+    fn seeded_peaks_lie_in_later_quarters_and_some_quarters_are_equal() {
+        let (mut later, mut equal) = (0, 0);
+        for case in cases(15, 3_000).iter().filter(|case| (1_800..=2_700).contains(&case.h)) {
+            let report = case.energy();
+            let curves = report.curves.unwrap_or_default();
+            let drawn = |second: usize| -> i64 { curves.iter().skip(second).step_by(case.h as usize).map(|p| i64::from(*p).max(0)).sum() };
+            let quarter = |quarter: usize| -> i64 { (900 * quarter..900 * quarter + 900).map(drawn).sum() };
+            let sums: Vec<i64> = (0..case.h as usize / 900).map(quarter).collect();
+            later += usize::from(report.quarters[1] > 0);
+            equal += usize::from(report.figures.peak_drawn > 0 && sums.iter().filter(|sum| **sum == report.figures.peak_drawn).count() > 1);
+        }
+        assert!(later > 20, "{later}");
+        assert!(equal > 2, "{equal}");
+    }
+
+    #[test]
     fn merged_texts_are_accepted_and_their_curves_add_up() {
         let mut seen = 0;
         for mut case in cases(14, 1_000) {

@@ -78,6 +78,9 @@ pub const LIST_NAMES: [&str; 6] = [
 /// Room for curves is lent up to this H; past it 16 answers an energy.
 const LONGEST_CURVE: u32 = 9_000;
 
+/// The seconds of a quarter.
+const QUARTER: usize = 900;
+
 /// A configuration by its numbers.
 #[derive(Clone, Copy, Debug)]
 pub struct Numbers {
@@ -290,8 +293,10 @@ fn drawn_plan(random: &mut Random, scale: Scale) -> Plan {
     let most = scale.most_legs(random);
     let legs = if random.one_in(16) { 0 } else { random.between(1, most) };
     let mut base = drawn_start(random, h);
+    // Legs in several quarters, so that the greatest is not always the first, and that some are equal.
+    let most_leaps = if h >= 2 * QUARTER as u32 && random.one_in(2) { 1 } else { 0 };
     for id in drawn_ids(random, most).iter().take(legs) {
-        base += random.below(12);
+        base += random.below(12) + random.below(most_leaps + 1) * QUARTER;
         let offer = drawn_offer(random, base, h, &profiles);
         draft.push(PlanLeg {
             ids: [*id, random.between(1, 3), random.between(1, 3), random.below(4), random.below(4)].map(|number| number.to_string()),
@@ -333,8 +338,8 @@ fn drawn_ids(random: &mut Random, count: usize) -> Vec<usize> {
 fn drawn_start(random: &mut Random, h: u32) -> usize {
     let h = h as usize;
     match random.below(4) {
-        0 if h >= 900 => random.between(1, h / 900) * 900 - 15,
-        1 if h >= 900 => h - 30,
+        0 if h >= QUARTER => random.between(1, h / QUARTER) * QUARTER - 15,
+        1 if h >= QUARTER => h - 30,
         _ => 0,
     }
 }

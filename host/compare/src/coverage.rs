@@ -23,6 +23,27 @@ const SHOWN: [(Shown, &str); 5] = [
     (Shown::NoSuchFile, "file neither 1 nor 4"),
 ];
 
+/// Where the peaks of an accepted energy lie.
+#[derive(Clone, Copy, Debug, PartialEq, Eq, PartialOrd, Ord)]
+enum Peaked {
+    NoQuarter,
+    First,
+    Later,
+    Equal,
+    Apart,
+}
+
+const PEAKED: [(Peaked, &str); 5] = [
+    (Peaked::NoQuarter, "no whole quarter"),
+    (Peaked::First, "drawn in quarter 0"),
+    (Peaked::Later, "drawn in a later quarter"),
+    (Peaked::Equal, "drawn in several quarters"),
+    (Peaked::Apart, "two quarters"),
+];
+
+/// The seconds of a quarter.
+const QUARTER: usize = 900;
+
 /// The rooms in their order.
 pub const ROOMS: [&str; 10] =
     ["legs", "configurations", "profiles", "samples", "constraints", "tracks", "choices", "second choices", "curves", "text"];
@@ -41,6 +62,7 @@ pub struct Coverage {
     connections: BTreeMap<(u32, u32), usize>,
     rooms: [usize; 10],
     shown: BTreeMap<Shown, usize>,
+    peaks: BTreeMap<Peaked, usize>,
 }
 
 impl Coverage {
@@ -50,6 +72,9 @@ impl Coverage {
                 *self.answers.entry((call.entry, Target::of(answer))).or_default() += 1;
                 self.count_room(call, answer);
                 self.count_connection(&call.case, answer);
+                if let Said::Reported(Answer::Accepted, figures, _, quarters) = said {
+                    self.count_peaks(&call.case, figures.peak_drawn, *quarters);
+                }
             }
             (Said::Row(start, length), None) => {
                 let shown = match call.file {
@@ -96,6 +121,23 @@ impl Coverage {
         }
     }
 
+    fn count_peaks(&mut self, case: &Case, greatest: i64, [before, drawn]: [usize; 2]) {
+        let mut met = vec![match drawn {
+            _ if (case.h as usize) < QUARTER => Peaked::NoQuarter,
+            0 => Peaked::First,
+            _ => Peaked::Later,
+        }];
+        if greatest > 0 && drawn_quarters(case).iter().filter(|sum| **sum == greatest).count() > 1 {
+            met.push(Peaked::Equal);
+        }
+        if before != drawn {
+            met.push(Peaked::Apart);
+        }
+        for peaked in met {
+            *self.peaks.entry(peaked).or_default() += 1;
+        }
+    }
+
     pub fn add(&mut self, other: &Coverage) {
         for (cell, count) in &other.answers {
             *self.answers.entry(*cell).or_default() += count;
@@ -105,6 +147,9 @@ impl Coverage {
         }
         for (cell, count) in &other.shown {
             *self.shown.entry(*cell).or_default() += count;
+        }
+        for (cell, count) in &other.peaks {
+            *self.peaks.entry(*cell).or_default() += count;
         }
         for (room, count) in other.rooms.iter().enumerate() {
             self.rooms[room] += count;
@@ -137,6 +182,11 @@ impl Coverage {
                 empty.push(format!("row: {name}"));
             }
         }
+        for (peaked, name) in PEAKED {
+            if entries.contains(&Entry::Energy) && !self.peaks.contains_key(&peaked) {
+                empty.push(format!("peaks: {name}"));
+            }
+        }
         empty
     }
 
@@ -154,6 +204,9 @@ impl Coverage {
         }
         for (shown, name) in SHOWN {
             writeln!(out, "row, {name:24}{:>8}", self.shown.get(&shown).unwrap_or(&0))?;
+        }
+        for (peaked, name) in PEAKED {
+            writeln!(out, "peaks, {name:27}{:>8}", self.peaks.get(&peaked).unwrap_or(&0))?;
         }
         Ok(())
     }
@@ -194,6 +247,14 @@ impl Coverage {
         }
         Ok(())
     }
+}
+
+/// The sums of the quarters drawn, off the curves.
+fn drawn_quarters(case: &Case) -> Vec<i64> {
+    let curves = case.energy().curves.unwrap_or_default();
+    let h = case.h as usize;
+    let drawn = |second: usize| -> i64 { curves.iter().skip(second).step_by(h).map(|power| i64::from(*power).max(0)).sum() };
+    (0..h / QUARTER).map(|quarter| (QUARTER * quarter..QUARTER * (quarter + 1)).map(drawn).sum()).collect()
 }
 
 /// Whether an entry is lent the room.

@@ -52,7 +52,7 @@ mod tests {
     #[test]
     fn the_worked_examples() {
         assert_eq!(answer_of("nominal"), "accepted");
-        assert!(answer_of("nominal, its energies").starts_with("accepted 2050 2050 600 1400 0 0 "));
+        assert!(answer_of("nominal, its energies").starts_with("accepted 2050 2050 600 1400 0 0 0 0 "));
         assert_eq!(answer_of("departures 15, 40 with dwell 21"), "accepted");
         assert_eq!(answer_of("departures 15, 40 with dwell 22"), "violated 3 0 1 1 4");
         assert_eq!(answer_of("12 for leg 2, listed in the solution alone"), "violated 0 1 0 0 4");

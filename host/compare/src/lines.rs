@@ -23,18 +23,18 @@ pub fn line(said: &Said, row: &[u8], lent: &Lent) -> String {
 fn words(said: &Said, row: &[u8]) -> String {
     match said {
         Said::Checked(answer) => answer.line(),
-        Said::Reported(Answer::Accepted, figures, desk) => format!("accepted {}", reported(figures, desk)),
+        Said::Reported(Answer::Accepted, figures, desk, quarters) => format!("accepted {}", reported(figures, desk, quarters)),
         Said::Merged(Answer::Accepted, length) => format!("accepted {length}"),
         Said::Reported(answer, ..) | Said::Merged(answer, _) => answer.line(),
         Said::Row(_, length) => format!("row {length} {}", digest(row.iter().map(|byte| u32::from(*byte)))),
     }
 }
 
-/// The six figures, and the bits of the four doubles.
-fn reported(figures: &Figures, desk: &Desk) -> String {
+/// The six figures, the quarters of the two peaks, and the bits of the four doubles.
+fn reported(figures: &Figures, desk: &Desk, [of_before, of_drawn]: &[usize; 2]) -> String {
     let Figures { before, drawn, lost, fluctuation, peak_before, peak_drawn } = figures;
     let doubles = [desk.before, desk.drawn, desk.lost, desk.peak].map(|double| format!("{:016x}", double.to_bits()));
-    format!("{before} {drawn} {lost} {fluctuation} {peak_before} {peak_drawn} {}", doubles.join(" "))
+    format!("{before} {drawn} {lost} {fluctuation} {peak_before} {peak_drawn} {of_before} {of_drawn} {}", doubles.join(" "))
 }
 
 /// The digests of the ten rooms in their order.

@@ -123,8 +123,9 @@ fn answered(entry: Entry, case: &Case) -> (Vec<i64>, Lent) {
     let mut lent = Lent::full_of(9, &case.rooms);
     let said = match Call::of(entry, case.clone()).run(&mut lent) {
         Said::Checked(answer) | Said::Merged(answer, _) => answer.numbers(),
-        Said::Reported(answer, f, _) => {
-            [answer.numbers(), vec![f.before, f.drawn, f.lost, f.fluctuation, f.peak_before, f.peak_drawn]].concat()
+        Said::Reported(answer, f, _, quarters) => {
+            let figures = vec![f.before, f.drawn, f.lost, f.fluctuation, f.peak_before, f.peak_drawn];
+            [answer.numbers(), figures, quarters.map(|quarter| quarter as i64).to_vec()].concat()
         }
         Said::Row(..) => Vec::new(),
     };

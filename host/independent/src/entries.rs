@@ -70,7 +70,8 @@ pub struct Call {
 #[derive(Clone, Copy, Debug, PartialEq)]
 pub enum Said {
     Checked(Answer),
-    Reported(Answer, Figures, Desk),
+    /// The answer, the figures, and the quarters of the two peaks.
+    Reported(Answer, Figures, Desk, [usize; 2]),
     /// The answer and the length of the text, which is 0 where none is written.
     Merged(Answer, usize),
     /// Start and length of the row.
@@ -105,7 +106,7 @@ impl Call {
             Entry::Energy => {
                 let report = self.case.energy();
                 lent.leave_reported(&report);
-                Said::Reported(report.answer, report.figures, report.desk)
+                Said::Reported(report.answer, report.figures, report.desk, report.quarters)
             }
             Entry::MergeEarlier => self.run_merge(Direction::Earlier, lent),
             Entry::MergeLater => self.run_merge(Direction::Later, lent),

@@ -236,6 +236,29 @@ fn quarters_and_doubles() {
     texts.timetable = timetable(&["1,1,1,1,2,899_4_7,899_4_7\n"]);
     texts.solution = texts.timetable.clone();
     assert_eq!(texts.report().figures.peak_drawn, 1_250);
+    assert_eq!(texts.report().quarters, [1, 1]);
+}
+
+#[test]
+fn the_first_of_equal_quarters() {
+    let row = |id: u32, departure: u32| {
+        format!("{id},1,1,1,2,{departure}_4_7,{departure}_4_7\n")
+    };
+    let quarters = |h: u32, rows: &[String]| {
+        let rows: Vec<&str> = rows.iter().map(String::as_str).collect();
+        let mut texts = example()
+            .with_draft(&timetable(&rows))
+            .with_constraints(&lists(&[subnet_of_both()]));
+        texts.h = h;
+        let report = texts.report();
+        (report.figures.peak_drawn, report.quarters)
+    };
+    assert_eq!(quarters(2_700, &[row(1, 1_810), row(2, 910)]), (1_750, [1, 1]));
+    assert_eq!(quarters(2_700, &[row(1, 10), row(2, 910)]), (1_750, [0, 0]));
+    assert_eq!(quarters(1_800, &[row(1, 10), row(2, 910), row(3, 920)]), (3_500, [1, 1]));
+    // Quarter 1 is cut, and quarter 0 is empty.
+    assert_eq!(quarters(1_799, &[row(1, 910)]), (0, [0, 0]));
+    assert_eq!(quarters(899, &[row(1, 10)]), (0, [0, 0]));
 }
 
 #[test]

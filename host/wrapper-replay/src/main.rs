@@ -69,9 +69,10 @@ fn reported(checker: &mut Checker, case: &Case) -> Result<Said, Unknown> {
                 peak_drawn: f.peak_drawn_kj as i64,
             };
             let desk = Desk { before: f.before_mwh, drawn: f.drawn_mwh, lost: f.lost_mwh, peak: f.peak_drawn_mw };
-            (Said::Reported(Answer::Accepted, figures, desk), energies.curves.concat().len())
+            let quarters = [f.peak_before_quarter, f.peak_drawn_quarter].map(|quarter| quarter as usize);
+            (Said::Reported(Answer::Accepted, figures, desk, quarters), energies.curves.concat().len())
         }
-        other => return Ok(Said::Reported(other.map(|_| Answer::Accepted).into_said(), Figures::default(), Desk::default())),
+        other => return Ok(Said::Reported(other.map(|_| Answer::Accepted).into_said(), Figures::default(), Desk::default(), [0; 2])),
     };
     // Past the last curve the wrapper's own fill stands where a call's should.
     for power in &mut checker.room.curves[written..] {

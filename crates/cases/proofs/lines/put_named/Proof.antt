@@ -8,8 +8,8 @@ use Rattle.cases.proofs.lines.put_named.Tie as tie
 put-bytes-requires : tie.Need-put-bytes-requires
 put-bytes-requires c κs = search needs
 
-put-numbers-requires : tie.Need-put-numbers-requires
-put-numbers-requires c κs = search needs
+put-all-requires : tie.Need-put-all-requires
+put-all-requires c κs = search needs
 
 same-length : tie.Need-same-length
 same-length c = search needs
@@ -18,7 +18,7 @@ returns : tie.Need-returns
 returns c =
     let numbers = c .before .before in
     let name = numbers .before .before .before .before in
-    written-then (name .put-bytes .ensures) (numbers .put-numbers .ensures) (omega arith)
+    written-then (name .put-bytes .ensures) (numbers .put-all .ensures) (omega arith)
 
 pub put-named-spec : {M : Type 1} → statement M
-put-named-spec = tie.close (tie.spec put-bytes-requires put-numbers-requires same-length returns)
+put-named-spec = tie.close (tie.spec put-bytes-requires put-all-requires same-length returns)

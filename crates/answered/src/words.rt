@@ -1,0 +1,106 @@
+// What an entry answered, as the beginning of a line.
+use cases::block::Lent;
+use cases::digest;
+use cases::lines;
+use cases::lines::Style;
+use energy::desk;
+use lent::Others;
+use merging::Merged;
+use reports::Report;
+use rules::answers::Answer;
+use rules::figures::Desk;
+use rules::figures::Figures;
+
+// The place after it, and the digests of the rooms that only some entries take.
+pub struct Begun {
+    pub after: usize,
+    pub others: Others,
+}
+
+pub fn begin_checked(line: &mut [u8], answer: Answer, l: Lent) -> Begun {
+    Begun {
+        after: lines::put_answer(line, 0, answer),
+        others: Others {
+            second: lent::idle(l.second),
+            curves: lent::idle(l.curves),
+            text: lent::idle(l.text),
+        },
+    }
+}
+
+// A fluctuation is the greatest less the least, so none is below 0.
+fn from_zero(x: i64) -> u64 {
+    if 0 < x { x as u64 } else { 0 }
+}
+
+fn put_figures(line: &mut [u8], g: Figures, d: Desk) -> usize {
+    let peaks = g.peaks;
+    let before_peak = peaks.before;
+    let drawn_peak = peaks.drawn;
+    let figures = [
+        g.before,
+        g.drawn,
+        g.lost,
+        from_zero(g.fluctuation),
+        before_peak.kj,
+        drawn_peak.kj,
+        before_peak.quarter as u64,
+        drawn_peak.quarter as u64,
+    ];
+    let after = lines::put_named(line, 0, b"accepted", &figures);
+    let bits = desk::bits_of(d);
+    let patterns = [bits.before, bits.drawn, bits.lost, bits.peak];
+    lines::put_all(line, after, Style::Pattern, &patterns)
+}
+
+fn put_report(line: &mut [u8], report: Report) -> usize {
+    let answer = report.answer;
+    if let Answer::Accepted = answer {
+        let figures = report.figures;
+        let desk = report.desk;
+        return put_figures(line, figures, desk);
+    }
+    lines::put_answer(line, 0, answer)
+}
+
+pub fn begin_reported(line: &mut [u8], report: Report, l: Lent, curves: &[i32]) -> Begun {
+    Begun {
+        after: put_report(line, report),
+        others: Others {
+            second: lent::idle(l.second),
+            curves: digest::signed(curves) as u64,
+            text: lent::idle(l.text),
+        },
+    }
+}
+
+fn put_merged(line: &mut [u8], merged: Merged) -> usize {
+    let answer = merged.answer;
+    if let Answer::Accepted = answer {
+        let numbers = [merged.length as u64];
+        return lines::put_named(line, 0, b"accepted", &numbers);
+    }
+    lines::put_answer(line, 0, answer)
+}
+
+pub fn begin_merged(
+    line: &mut [u8],
+    merged: Merged,
+    l: Lent,
+    second: &[u32],
+    text: &[u8],
+) -> Begun {
+    Begun {
+        after: put_merged(line, merged),
+        others: Others {
+            second: digest::unsigned(second) as u64,
+            curves: lent::idle(l.curves),
+            text: digest::bytes(text) as u64,
+        },
+    }
+}
+
+pub fn put_row(line: &mut [u8], row: &[u8]) -> usize {
+    let numbers = [row.len() as u64, digest::bytes(row) as u64];
+    lines::put_named(line, 0, b"row", &numbers)
+}

@@ -1,13 +1,11 @@
 // What each entry answers, as the beginning of a line. The rooms that only some entries take are lent here.
 use asked::Entry;
 use asked::entries;
+use begun::Begun;
 use cases::block::Case;
 use cases::within::Room;
 use lent::Before;
 use rules::answers::File;
-use words::Begun;
-
-pub mod words; // the beginning of a line
 
 fn check(
     line: &mut [u8],
@@ -33,7 +31,7 @@ fn check(
         tracks,
         choices,
     );
-    words::begin_checked(line, answer, l)
+    begun::begin_checked(line, answer, l)
 }
 
 fn report(
@@ -62,7 +60,7 @@ fn report(
         choices,
         curves,
     );
-    words::begin_reported(line, report, l, curves)
+    begun::begin_reported(line, report, l, curves)
 }
 
 fn energy(
@@ -123,7 +121,7 @@ fn join(
         second,
         text,
     );
-    words::begin_merged(line, merged, l, second, text)
+    begun::begin_merged(line, merged, l, second, text)
 }
 
 fn merge(
@@ -250,5 +248,5 @@ fn file_of(number: u32) -> u8 {
 // A row takes no room.
 pub fn row(line: &mut [u8], case: Case, texts: &[u8]) -> usize {
     let part = entries::row(case, texts, file_of(case.file));
-    words::put_row(line, part)
+    begun::put_row(line, part)
 }

@@ -1,6 +1,7 @@
 // Files, read whole or not at all, and written.
 ghost use Rattle.io.specs.Counts.{Counts};
 use crate::rooms::Room;
+use input::End;
 use told::say;
 
 pub enum State {
@@ -26,31 +27,11 @@ pub fn is_whole(loaded: Loaded) -> bool {
     }
 }
 
-// Up to the file's end. A read that answers 0 has met the end; one that answers -1 has failed.
-fn read_all(fd: i32, room: &mut [u8]) -> Loaded
-    ensures { λ r. ⌜ Counts (r .length) (now (room .exit)) ⌝ }
-{
-    let mut done = 0;
-    while done < room.len() {
-        let got = libc::read(fd, &mut room[done..]);
-        if got < 0 {
-            return Loaded {
-                state: State::Unreadable,
-                length: 0,
-            };
-        }
-        let more = io::count(got, &room[done..]);
-        if more == 0 {
-            return Loaded {
-                state: State::Whole,
-                length: done,
-            };
-        }
-        done += more;
-    }
-    Loaded {
-        state: State::TooLong,
-        length: 0,
+fn state_of(end: End) -> State {
+    match end {
+        End::Ended => State::Whole,
+        End::Broken => State::Unreadable,
+        End::Full => State::TooLong,
     }
 }
 
@@ -64,9 +45,13 @@ fn read_named(path: &[u8], room: &mut [u8]) -> Loaded
             length: 0,
         };
     }
-    let loaded = read_all(fd, room);
+    let taken = input::read_all(fd, room);
     libc::close(fd);
-    loaded
+    let end = taken.end;
+    Loaded {
+        state: state_of(end),
+        length: taken.length,
+    }
 }
 
 fn too_long() {

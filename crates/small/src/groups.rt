@@ -8,7 +8,6 @@ use given::rooms::Room;
 use rules::answers::File;
 use shown::checks;
 use shown::energies;
-use shown::merges;
 use told::say;
 use writer::merge::Direction;
 
@@ -126,5 +125,5 @@ pub fn answer_two(at: usize, direction: Direction)
         say::answer(b"none");
         return;
     }
-    merges::merge(direction, h, draft, samples, records, first, second, out);
+    handed::merge(direction, h, draft, samples, records, first, second, out);
 }

@@ -1,9 +1,9 @@
--- `answered::words::from_zero` casts what is above zero alone. Assumes nothing.
+-- `begun::from_zero` casts what is above zero alone. Assumes nothing.
 use mir.Syntax.{w64}
 use Rattle.energy.proofs.CutAtZero.{casts-up}
 use borrow.Author.Needs.{needs}
-use Rattle.answered.proofs.words.from_zero.Statement.{statement}
-use Rattle.answered.proofs.words.from_zero.Tie as tie
+use Rattle.begun.proofs.from_zero.Statement.{statement}
+use Rattle.begun.proofs.from_zero.Tie as tie
 
 cast-result : tie.Need-cast-result
 cast-result c = casts-up w64 tt (c .before .args .x) (c .before .fits .x) (c .if1 .taken)

@@ -6,16 +6,16 @@ use mathlib.Core.Bool.{Bool, true, false, true≢false}
 use mathlib.Core.List.{List, [], _∷_, _++_, append-assoc}
 use mathlib.Core.Option.{none}
 use native.Mathlib.Omega.{arith}
-use lib.Dec.{T, leb, eqb}
+use lib.Dec.{T, eqb}
 use lib.ListN.{length, drop, length-append}
 use lib.Seq.{drop-append-seam}
-use borrow.Author.Tests.{ne-eqb, leb-true}
+use borrow.Author.Tests.{ne-eqb}
 use Rattle.rules.specs.Lists.{every, lead}
-use Rattle.rules.specs.Bytes.{isDigit, digitZero, digitNine, plain, spelled}
+use Rattle.rules.specs.Bytes.{isDigit, plain, spelled}
 use Rattle.rules.specs.Tokens.{Token, token, isWhite, quote, signOf, inRun, inString, runToken, tokenAt, tokensFrom}
 use Rattle.rules.specs.declared.tokens.Class.the-variants.{Quoted}
-use Rattle.rules.proofs.Truth.{is-true}
-use Rattle.rules.proofs.Numbers.{whole-spelled, digits-spelled, plain-spelled}
+use Rattle.rules.proofs.Truth.{is-true, holds}
+use Rattle.rules.proofs.Numbers.{digit-range, whole-spelled, digits-spelled, plain-spelled}
 use Rattle.rules.proofs.TokenLaws.{white-next, token-next, quoted-token, run-token}
 use Rattle.laws.proofs.DocumentWords.{and-first, and-second}
 use Rattle.documents.specs.Written.{Piece, openBrace, closeBrace, openBracket, closeBracket, colon, comma, string, whole, bytesOf, Laid, done, white, next}
@@ -95,20 +95,17 @@ string-tokens place w s clean =
     (omega (arith, length-append w (quote ∷ [])))
 
 -- a digit is in a run, and nothing else
-digit-range : (b : ℕ) → isDigit b ≡ true → (digitZero ≤ b) × (b ≤ digitNine)
-digit-range b h = (leb-true digitZero b (and-first (leb digitZero b) _ h), leb-true b digitNine (and-second (leb digitZero b) _ h))
-
 digit-black : (b : ℕ) → isDigit b ≡ true → isWhite b ≡ false
 digit-black b h =
-    let range = digit-range b h in
+    let range = digit-range b (holds (isDigit b) h) in
     rw (ne-eqb b (code " ") (omega arith), ne-eqb b (code "\t") (omega arith), ne-eqb b (code "\n") (omega arith), ne-eqb b (code "\r") (omega arith))
 
 digit-unquoted : (b : ℕ) → isDigit b ≡ true → eqb b quote ≡ false
-digit-unquoted b h = let range = digit-range b h in ne-eqb b quote (omega arith)
+digit-unquoted b h = let range = digit-range b (holds (isDigit b) h) in ne-eqb b quote (omega arith)
 
 digit-unsigned : (b : ℕ) → isDigit b ≡ true → signOf b ≡ none
 digit-unsigned b h =
-    let range = digit-range b h in
+    let range = digit-range b (holds (isDigit b) h) in
     rw (
       ne-eqb b (code "{") (omega arith),
       ne-eqb b (code "}") (omega arith),

@@ -10,7 +10,13 @@ use borrow.Author.Tests.{eqb-true}
 use Rattle.rules.specs.Lists.{_>>=_, every}
 use Rattle.rules.specs.Bytes.{isDigit, digitZero, valueFrom, wholeOf}
 use Rattle.lines.specs.Fold.{run}
-use Rattle.lines.specs.Number.{empty, zero, digits, numberStep, numberEnd}
+use Rattle.lines.specs.Number.{Number, empty, zero, digits, numberStep, numberEnd}
+
+-- a number takes digits alone
+pub no-step : (m : Number) (b : ℕ) → isDigit b ≡ false → numberStep m b ≡ none
+no-step empty b d = rw d
+no-step zero b d = refl
+no-step (digits n) b d = rw d
 
 -- digits after a first digit that is not zero
 digits-after : (n : ℕ) (s : List ℕ) → run numberStep (digits n) s >>= numberEnd ≡ cond (every isDigit s) (some (valueFrom n s)) none

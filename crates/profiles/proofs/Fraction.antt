@@ -22,7 +22,7 @@ use Rattle.profiles.specs.declared.reader.State.the-variants.{Whole as I
 use Rattle.profiles.specs.Near.{cap, empty-near}
 use Rattle.profiles.specs.Open.{fraction, fractionStep, Open, inList, openStep, openEnd, Reached, reach, kwOf}
 use Rattle.profiles.specs.Holds.{Digits, Holds, in-whole, in-fraction, at-stop, Live, Steps, Free, Closes, Ending, Ends}
-use Rattle.profiles.proofs.Near.{digit, low, high}
+use Rattle.rules.proofs.Numbers.{digit-in, digit-below, digit-above}
 use Rattle.profiles.proofs.Steps.{reach-byte, reach-line, reach-stop, onward}
 
 module _ (past : Past) (l : Listed) (t : Tail) (b : ℕ) where
@@ -38,15 +38,15 @@ module _ (past : Past) (l : Listed) (t : Tail) (b : ℕ) where
         (rw (ne-eqb b space off-space, e n count value d) at-stop)
 
     pub fraction-other : b < digitZero → (at : ℕ) → Free at inside b (Stopped badRow (past .place))
-    fraction-other h = fraction-stop (λ n count value d. rw (low b h))
+    fraction-other h = fraction-stop (λ n count value d. rw (digit-below b h))
 
   pub fraction-high : digitNine < b → (at : ℕ) → Free at inside b (Stopped badRow (past .place))
-  fraction-high h = fraction-stop (λ q. omega arith) (λ q. omega arith) (λ n count value d. rw (high b h))
+  fraction-high h = fraction-stop (λ q. omega arith) (λ q. omega arith) (λ n count value d. rw (digit-above b h))
 
   pub fraction-full : digitZero ≤ b → b ≤ digitNine → 3 ≤ t .digits → (at : ℕ) → Free at inside b (Stopped badRow (past .place))
   fraction-full x y h =
       fraction-stop (λ q. omega arith) (λ q. omega arith)
-      (λ n count value d. rw (digit b x y, le-ltb count 3 (omega (arith, d .counted))))
+      (λ n count value d. rw (digit-in b x y, le-ltb count 3 (omega (arith, d .counted))))
 
   -- no digit stands before it
   pub fraction-empty : t .digits ≡ 0 → b < digitZero → (at : ℕ) → Free at inside b (Stopped badRow (past .place))
@@ -54,7 +54,7 @@ module _ (past : Past) (l : Listed) (t : Tail) (b : ℕ) where
   fraction-empty z h at profiles samples profiles₀ samples₀ reached (in-fraction {before = before} {id = id} {done = done} {n = n} {count = count} {value = value} c g d) =
       let q : count ≡ 0 = sym (d .counted) ∙ z in
       let e : leb 1 count ≡ false = lt-leb 1 count (omega arith) in
-      let f : openStep (inList id done (fraction (t .negative) n count value)) b ≡ none = rw (e, low b h) (go (eqb b space)) in
+      let f : openStep (inList id done (fraction (t .negative) n count value)) b ≡ none = rw (e, digit-below b h) (go (eqb b space)) in
       rw (reach-stop (length profiles₀ / profileWidth) (length samples₀) (past .place) at before (inList id done (fraction (t .negative) n count value)) b f (rw e)) at-stop
     where
       go : (y : Bool) → _≡_ {A = Option Open} (cond y none none) none
@@ -75,7 +75,7 @@ module _ (past : Past) (l : Listed) (t : Tail) (b : ℕ) where
         three = omega (arith, d .counted);
       } in
       rw (reach-byte (length profiles₀ / profileWidth) (length samples₀) (past .place) at before (inList id done (fraction (t .negative) n count value)) b (λ q. omega arith))
-      (rw (ne-eqb b space (λ q. omega arith), digit b x y, lt-ltb count 3 (omega (arith, d .counted)))
+      (rw (ne-eqb b space (λ q. omega arith), digit-in b x y, lt-ltb count 3 (omega (arith, d .counted)))
       (in-fraction {past = past} {l = l} {t = tail} c (onward g) more))
 
 -- ---- the sample is closed

@@ -1,11 +1,10 @@
 -- The code's number stays near the machine's. Assumes nothing.
 use Prim.Native.Nat.{ℕ, _+_, _*_, _-_, _≤_, _<_, min}
 use mathlib.Core.Path.{_≡_, refl}
-use mathlib.Core.Bool.{Bool, true, false, _&&_}
 use native.Mathlib.Omega.{arith}
-use lib.Dec.{leb}
-use borrow.Author.Tests.{le-leb, lt-leb, eq-eqb, ne-eqb}
-use Rattle.rules.specs.Bytes.{isDigit, digitZero, digitNine}
+use borrow.Author.Tests.{eq-eqb, ne-eqb}
+use Rattle.rules.specs.Bytes.{digitZero, digitNine}
+use Rattle.rules.proofs.Numbers.{digit-in}
 use Rattle.lines.specs.Number.{empty, zero, digits}
 use Rattle.profiles.specs.declared.number.Number.{Number}
 use Rattle.profiles.specs.declared.number.Number.the-variants.{Empty, Zero, Digits}
@@ -13,34 +12,21 @@ use Rattle.profiles.specs.declared.number.Pushed.the-variants.{To, Broke
 use Rattle.profiles.specs.declared.number.Ended.the-variants.{Value, Broken as Unfit}
 use Rattle.profiles.specs.Near.{cap, empty-near, zero-near, digits-near, next-near, next-broken, Pushes, end-near, end-broken, Ends}
 
-pub digit : (b : ℕ) → digitZero ≤ b → b ≤ digitNine → isDigit b ≡ true
-digit b l h = rw (le-leb digitZero b l, le-leb b digitNine h)
-
-pub low : (b : ℕ) → b < digitZero → isDigit b ≡ false
-low b h = rw (lt-leb digitZero b h)
-
-pub high : (b : ℕ) → digitNine < b → isDigit b ≡ false
-high b h = rw (lt-leb b digitNine h) (go (leb digitZero b))
-  where
-    go : (t : Bool) → t && false ≡ false
-    go true = refl
-    go false = refl
-
 -- ---- one digit more
 
 module _ (b : ℕ) (l : digitZero ≤ b) (h : b ≤ digitNine) where
   first-zero : b ≡ digitZero → Pushes Empty b (To Zero)
-  first-zero z empty empty-near = rw (digit b l h, eq-eqb b digitZero z) (next-near zero-near)
+  first-zero z empty empty-near = rw (digit-in b l h, eq-eqb b digitZero z) (next-near zero-near)
 
   first-digit : (b ≡ digitZero → ⊥) → Pushes Empty b (To (Digits (b - digitZero)))
-  first-digit z empty empty-near = let q : b - digitZero ≡ min (b - digitZero) cap = omega arith in rw (digit b l h, ne-eqb b digitZero z) (next-near (digits-near q))
+  first-digit z empty empty-near = let q : b - digitZero ≡ min (b - digitZero) cap = omega arith in rw (digit-in b l h, ne-eqb b digitZero z) (next-near (digits-near q))
 
   needless : Pushes Zero b Broken
   needless zero zero-near = next-broken
 
   next-digit : (v w : ℕ) → w ≡ min (v * 10 + (b - digitZero)) cap → Pushes (Digits v) b (To (Digits w))
   next-digit v w e (digits n) (digits-near q) =
-      let k : w ≡ min (n * 10 + (b - digitZero)) cap = omega arith in rw (digit b l h) (next-near (digits-near k))
+      let k : w ≡ min (n * 10 + (b - digitZero)) cap = omega arith in rw (digit-in b l h) (next-near (digits-near k))
 
 -- ---- the end
 

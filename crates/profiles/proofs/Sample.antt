@@ -15,7 +15,7 @@ use Rattle.rules.specs.Bytes.{isDigit, digitZero, minus, point, splitOn, onto, 
 use Rattle.rules.specs.Made.{signed}
 use Rattle.lines.specs.Fold.{run}
 use Rattle.lines.specs.Number.{Number, empty, zero, digits, numberStep, numberEnd}
-use Rattle.lines.proofs.Number.{number-is-whole}
+use Rattle.lines.proofs.Number.{no-step, number-is-whole}
 use Rattle.profiles.specs.Open.{Sample, whole, fraction, fresh, negated, wholeStep, sampleStep, sampleEnd, kwOf}
 use Rattle.profiles.proofs.Pieces.{Has, here, later, Pieces, alone, several, pieces-of, then-none}
 
@@ -104,11 +104,6 @@ decimal-onto : (negative : Bool) (m : Number) (b : ℕ) {s : List ℕ} {ps : Lis
 decimal-onto negative m b {s} alone = decimal-cons negative m b s []
 decimal-onto negative m b (several {p} {q} {ps} h) = decimal-cons negative m b p (q ∷ ps)
 
-pub no-digit : (m : Number) (b : ℕ) → isDigit b ≡ false → numberStep m b ≡ none
-no-digit empty b e = rw e
-no-digit zero b e = refl
-no-digit (digits n) b e = rw e
-
 -- a number that has a digit takes no minus
 begun : (negative : Bool) (m : Number) (b : ℕ) (next : Number) → numberStep m b ≡ some next → negated negative next ≡ none
 begun true m b next e = refl
@@ -161,7 +156,7 @@ module _ (negative : Bool) (m : Number) (b : ℕ) (s : List ℕ) (h : Signless n
 
   -- any other byte breaks the form
   at-other : isDigit b ≡ false → none ≡ decimalFrom negative m (onto b (splitOn point s))
-  at-other d = rw (no-digit m b d) at (decimal-onto negative m b (pieces-of point s))
+  at-other d = rw (no-step m b d) at (decimal-onto negative m b (pieces-of point s))
 
   stepped : after (wholeStep negative m b) ≡ decimalFrom negative m (splitOn point (b ∷ s))
   stepped = go (isDigit b) (eqb b point) (eqb b minus) refl refl refl

@@ -31,8 +31,8 @@ use Rattle.profiles.specs.declared.reader.State.the-variants.{Header, Id
 use Rattle.profiles.specs.Near.{cap, Near, empty-near, zero-near, digits-near, NearNext, next-near, next-broken, Pushes, NearEnd, end-near, end-broken, Ends as NumberEnds}
 use Rattle.profiles.specs.Open.{Sample, whole, fraction, negated, wholeStep, Open, inId, inList, start, openStep, openEnd, Reached, reach}
 use Rattle.profiles.specs.Holds.{Closed, Going, Holds, in-header, in-id, in-whole, in-fraction, at-stop, Free}
-use Rattle.profiles.proofs.Near.{digit, low, high}
-use Rattle.profiles.proofs.Sample.{no-digit}
+use Rattle.rules.proofs.Numbers.{digit-in, digit-below, digit-above}
+use Rattle.lines.proofs.Number.{no-step}
 use Rattle.profiles.proofs.Tables.{over-length, samples-length}
 
 -- ---- what a byte does to the reading
@@ -138,11 +138,11 @@ module _ (past : Past) (n : Number) (b : ℕ) where
   -- a byte that is neither a digit nor a comma
   pub id-low : (b ≡ comma → ⊥) → b < digitZero → (at : ℕ) → Free at (Id past n) b (Stopped badRow (past .place))
   unfolding openStep
-  id-low z h = id-stop (λ m k. rw (ne-eqb b comma z, no-digit m b (low b h)))
+  id-low z h = id-stop (λ m k. rw (ne-eqb b comma z, no-step m b (digit-below b h)))
 
   pub id-high : (b ≡ comma → ⊥) → digitNine < b → (at : ℕ) → Free at (Id past n) b (Stopped badRow (past .place))
   unfolding openStep
-  id-high z h = id-stop (λ m k. rw (ne-eqb b comma z, no-digit m b (high b h)))
+  id-high z h = id-stop (λ m k. rw (ne-eqb b comma z, no-step m b (digit-above b h)))
 
   module _ (z : b ≡ comma) (r : Ended) (ends : NumberEnds n r) where
     pub id-unfit : r ≡ Unfit → (at : ℕ) → Free at (Id past n) b (Stopped badRow (past .place))
@@ -235,7 +235,7 @@ module _ (past : Past) (l : Listed) (negative : Bool) (n : Number) (b : ℕ) whe
 
   module _ (low : digitZero ≤ b) (high : b ≤ digitNine) (r : Pushed) (pushes : Pushes n b r) where
     at-digit : (m : Whole) → wholeStep negative m b ≡ (numberStep m b >>= (λ next. some (whole negative next)))
-    at-digit m = rw (digit b low high)
+    at-digit m = rw (digit-in b low high)
 
     pub whole-broken : r ≡ Broken → (at : ℕ) → Free at inside b (Stopped badRow (past .place))
     whole-broken e = whole-stop (λ m k. at-digit m ∙ go (numberStep m b) (rw e at (pushes m k)))
@@ -251,10 +251,10 @@ module _ (past : Past) (l : Listed) (negative : Bool) (n : Number) (b : ℕ) whe
         go (some m) (next-near k) profiles₀ samples₀ at profiles samples before id done c g = in-whole {past = past} {l = l} c g k
 
   pub whole-low : (b ≡ point → ⊥) → (b ≡ minus → ⊥) → b < digitZero → (at : ℕ) → Free at inside b (Stopped badRow (past .place))
-  whole-low p q h = whole-stop (λ m k. rw (low b h, ne-eqb b point p, ne-eqb b minus q))
+  whole-low p q h = whole-stop (λ m k. rw (digit-below b h, ne-eqb b point p, ne-eqb b minus q))
 
   pub whole-high : (b ≡ point → ⊥) → (b ≡ minus → ⊥) → digitNine < b → (at : ℕ) → Free at inside b (Stopped badRow (past .place))
-  whole-high p q h = whole-stop (λ m k. rw (high b h, ne-eqb b point p, ne-eqb b minus q))
+  whole-high p q h = whole-stop (λ m k. rw (digit-above b h, ne-eqb b point p, ne-eqb b minus q))
 
 -- ---- a point, and a minus
 

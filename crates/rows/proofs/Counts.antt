@@ -1,7 +1,7 @@
 -- A profile looked up, and the entries of a list one after the other. Assumes nothing.
 use Prim.Native.Nat.{ℕ, zero, suc, _+_, _*_, _≤_, _<_}
 use mathlib.Core.Path.{_≡_, refl, ap, sym, _∙_}
-use mathlib.Core.Bool.{Bool, true, false, not, cond, _&&_}
+use mathlib.Core.Bool.{Bool, true, false, not, cond, _&&_, and-false}
 use mathlib.Core.List.{List, [], _∷_, _++_}
 use mathlib.Core.Option.{Option, none, some}
 use native.Mathlib.Omega.{arith}
@@ -16,7 +16,7 @@ use Rattle.rules.specs.Answers.{notThere, wrongSamples}
 use Rattle.rules.specs.Energy.{tabulate}
 use Rattle.rules.specs.Timetable.{configuration}
 use Rattle.rules.specs.declared.sizes.Configuration.{Configuration}
-use Rattle.rules.proofs.Truth.{and-true, and-false}
+use Rattle.rules.proofs.Truth.{and-true}
 use Rattle.rules.proofs.Lists.{every-more, tabulate-more}
 use Rattle.ids.specs.declared.Found.{Found}
 use Rattle.ids.specs.declared.Found.the-variants.{At, Nothing}

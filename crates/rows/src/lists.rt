@@ -13,27 +13,11 @@ ghost use Rattle.tables.specs.View.{profileAt, configurationAt, listIn};
 ghost use Rattle.rows.specs.Counts.{countAt, countedOf, listAt, listFault, numberOf, Sees, InTables, Tables, FirstFault};
 
 // Entries are read where they are known to stand, and nothing is tested: `tables` reads them anywhere.
-// In a leg's entry: where its list starts.
-const FIRST: usize = 5;
-
-// And how long the list is.
-const COUNT: usize = 6;
-
-// In the entry of a configuration.
-const DEPARTURE: usize = 0;
-
-const TRAVEL: usize = 1;
-
-const PROFILE: usize = 2;
-
-// In a profile's entry: how many samples it has.
-const SAMPLES: usize = 2;
-
 fn count_at(profiles: &[u32], i: usize) -> u32
     requires { ⌜ (i + 1) * profileWidth ≤ length (now profiles) ⌝ }
     ensures { λ r. ⌜ r ≡ profileAt (now (profiles .entry)) i .count ⌝ }
 {
-    profiles[Profile::WIDTH * i + SAMPLES]
+    profiles[Profile::WIDTH * i + Profile::COUNT_AT]
 }
 
 // How many samples a profile has, where it is there.
@@ -112,9 +96,9 @@ fn configuration_at(configurations: &[u32], j: usize) -> Configuration
 {
     let at = Configuration::WIDTH * j;
     Configuration {
-        departure: configurations[at + DEPARTURE],
-        travel: configurations[at + TRAVEL],
-        profile: configurations[at + PROFILE],
+        departure: configurations[at + Configuration::DEPARTURE_AT],
+        travel: configurations[at + Configuration::TRAVEL_AT],
+        profile: configurations[at + Configuration::PROFILE_AT],
     }
 }
 
@@ -165,8 +149,8 @@ fn leg_fault(
     ensures { λ r. ⌜ r ≡ numberOf (listFault (countAt (now (profiles .entry)) m) (listIn (now (legs .entry)) (now (configurations .entry)) i)) ⌝ }
 {
     let at = Leg::WIDTH * i;
-    let first = legs[at + FIRST] as usize;
-    let count = legs[at + COUNT] as usize;
+    let first = legs[at + Leg::FIRST_AT] as usize;
+    let count = legs[at + Leg::COUNT_AT] as usize;
     list_fault(configurations, first, count, profiles, m, rising)
 }
 

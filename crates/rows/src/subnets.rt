@@ -6,9 +6,6 @@ use ids::Found;
 use rules::sizes::Leg;
 use rules::sizes::Track;
 
-// Where a leg's track stands in its entry.
-const TRACK: usize = 2;
-
 // The number of the first of n rows whose track is not among m tracks.
 pub fn subnet_fault(legs: &[u32], n: usize, tracks: &[u32], m: usize) -> Found
     requires { ⌜ Records legWidth n (now legs) × Records trackWidth m (now tracks) ⌝ }
@@ -17,7 +14,7 @@ pub fn subnet_fault(legs: &[u32], n: usize, tracks: &[u32], m: usize) -> Found
     let rising = ids::rising_of(tracks, Track::WIDTH, m);
     let mut i = 0;
     while i < n {
-        let track = legs[Leg::WIDTH * i + TRACK];
+        let track = legs[Leg::WIDTH * i + Leg::TRACK_AT];
         match ids::find(tracks, Track::WIDTH, m, rising, track) {
             Found::At(_) => {
                 i += 1;

@@ -2,17 +2,31 @@
 use Prim.Native.Nat.{ℕ, zero, suc, _+_, _*_, _-_, _^_, _/_, _%_, _≤_, _<_}
 use mathlib.Core.Path.{_≡_, refl, ap, sym, _∙_}
 use mathlib.Core.List.{List, [], _∷_, _++_, append-nil}
-use mathlib.Core.Bool.{Bool, true, false, not, _&&_}
+use mathlib.Core.Bool.{Bool, true, false, not, _&&_, and-false}
 use mathlib.Core.Option.{some}
 use native.Mathlib.Omega.{arith}
 use native.Mathlib.Nat.{pow-suc, div-lt-iff-lt-mul, le-refl}
 use lib.Dec.{T, leb, ltb, eqb, leb→le, T-not}
 use lib.ListN.{length}
-use borrow.Author.Tests.{ltb-true, ltb-false, lt-ltb, le-ltb, le-leb, eq-eqb, ne-eqb}
+use borrow.Author.Tests.{ltb-true, ltb-false, lt-ltb, le-ltb, le-leb, lt-leb, eq-eqb, ne-eqb}
 use Rattle.rules.specs.Lists.{every}
 use Rattle.rules.specs.Bytes.{digitZero, digitNine, isDigit, valueFrom, plain, wholeOf, spelledFrom, spelled}
 use Rattle.rules.proofs.Truth.{is-true, holds, and-both, both-and, every-all, all-map, under-test}
 use Rattle.rules.proofs.Pieces.{Free}
+
+-- ---- a digit is from 0 to 9
+
+pub digit-in : (b : ℕ) → digitZero ≤ b → b ≤ digitNine → isDigit b ≡ true
+digit-in b l h = rw (le-leb digitZero b l, le-leb b digitNine h)
+
+pub digit-below : (b : ℕ) → b < digitZero → isDigit b ≡ false
+digit-below b h = rw (lt-leb digitZero b h)
+
+pub digit-above : (b : ℕ) → digitNine < b → isDigit b ≡ false
+digit-above b h = rw (lt-leb b digitNine h, and-false (leb digitZero b))
+
+pub digit-range : (b : ℕ) → T (isDigit b) → (digitZero ≤ b) × (b ≤ digitNine)
+digit-range b h = let k : T (leb digitZero b) × T (leb b digitNine) = and-both (leb digitZero b) (leb b digitNine) h in (leb→le digitZero b (k .0), leb→le b digitNine (k .1))
 
 -- ---- the two cases of a number's digits
 
@@ -100,9 +114,6 @@ spelled-next n d after h k =
     let r : (n * 10 + d) % 10 ≡ d = omega arith in
     spelled-more (n * 10 + d) (n * 10 + d) after (omega arith)
     ∙ rw (q, r) (fuel-enough (n * 10 + d) (suc n) n ((digitZero + d) ∷ after) (omega arith) (omega arith))
-
-digit-range : (b : ℕ) → T (isDigit b) → (digitZero ≤ b) × (b ≤ digitNine)
-digit-range b h = let k : T (leb digitZero b) × T (leb b digitNine) = and-both (leb digitZero b) (leb b digitNine) h in (leb→le digitZero b (k .0), leb→le b digitNine (k .1))
 
 -- the digits of a number and of the digits that follow it
 spelled-following : (n : ℕ) (s after : List ℕ) → 0 < n → T (every isDigit s)

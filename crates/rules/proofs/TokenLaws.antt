@@ -140,10 +140,6 @@ token-next place b s black =
         ap (λ (ts : List Token). tokenAt place b s ∷ ts)
         (skip-next n (suc place) s (omega arith) ∙ ap (λ (p : ℕ). tokensFrom 0 p (drop n s)) same)
 
--- the text's end is the last token
-pub end-token : (place : ℕ) → tokensFrom 0 place [] ≡ token End [] place 0 ∷ []
-end-token place = refl
-
 -- ---- the same at a place of a text
 
 -- the tokens that a reader still has before it

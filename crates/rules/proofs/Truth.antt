@@ -44,10 +44,6 @@ pub and-true : (a : Bool) → a && true ≡ a
 and-true true = refl
 and-true false = refl
 
-pub and-false : (a : Bool) → a && false ≡ false
-and-false true = refl
-and-false false = refl
-
 -- ---- a number is another
 
 pub eqb-swap : (a b : ℕ) → eqb a b ≡ eqb b a

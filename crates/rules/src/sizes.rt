@@ -65,6 +65,13 @@ pub enum ConfigurationMade {
 impl Configuration {
     pub const WIDTH: usize = 3;
 
+    // Where each number stands in an entry of the table.
+    pub const DEPARTURE_AT: usize = 0;
+
+    pub const TRAVEL_AT: usize = 1;
+
+    pub const PROFILE_AT: usize = 2;
+
     pub const MOST: usize = 1_048_576;
 
     pub const LEAST_TRAVEL: u32 = 1;
@@ -125,6 +132,25 @@ pub enum LegMade {
 impl Leg {
     pub const WIDTH: usize = 8;
 
+    // Where each number stands in an entry of the table; its ids stand in the order of a row.
+    pub const ID_AT: usize = 0;
+
+    pub const TRAIN_AT: usize = 1;
+
+    pub const TRACK_AT: usize = 2;
+
+    pub const START_AT: usize = 3;
+
+    pub const END_AT: usize = 4;
+
+    pub const FIRST_AT: usize = 5;
+
+    pub const COUNT_AT: usize = 6;
+
+    pub const NOMINAL_AT: usize = 7;
+
+    pub const IDS: usize = 5;
+
     pub const MOST: usize = 32_768;
 
     // The first line of a timetable or solution, its LF too.
@@ -138,22 +164,22 @@ impl Leg {
     pub const MOST_CONFIGURATIONS: u32 = 64;
 
     // The five ids are within theirs, the count is one that a row may have, and the nominal is one of the list.
-    pub fn new(ids: [u32; 5], first: u32, count: u32, nominal: u32) -> LegMade
+    pub fn new(ids: [u32; Leg::IDS], first: u32, count: u32, nominal: u32) -> LegMade
         ensures { λ r. ⌜ r ≡ legMade ids first count nominal ⌝ }
     {
-        if Id::MOST < ids[0] {
+        if Id::MOST < ids[Self::ID_AT] {
             return LegMade::OutOfRange;
         }
-        if Id::MOST < ids[1] {
+        if Id::MOST < ids[Self::TRAIN_AT] {
             return LegMade::OutOfRange;
         }
-        if Id::MOST < ids[2] {
+        if Id::MOST < ids[Self::TRACK_AT] {
             return LegMade::OutOfRange;
         }
-        if Id::MOST < ids[3] {
+        if Id::MOST < ids[Self::START_AT] {
             return LegMade::OutOfRange;
         }
-        if Id::MOST < ids[4] {
+        if Id::MOST < ids[Self::END_AT] {
             return LegMade::OutOfRange;
         }
         if count < Self::LEAST_CONFIGURATIONS {
@@ -166,11 +192,11 @@ impl Leg {
             return LegMade::OutOfRange;
         }
         LegMade::Within(Leg {
-            id: ids[0],
-            train: ids[1],
-            track: ids[2],
-            start: ids[3],
-            end: ids[4],
+            id: ids[Self::ID_AT],
+            train: ids[Self::TRAIN_AT],
+            track: ids[Self::TRACK_AT],
+            start: ids[Self::START_AT],
+            end: ids[Self::END_AT],
             first,
             count,
             nominal,
@@ -192,6 +218,13 @@ pub enum ProfileMade {
 
 impl Profile {
     pub const WIDTH: usize = 3;
+
+    // Where each number stands in an entry of the table.
+    pub const ID_AT: usize = 0;
+
+    pub const FIRST_AT: usize = 1;
+
+    pub const COUNT_AT: usize = 2;
 
     pub const MOST: usize = 16_384;
 
@@ -264,6 +297,19 @@ pub struct Constraint {
 impl Constraint {
     pub const WIDTH: usize = 6;
 
+    // Where each number stands in an entry of the table.
+    pub const KIND_AT: usize = 0;
+
+    pub const FIRST_AT: usize = 1;
+
+    pub const SECOND_AT: usize = 2;
+
+    pub const LOW_AT: usize = 3;
+
+    pub const HIGH_AT: usize = 4;
+
+    pub const CONNECTION_AT: usize = 5;
+
     pub const MOST: usize = 65_536;
 
     pub const MOST_SECONDS: u32 = 86_400;
@@ -291,6 +337,11 @@ pub struct Track {
 
 impl Track {
     pub const WIDTH: usize = 2;
+
+    // Where each number stands in an entry of the table.
+    pub const ID_AT: usize = 0;
+
+    pub const SUBNET_AT: usize = 1;
 
     pub const MOST: usize = 4_096;
 }

@@ -24,14 +24,14 @@ pub fn leg_at(t: &[u32], i: usize) -> Leg
     ensures { λ r. ⌜ r ≡ legAt (now (t .entry)) i ⌝ }
 {
     Leg {
-        id: entry_at(Leg::WIDTH, t, i, 0),
-        train: entry_at(Leg::WIDTH, t, i, 1),
-        track: entry_at(Leg::WIDTH, t, i, 2),
-        start: entry_at(Leg::WIDTH, t, i, 3),
-        end: entry_at(Leg::WIDTH, t, i, 4),
-        first: entry_at(Leg::WIDTH, t, i, 5),
-        count: entry_at(Leg::WIDTH, t, i, 6),
-        nominal: entry_at(Leg::WIDTH, t, i, 7),
+        id: entry_at(Leg::WIDTH, t, i, Leg::ID_AT),
+        train: entry_at(Leg::WIDTH, t, i, Leg::TRAIN_AT),
+        track: entry_at(Leg::WIDTH, t, i, Leg::TRACK_AT),
+        start: entry_at(Leg::WIDTH, t, i, Leg::START_AT),
+        end: entry_at(Leg::WIDTH, t, i, Leg::END_AT),
+        first: entry_at(Leg::WIDTH, t, i, Leg::FIRST_AT),
+        count: entry_at(Leg::WIDTH, t, i, Leg::COUNT_AT),
+        nominal: entry_at(Leg::WIDTH, t, i, Leg::NOMINAL_AT),
     }
 }
 
@@ -39,9 +39,9 @@ pub fn configuration_at(t: &[u32], i: usize) -> Configuration
     ensures { λ r. ⌜ r ≡ configurationAt (now (t .entry)) i ⌝ }
 {
     Configuration {
-        departure: entry_at(Configuration::WIDTH, t, i, 0),
-        travel: entry_at(Configuration::WIDTH, t, i, 1),
-        profile: entry_at(Configuration::WIDTH, t, i, 2),
+        departure: entry_at(Configuration::WIDTH, t, i, Configuration::DEPARTURE_AT),
+        travel: entry_at(Configuration::WIDTH, t, i, Configuration::TRAVEL_AT),
+        profile: entry_at(Configuration::WIDTH, t, i, Configuration::PROFILE_AT),
     }
 }
 
@@ -49,9 +49,9 @@ pub fn profile_at(t: &[u32], i: usize) -> Profile
     ensures { λ r. ⌜ r ≡ profileAt (now (t .entry)) i ⌝ }
 {
     Profile {
-        id: entry_at(Profile::WIDTH, t, i, 0),
-        first: entry_at(Profile::WIDTH, t, i, 1),
-        count: entry_at(Profile::WIDTH, t, i, 2),
+        id: entry_at(Profile::WIDTH, t, i, Profile::ID_AT),
+        first: entry_at(Profile::WIDTH, t, i, Profile::FIRST_AT),
+        count: entry_at(Profile::WIDTH, t, i, Profile::COUNT_AT),
     }
 }
 
@@ -59,12 +59,12 @@ pub fn constraint_at(t: &[u32], i: usize) -> Constraint
     ensures { λ r. ⌜ r ≡ constraintAt (now (t .entry)) i ⌝ }
 {
     Constraint {
-        kind: entry_at(Constraint::WIDTH, t, i, 0),
-        first: entry_at(Constraint::WIDTH, t, i, 1),
-        second: entry_at(Constraint::WIDTH, t, i, 2),
-        low: entry_at(Constraint::WIDTH, t, i, 3),
-        high: entry_at(Constraint::WIDTH, t, i, 4),
-        connection: entry_at(Constraint::WIDTH, t, i, 5),
+        kind: entry_at(Constraint::WIDTH, t, i, Constraint::KIND_AT),
+        first: entry_at(Constraint::WIDTH, t, i, Constraint::FIRST_AT),
+        second: entry_at(Constraint::WIDTH, t, i, Constraint::SECOND_AT),
+        low: entry_at(Constraint::WIDTH, t, i, Constraint::LOW_AT),
+        high: entry_at(Constraint::WIDTH, t, i, Constraint::HIGH_AT),
+        connection: entry_at(Constraint::WIDTH, t, i, Constraint::CONNECTION_AT),
     }
 }
 
@@ -72,7 +72,7 @@ pub fn track_at(t: &[u32], i: usize) -> Track
     ensures { λ r. ⌜ r ≡ trackAt (now (t .entry)) i ⌝ }
 {
     Track {
-        id: entry_at(Track::WIDTH, t, i, 0),
-        subnet: entry_at(Track::WIDTH, t, i, 1),
+        id: entry_at(Track::WIDTH, t, i, Track::ID_AT),
+        subnet: entry_at(Track::WIDTH, t, i, Track::SUBNET_AT),
     }
 }

@@ -6,27 +6,12 @@ use mathlib.Core.Bool.{Bool, true, false, _&&_}
 use native.Mathlib.Omega.{arith}
 use native.Mathlib.Nat.{add-zero}
 use lib.ListN.{length, getD, drop}
-use borrow.Author.Tests.{le-leb, lt-leb}
 use Rattle.rules.specs.Lists.{lead}
 use Rattle.rules.specs.Bytes.{digitZero, digitNine, isDigit, valueFrom}
+use Rattle.rules.proofs.Numbers.{digit-in, digit-below, digit-above}
 use Rattle.text.specs.declared.numbers.Ran.{Ran}
 use Rattle.text.specs.Held.{pastId, ranFrom}
 use Rattle.text.proofs.Runs.{lead-more, lead-stop, lead-end}
-
--- ---- a digit is from 0 to 9
-
-digit-in : (b : ℕ) → digitZero ≤ b → b ≤ digitNine → isDigit b ≡ true
-digit-in b l h = rw (le-leb digitZero b l, le-leb b digitNine h)
-
-digit-below : (b : ℕ) → b < digitZero → isDigit b ≡ false
-digit-below b h = rw (lt-leb digitZero b h)
-
-digit-above : (b : ℕ) → digitZero ≤ b → digitNine < b → isDigit b ≡ false
-digit-above b l h = rw (le-leb digitZero b l, lt-leb b digitNine h)
-
-pub and-false : (t : Bool) → t && false ≡ false
-and-false true = refl
-and-false false = refl
 
 -- ---- the loop of `digits`: the invariant is `ranFrom value next (drop next s) ≡ r`
 
@@ -58,7 +43,7 @@ module _ (s : List ℕ) (n i : ℕ) (r : Ran) (e : ranFrom n i (drop i s) ≡ r)
   run-below h low = run-done n i r k (rw (lead-stop isDigit s i 0 h (digit-below _ low)) at e)
 
   pub run-above : i < length s → digitZero ≤ getD s i 0 → digitNine < getD s i 0 → record { value = n; next = i } ≡ r
-  run-above h low high = run-done n i r k (rw (lead-stop isDigit s i 0 h (digit-above _ low high)) at e)
+  run-above h low high = run-done n i r k (rw (lead-stop isDigit s i 0 h (digit-above _ high)) at e)
 
   pub run-ends : length s ≤ i → record { value = n; next = i } ≡ r
   run-ends h = run-done n i r k (rw (lead-end isDigit s i h) at e)

@@ -3,7 +3,7 @@ use Prim.Native.Nat.{ℕ, _≤_, _<_, min}
 use mathlib.Core.Path.{_≡_, refl, ap, _∙_}
 use mathlib.Core.List.{List, [], _∷_}
 use mathlib.Core.Option.{some}
-use mathlib.Core.Bool.{Bool, true, false, not}
+use mathlib.Core.Bool.{Bool, true, false, not, and-false}
 use native.Mathlib.Omega.{arith}
 use lib.Dec.{eqb}
 use lib.ListN.{length, getD, drop}
@@ -15,7 +15,6 @@ use Rattle.text.specs.declared.numbers.Ran.{Ran}
 use Rattle.text.specs.declared.numbers.Whole.the-variants.{Number, Beyond, Malformed}
 use Rattle.text.specs.Held.{pastId, ranFrom, wholeHeld}
 use Rattle.text.proofs.Runs.{lead-all, lead-every, lead-not-every}
-use Rattle.text.proofs.Digits.{and-false}
 
 -- ---- a value within a limit, or past it
 

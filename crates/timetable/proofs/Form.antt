@@ -16,8 +16,8 @@ use Rattle.rules.specs.Verdict.{All}
 use Rattle.rules.specs.declared.sizes.Configuration.{Configuration}
 use Rattle.rules.proofs.Pieces.{Free, split-cons, split-free, joined-split}
 use Rattle.lines.specs.Fold.{run}
-use Rattle.lines.specs.Number.{Number, empty, zero as lone, digits, numberStep, numberEnd}
-use Rattle.lines.proofs.Number.{number-is-whole}
+use Rattle.lines.specs.Number.{Number, empty, numberStep, numberEnd}
+use Rattle.lines.proofs.Number.{no-step, number-is-whole}
 use Rattle.timetable.specs.Open.{Open, partly, start, separators, separate, openStep, closeLast, openEnd}
 
 -- ---- what may be missing
@@ -84,11 +84,6 @@ at-other o m b s d =
 at-end : (o : Open) (m : Number) → rest (withNumber o m) [] ≡ (numberEnd m >>= (λ n. closeLast (o .closed) (o .list) (o .entry) n))
 unfolding openEnd
 at-end o m = refl
-
-no-step : (m : Number) (b : ℕ) → isDigit b ≡ false → numberStep m b ≡ none
-no-step empty b d = rw d
-no-step lone b d = refl
-no-step (digits n) b d = rw d
 
 -- bytes other than the separator, and then what closes the number or does not
 module _ (o : Open) (sep : ℕ) (wants : Wants o sep) (tail : List ℕ) (more : ℕ → Option Row) (closes : (m : Number) → rest (withNumber o m) tail ≡ (numberEnd m >>= more)) where

@@ -1,7 +1,13 @@
--- "For all inputs, refusals among them": an answer is one of three, and two outcomes that keep an entry's promise coincide.
+-- "For all inputs, refusals among them": an answer is one of three; and of what was lent, only how much it is can count.
+use Prim.Native.Nat.{ℕ}
 use mathlib.Core.Path.{_≡_}
+use mathlib.Core.List.{List}
 use mathlib.Core.Logic.{_⊎_}
-use Rattle.rules.specs.Entries.{Tables, Checked, Reported, Merged}
+use lib.ListN.{length}
+use lib.IntN.{ℤ}
+use Rattle.rules.specs.Reading.{Texts}
+use Rattle.rules.specs.Entries.{Tables, roomsOf, checked, Reported, reported, Merged, merged}
+use Rattle.rules.specs.declared.sizes.Configuration.{Configuration}
 use Rattle.rules.specs.declared.answers.Refusal.{Refusal}
 use Rattle.rules.specs.declared.answers.Violation.{Violation}
 use Rattle.rules.specs.declared.answers.Answer.{Answer}
@@ -20,24 +26,32 @@ pub record SameTables (a b : Tables) : Type 0 where
   pub constraints : a .constraints ≡ b .constraints
   pub tracks : a .tracks ≡ b .tracks
 
--- the answer and every lent buffer are those that a definition gives
-pub record SameChecked (a b : Checked) : Type 0 where
-  pub answer : a .answer ≡ b .answer
-  pub tables : SameTables (a .tables) (b .tables)
-  pub choices : a .choices ≡ b .choices
+-- ---- "Every public entry judges its own input"
 
-pub record SameReported (a b : Reported) : Type 0 where
+-- two lendings of as much room, whatever they hold
+pub record SameRoom (t t′ : Tables) (c c′ : List ℕ) : Type 0 where
+  pub tables : roomsOf t ≡ roomsOf t′
+  pub choices : length c ≡ length c′
+
+pub record SameReport (a b : Reported) : Type 0 where
   pub answer : a .answer ≡ b .answer
   pub figures : a .figures ≡ b .figures
   pub desk : a .desk ≡ b .desk
-  pub tables : SameTables (a .tables) (b .tables)
-  pub choices : a .choices ≡ b .choices
-  pub curves : a .curves ≡ b .curves
 
-pub record SameMerged (a b : Merged) : Type 0 where
+pub record SameMerge (a b : Merged) : Type 0 where
   pub answer : a .answer ≡ b .answer
   pub size : a .size ≡ b .size
-  pub tables : SameTables (a .tables) (b .tables)
-  pub choices : a .choices ≡ b .choices
-  pub second : a .second ≡ b .second
-  pub text : a .text ≡ b .text
+
+module _ (H : ℕ) (x : Texts) (s : List ℕ) where
+  abbrev pub ChecksOwnInput : Type 0
+  ChecksOwnInput = (t t′ : Tables) (c c′ : List ℕ) → SameRoom t t′ c c′ → checked H x s t c .answer ≡ checked H x s t′ c′ .answer
+
+  abbrev pub ReportsOwnInput : Type 0
+  ReportsOwnInput =
+      (t t′ : Tables) (c c′ : List ℕ) (p p′ : List ℤ) → SameRoom t t′ c c′ → length p ≡ length p′ → SameReport (reported H x s t c p) (reported H x s t′ c′ p′)
+
+  -- by whatever rule it chooses
+  abbrev pub MergesOwnInput : (merge : List Configuration → List Configuration → List Configuration) → (second : List ℕ) → Type 0
+  MergesOwnInput merge s₂ =
+      (t t′ : Tables) (c c′ d d′ text text′ : List ℕ) → SameRoom t t′ c c′ → length d ≡ length d′ → length text ≡ length text′
+      → SameMerge (merged merge H x s s₂ t c d text) (merged merge H x s s₂ t′ c′ d′ text′)

@@ -1,5 +1,5 @@
 -- The two walks together: the answer of the whole reading, and both tables. Assumes nothing.
-use Prim.Native.Nat.{ℕ, _+_, _*_, _/_, _≤_, _<_}
+use Prim.Native.Nat.{ℕ, _*_, _/_, _≤_, _<_}
 use mathlib.Core.Path.{_≡_, refl, ap, sym, subst, _∙_}
 use mathlib.Core.Bool.{true, false}
 use mathlib.Core.List.{List, [], _∷_}
@@ -11,6 +11,7 @@ use borrow.Author.Tests.{le-leb, lt-leb}
 use Rattle.rules.specs.Limits.{mostText, mostLegs, mostConstraints, legWidth, constraintWidth, trackWidth}
 use Rattle.rules.specs.Lists.{flat, over}
 use Rattle.rules.specs.Tokens.{tokensOf}
+use Rattle.rules.specs.Kinds.{headway, singleTrack, dwell, turnaround}
 use Rattle.rules.specs.Answers.{refusal, tooLong, constraintsFile, Reading, refused, good}
 use Rattle.rules.specs.Constraints.{Document, empty, start, plainRules, run, constraintsOf, ordered, constraintNumbers, trackNumbers}
 use Rattle.rules.specs.declared.sizes.Constraint.{Constraint}
@@ -20,13 +21,13 @@ use Rattle.laws.proofs.All.{all-at}
 use Rattle.laws.proofs.Ordered.{OfKind, ordered-length}
 use Rattle.laws.proofs.Documents.{good-is-lawful}
 use Rattle.ids.specs.Column.{Records, column}
-use Rattle.turns.specs.declared.steps.Counts.{Counts}
+use Rattle.steps.specs.declared.Counts.{Counts}
 use Rattle.rules.proofs.Lists.{flat-length, over-length}
 use Rattle.constraints.specs.declared.walks.Walked.{Walked}
 use Rattle.constraints.specs.declared.walks.Walked.the-variants.{Good, Refused}
 use Rattle.constraints.specs.declared.Read.the-variants.{Whole, Refused as NotRead}
-use Rattle.turns.specs.Steps.{countsOf}
-use Rattle.constraints.specs.Tables.{nexts, startsOf, outcome, Filled, Upward, Walks, Able, reading, readOf, Tables, Reads}
+use Rattle.steps.specs.Steps.{countsOf}
+use Rattle.constraints.specs.Tables.{nexts, beforeLast, startsOf, outcome, Filled, Upward, Walks, Able, reading, readOf, Tables, Reads}
 use Rattle.constraints.proofs.Filling.{constraint-long}
 use Rattle.constraints.proofs.InOrder.{upward-ordered}
 use Rattle.constraints.proofs.ByKind.{none, counted, all-counted, by-kind}
@@ -78,15 +79,15 @@ module _ (text legs : List ℕ) (n : ℕ) (c t : List ℕ) where
 
       -- no more of four kinds than there may be in all
       few : (counts : List ℕ) → counts ≡ nexts none (d .constraints)
-          → getD counts 1 0 + (getD counts 2 0 + (getD counts 3 0 + getD counts 4 0)) ≤ mostConstraints
+          → beforeLast counts ≤ mostConstraints
       few counts e =
           rw e
           (omega (
             arith,
-            counted none (d .constraints) 1 (omega arith),
-            counted none (d .constraints) 2 (omega arith),
-            counted none (d .constraints) 3 (omega arith),
-            counted none (d .constraints) 4 (omega arith),
+            counted none (d .constraints) headway (omega arith),
+            counted none (d .constraints) singleTrack (omega arith),
+            counted none (d .constraints) dwell (omega arith),
+            counted none (d .constraints) turnaround (omega arith),
             all-counted (d .constraints) known,
             lawful .tables .constraints-lawful .in-limit,
           ))
@@ -132,12 +133,12 @@ module _ (text legs : List ℕ) (n : ℕ) (c t : List ℕ) where
           go (good d) q = never r number place (countsOf d) is (q .answer)
 
       module _ (seen : Counts) (is : r ≡ Good seen) where
-        pub few-counted : getD counts 1 0 + (getD counts 2 0 + (getD counts 3 0 + getD counts 4 0)) ≤ mostConstraints
+        pub few-counted : beforeLast counts ≤ mostConstraints
         unfolding Walks
         few-counted = go (outcome text legs n c t) refl w
           where
             go : (o : Reading Document) → outcome text legs n c t ≡ o → Walks none false o c t r counts c₁ t₁
-                → getD counts 1 0 + (getD counts 2 0 + (getD counts 3 0 + getD counts 4 0)) ≤ mostConstraints
+                → beforeLast counts ≤ mostConstraints
             go (refused x) e q = never r (x .number) (x .place) seen q is
             go (good d) e q = few d e counts (q .places)
 
@@ -208,7 +209,7 @@ able-first text legs n short there few =
     }
 
 pub able-second : (text legs : List ℕ) (n : ℕ) (counts starts : List ℕ) → length text ≤ mostText → Records legWidth n legs → n ≤ mostLegs
-    → getD counts 1 0 + (getD counts 2 0 + (getD counts 3 0 + getD counts 4 0)) ≤ mostConstraints → starts ≡ startsOf counts → Able text legs n starts
+    → beforeLast counts ≤ mostConstraints → starts ≡ startsOf counts → Able text legs n starts
 able-second text legs n counts starts short there few h e =
     record {
       short = short;

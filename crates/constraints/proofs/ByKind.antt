@@ -292,15 +292,20 @@ counted next (c ∷ cs) k h =
         let now : getD (bumped next (c .kind)) k 0 ≡ getD next k 0 = getD-set-other next (c .kind) k (getD next (c .kind) 0 + 1) 0 (λ q. eqb-false (c .kind) k e (sym q)) in
         omega arith
 
+-- they are numbered from 1, so the last is how many there are
+abbrev kinds : ℕ
+kinds = connection
+
+-- a place for each kind by its number
 abbrev pub none : List ℕ
-none = replicate 6 0
+none = replicate (suc kinds) 0
 
--- the five kinds together are all constraints
+abbrev ofEach : List Constraint → List ℕ
+ofEach = sizes headway kinds
+
+-- the kinds together are all constraints
 module _ (cs : List Constraint) (known : All OfKind cs) where
-  abbrev ns : List ℕ
-  ns = sizes 1 5 cs
-
-  ordered-size : length (ordered cs) ≡ sumOf (λ n. n) ns
+  ordered-size : length (ordered cs) ≡ sumOf (λ n. n) (ofEach cs)
   unfolding ordered
   ordered-size =
       omega (
@@ -311,12 +316,12 @@ module _ (cs : List Constraint) (known : All OfKind cs) where
         length-append (ofKind turnaround cs) (ofKind connection cs),
       )
 
-  pub all-counted : sumOf (λ n. n) ns ≡ length cs
+  pub all-counted : sumOf (λ n. n) (ofEach cs) ≡ length cs
   all-counted = sym ordered-size ∙ ordered-length cs known
 
-in-segments : (n : ℕ) (cs : List Constraint) → n ≡ 5 → All OfKind cs → All (λ c. (1 ≤ c .kind) × (c .kind < 1 + n)) cs
-in-segments n [] five h = tt
-in-segments n (c ∷ cs) five h = ((h .0 .from-first-kind, omega (arith, h .0 .to-last-kind)), in-segments n cs five (h .1))
+in-segments : (n : ℕ) (cs : List Constraint) → n ≡ kinds → All OfKind cs → All (λ c. (headway ≤ c .kind) × (c .kind < headway + n)) cs
+in-segments n [] all h = tt
+in-segments n (c ∷ cs) all h = ((h .0 .from-first-kind, omega (arith, h .0 .to-last-kind)), in-segments n cs all (h .1))
 
 -- ---- by kind and then by file
 
@@ -324,29 +329,29 @@ module _ (cs : List Constraint) (known : All OfKind cs) (t : List ℕ) (room : l
   abbrev counts : List ℕ
   counts = nexts none cs
 
-  fits : sumOf (λ n. n) (sizes 1 5 cs) * constraintWidth ≤ length t
+  fits : sumOf (λ n. n) (ofEach cs) * constraintWidth ≤ length t
   fits = omega (arith, all-counted cs known)
 
-  starts : Starts 1 0 (sizes 1 5 cs) (startsOf counts)
+  starts : Starts headway 0 (ofEach cs) (startsOf counts)
   starts =
-      let one = counted none cs 1 (omega arith) in
-      let two = counted none cs 2 (omega arith) in
-      let three = counted none cs 3 (omega arith) in
-      let four = counted none cs 4 (omega arith) in
+      let one = counted none cs headway (omega arith) in
+      let two = counted none cs singleTrack (omega arith) in
+      let three = counted none cs dwell (omega arith) in
+      let four = counted none cs turnaround (omega arith) in
       (refl, (omega arith, (omega arith, (omega arith, (omega arith, tt)))))
 
-  tables-written : done 1 (cut (sizes 1 5 cs) t) cs (left (sizes 1 5 cs) t) ≡ over (flat constraintNumbers (ordered cs)) t
+  tables-written : done headway (cut (ofEach cs) t) cs (left (ofEach cs) t) ≡ over (flat constraintNumbers (ordered cs)) t
   unfolding over ordered
   tables-written =
-      let size : length (flat constraintNumbers (ordered cs)) ≡ sumOf (λ n. n) (sizes 1 5 cs) * constraintWidth =
+      let size : length (flat constraintNumbers (ordered cs)) ≡ sumOf (λ n. n) (ofEach cs) * constraintWidth =
       flat-length constraintNumbers constraintWidth constraint-long (ordered cs) ∙ ap (λ (n : ℕ). n * constraintWidth) (ordered-size cs known) in
-      rw (size, left-drop (sizes 1 5 cs) t) (simp (flat-append, append-assoc))
+      rw (size, left-drop (ofEach cs) t) (simp (flat-append, append-assoc))
 
   -- constraints: by kind and then by file; the room past the last keeps its contents
   pub by-kind : writes (startsOf counts) t cs ≡ over (flat constraintNumbers (ordered cs)) t
   by-kind =
-      let five : length (cut (sizes 1 5 cs) t) ≡ 5 = cut-length (sizes 1 5 cs) t in
-      ap (λ (l : List ℕ). writes (startsOf counts) l cs) (sym (cut-joined (sizes 1 5 cs) t))
-      ∙ segments-done 1 (cut (sizes 1 5 cs) t) cs (startsOf counts) (left (sizes 1 5 cs) t) (omega arith)
-      (in-segments (length (cut (sizes 1 5 cs) t)) cs five known) (cut-fits 1 5 cs t fits) (cut-places 1 0 (sizes 1 5 cs) t (startsOf counts) fits starts)
+      let all : length (cut (ofEach cs) t) ≡ kinds = cut-length (ofEach cs) t in
+      ap (λ (l : List ℕ). writes (startsOf counts) l cs) (sym (cut-joined (ofEach cs) t))
+      ∙ segments-done headway (cut (ofEach cs) t) cs (startsOf counts) (left (ofEach cs) t) (omega arith)
+      (in-segments (length (cut (ofEach cs) t)) cs all known) (cut-fits headway kinds cs t fits) (cut-places headway 0 (ofEach cs) t (startsOf counts) fits starts)
       ∙ tables-written

@@ -15,6 +15,7 @@ use Rattle.rules.proofs.Lists.{flat-append, flat-length, over-length, over-more
 use Rattle.ids.specs.Column.{column, trackIdsOf}
 use Rattle.ids.proofs.Column.{column-length, column-at}
 use Rattle.ids.proofs.Written.{column-written}
+use Rattle.steps.specs.Steps.{idWidth}
 use Rattle.constraints.specs.Tables.{bumped, nexts, placed, writes, written}
 use Rattle.constraints.proofs.Putting.{counted-low}
 
@@ -32,13 +33,13 @@ unfolding over
 tracks-held ts t = column-written trackNumbers trackWidth (omega arith) track-long ts (drop (length (flat trackNumbers ts)) t)
 
 -- the ids of the subnets, which stand in a table of their own
-pub ids-held : (ids held : List ℕ) → length ids ≤ length held → take (length ids) held ≡ ids → column 1 (length ids) held ≡ ids
+pub ids-held : (ids held : List ℕ) → length ids ≤ length held → take (length ids) held ≡ ids → column idWidth (length ids) held ≡ ids
 ids-held ids held fits e =
-    ext-getD 0 (column 1 (length ids) held) ids (column-length 1 (length ids) held)
+    ext-getD 0 (column idWidth (length ids) held) ids (column-length idWidth (length ids) held)
     (λ i h.
-    let low : i < length ids = omega (arith, column-length 1 (length ids) held) in
-    let one : i * 1 ≡ i = omega arith in
-    column-at 1 (length ids) held i low ∙ rw one (sym (getD-take (length ids) held i 0 low) ∙ ap (λ (l : List ℕ). getD l i 0) e))
+    let low : i < length ids = omega (arith, column-length idWidth (length ids) held) in
+    let one : i * idWidth ≡ i = omega arith in
+    column-at idWidth (length ids) held i low ∙ rw one (sym (getD-take (length ids) held i 0 low) ∙ ap (λ (l : List ℕ). getD l i 0) e))
 
 -- ---- the constraints
 

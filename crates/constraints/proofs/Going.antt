@@ -26,13 +26,13 @@ use Rattle.rules.proofs.TokenLaws.{tokens-start}
 use Rattle.ids.specs.Column.{column}
 use Rattle.tokens.specs.declared.Token.{Token as Found}
 use Rattle.tokens.specs.Seen.{tokensAt, found, isEnd, Seen, Within}
-use Rattle.turns.specs.declared.steps.Counts.{Counts}
-use Rattle.turns.specs.declared.steps.Step.{Step}
-use Rattle.turns.specs.declared.steps.Step.the-variants.{On, Emit, Opened, Named, Listed, Finish, Fault}
+use Rattle.steps.specs.declared.Counts.{Counts}
+use Rattle.steps.specs.declared.Step.{Step}
+use Rattle.steps.specs.declared.Step.the-variants.{On, Emit, Opened, Named, Listed, Finish, Fault}
 use Rattle.rules.proofs.Lists.{flat-append, flat-length, over-length, over-more}
 use Rattle.constraints.specs.declared.walks.Walked.the-variants.{Good, Refused}
 use Rattle.rules.specs.declared.sizes.Track.{Track}
-use Rattle.turns.specs.Steps.{turned, countsOf, Tied, Ready}
+use Rattle.steps.specs.Steps.{turned, countsOf, Tied, Ready}
 use Rattle.constraints.specs.Tables.{bumped, nexts, written, outcome, Able, Walks}
 use Rattle.turns.proofs.ByAction.{past-found}
 use Rattle.constraints.proofs.Filling.{track-long, tracks-held, ids-held, id-held, nexts-more, nexts-low, nexts-length, written-more, written-length}

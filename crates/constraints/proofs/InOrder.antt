@@ -1,15 +1,13 @@
 -- Constraints of which none is of a lower kind than the one before it stand by kind and then by file as they are. Assumes nothing.
 use Prim.Native.Nat.{ℕ, zero, suc, _+_, _*_, _-_, _≤_, _<_}
 use mathlib.Core.Path.{_≡_, refl, ap, _∙_}
-use mathlib.Core.Bool.{Bool, true, false}
 use mathlib.Core.List.{List, [], _∷_, map}
 use native.Mathlib.Omega.{arith}
-use lib.Dec.{ltb}
 use lib.ListN.{length, getD, drop}
-use borrow.Author.Tests.{ne-eqb, ltb-true, ltb-false}
+use borrow.Author.Tests.{ne-eqb}
 use Rattle.rules.specs.Limits.{constraintWidth}
 use Rattle.rules.specs.Lists.{flat, over}
-use Rattle.rules.specs.Kinds.{headway, connection}
+use Rattle.rules.specs.Kinds.{headway, singleTrack, dwell, turnaround, connection}
 use Rattle.rules.specs.Constraints.{ofKind, ordered, constraintNumbers}
 use Rattle.rules.specs.declared.sizes.Constraint.{Constraint}
 use Rattle.rules.specs.Verdict.{All}
@@ -17,6 +15,7 @@ use Rattle.rules.proofs.Truth.{all-map}
 use Rattle.laws.proofs.Ordered.{OfKind}
 use Rattle.ids.specs.Column.{column}
 use Rattle.ids.proofs.Column.{column-length, column-at}
+use Rattle.ids.proofs.Rises.{steps-more}
 use Rattle.ids.proofs.Written.{column-written}
 use Rattle.constraints.specs.Tables.{Upward}
 use Rattle.constraints.proofs.Filling.{constraint-long}
@@ -71,10 +70,10 @@ first-stays c cs known h = go (c .kind) refl (known .from-first-kind) (known .to
     go : (k : ℕ) → c .kind ≡ k → headway ≤ k → k ≤ connection → ordered (c ∷ cs) ≡ c ∷ ordered cs
     go zero e low high = absurd (omega arith)
     go (suc zero) e low high = rw e
-    go (suc (suc zero)) e low high = rw (e, below 1 (omega arith))
-    go (suc (suc (suc zero))) e low high = rw (e, below 1 (omega arith), below 2 (omega arith))
-    go (suc (suc (suc (suc zero)))) e low high = rw (e, below 1 (omega arith), below 2 (omega arith), below 3 (omega arith))
-    go (suc (suc (suc (suc (suc zero))))) e low high = rw (e, below 1 (omega arith), below 2 (omega arith), below 3 (omega arith), below 4 (omega arith))
+    go (suc (suc zero)) e low high = rw (e, below headway (omega arith))
+    go (suc (suc (suc zero))) e low high = rw (e, below headway (omega arith), below singleTrack (omega arith))
+    go (suc (suc (suc (suc zero)))) e low high = rw (e, below headway (omega arith), below singleTrack (omega arith), below dwell (omega arith))
+    go (suc (suc (suc (suc (suc zero))))) e low high = rw (e, below headway (omega arith), below singleTrack (omega arith), below dwell (omega arith), below turnaround (omega arith))
     go (suc (suc (suc (suc (suc (suc k)))))) e low high = absurd (omega arith)
 
 all-stay : (cs : List Constraint) → All OfKind cs → Up (kindsOf cs) → ordered cs ≡ cs
@@ -92,14 +91,8 @@ pub upward-one : (table : List ℕ) → Upward 1 table
 upward-one table i h = absurd (omega arith)
 
 pub upward-more : (i : ℕ) (table : List ℕ) → Upward i table → 1 ≤ i → getD table ((i - 1) * constraintWidth) 0 ≤ getD table (i * constraintWidth) 0 → Upward (i + 1) table
-upward-more i table u one up j k = go (ltb (j + 1) i) refl
-  where
-    go : (t : Bool) → ltb (j + 1) i ≡ t → getD table (j * constraintWidth) 0 ≤ getD table ((j + 1) * constraintWidth) 0
-    go true e = u j (ltb-true (j + 1) i e)
-    go false e =
-        let this : j + 1 ≡ i = omega (arith, ltb-false (j + 1) i e) in
-        let last : i - 1 ≡ j = omega arith in
-        rw this (rw last at up)
+upward-more i table u one up =
+    steps-more (λ a b. getD table (a * constraintWidth) 0 ≤ getD table (b * constraintWidth) 0) i u one up
 
 pub upward-all : (i n : ℕ) (table : List ℕ) → Upward i table → n ≤ i → Upward n table
 upward-all i n table u h j k = u j (omega arith)

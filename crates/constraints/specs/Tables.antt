@@ -8,11 +8,12 @@ use lib.Seq.{sets}
 use Rattle.rules.specs.Limits.{mostText, mostLegs, mostConstraints, legWidth, constraintWidth, trackWidth}
 use Rattle.rules.specs.Lists.{flat, over}
 use Rattle.rules.specs.Answers.{Reading, refused, good}
+use Rattle.rules.specs.Kinds.{headway, singleTrack, dwell, turnaround}
 use Rattle.rules.specs.Tokens.{tokensOf}
 use Rattle.rules.specs.Constraints.{Document, empty, start, plainRules, run, constraintsOf, ordered, constraintNumbers, trackNumbers}
 use Rattle.rules.specs.declared.sizes.Constraint.{Constraint}
 use Rattle.ids.specs.Column.{Records, column}
-use Rattle.turns.specs.Steps.{countsOf}
+use Rattle.steps.specs.Steps.{countsOf}
 use Rattle.constraints.specs.declared.walks.Walked.{Walked}
 use Rattle.constraints.specs.declared.walks.Walked.the-variants.{Good, Refused}
 use Rattle.constraints.specs.declared.Read.{Read}
@@ -47,11 +48,22 @@ written sorts next table cs = cond sorts (writes next table cs) (over (flat cons
 abbrev pub Upward : (n : ℕ) (table : List ℕ) → Type 0
 Upward n table = (i : ℕ) → i + 1 < n → getD table (i * constraintWidth) 0 ≤ getD table ((i + 1) * constraintWidth) 0
 
--- kinds 1 to 5 by how many each has: where each starts
+-- kinds 1 to 5 by how many each has: how many are before the last kind, and where each starts
+abbrev pub beforeLast : List ℕ → ℕ
+beforeLast counts =
+    let n : ℕ → ℕ = λ k. getD counts k 0 in
+    n headway + (n singleTrack + (n dwell + n turnaround))
+
 abbrev pub startsOf : List ℕ → List ℕ
 startsOf counts =
     let n : ℕ → ℕ = λ k. getD counts k 0 in
-    0 ∷ 0 ∷ n 1 ∷ (n 1 + n 2) ∷ (n 1 + n 2 + n 3) ∷ (n 1 + n 2 + n 3 + n 4) ∷ []
+    0
+    ∷ 0
+    ∷ n headway
+    ∷ (n headway + n singleTrack)
+    ∷ (n headway + n singleTrack + n dwell)
+    ∷ (n headway + n singleTrack + n dwell + n turnaround)
+    ∷ []
 
 -- ---- a walk
 

@@ -7,7 +7,7 @@ ghost use lib.ListN.{getD, set};
 ghost use lib.Seq.{sets};
 ghost use Rattle.rules.specs.Limits.{constraintWidth, trackWidth, mostConstraints, mostTracks};
 ghost use Rattle.rules.specs.Constraints.{constraintNumbers};
-ghost use Rattle.constraints.specs.Tables.{lastPlace, bumped, startsOf, Upward};
+ghost use Rattle.constraints.specs.Tables.{lastPlace, bumped, beforeLast, startsOf, Upward};
 ghost use Rattle.ids.specs.Column.{Records};
 use rules::kinds::Kind;
 use rules::sizes::Constraint;
@@ -111,12 +111,12 @@ pub const PLACES: usize = Kind::COUNT + 1;
 
 // Kinds 1 to 5 by how many each has: where each starts.
 pub fn starts_of(counts: [usize; PLACES]) -> [usize; PLACES]
-    requires { ⌜ getD counts 1 0 + (getD counts 2 0 + (getD counts 3 0 + getD counts 4 0)) ≤ mostConstraints ⌝ }
+    requires { ⌜ beforeLast counts ≤ mostConstraints ⌝ }
     ensures { λ r. ⌜ r ≡ startsOf counts ⌝ }
 {
-    let second = counts[1];
-    let third = second + counts[2];
-    let fourth = third + counts[3];
-    let fifth = fourth + counts[4];
+    let second = counts[Kind::HEADWAY as usize];
+    let third = second + counts[Kind::SINGLE_TRACK as usize];
+    let fourth = third + counts[Kind::DWELL as usize];
+    let fifth = fourth + counts[Kind::TURNAROUND as usize];
     [0, 0, second, third, fourth, fifth]
 }

@@ -11,10 +11,10 @@ use rules::tokens::Lists;
 use rules::tokens::Phase;
 use rules::tokens::Rules;
 use rules::tokens::State;
+use steps::Counts;
+use steps::Room;
+use steps::Step;
 use tokens::token_at;
-use turns::steps::Counts;
-use turns::steps::Room;
-use turns::steps::Step;
 use turns::turn;
 
 pub enum Walked {

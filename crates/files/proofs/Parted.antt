@@ -16,7 +16,17 @@ pub same-refusal : {A : Type 0} (r : Refusal) {number file place : ℕ} → numb
     → _≡_ {A = Reading A} (refused r) (refused (refusal number file place))
 same-refusal r n f p i = refused (record { number = sym n i; file = f i; place = sym p i })
 
--- what was read, by the answer
+-- what was read, by a reader's answer that is told of no refusal
+pub record WasRead {A B : Type 0} (tell : Reading A → B) (answer : B) (read : Reading A) : Type 0 where
+  pub what : A
+  pub was : read ≡ good what
+  pub told : answer ≡ tell (good what)
+
+pub was-read : {A B : Type 0} (tell : Reading A → B) (answer : B) → ((r : Refusal) → answer ≡ tell (refused r) → ⊥) → (read : Reading A) → answer ≡ tell read → WasRead tell answer read
+was-read tell answer other (refused r) e = absurd (other r e)
+was-read tell answer other (good x) e = record { what = x; was = refl; told = e }
+
+-- what a part read, by its answer
 pub record WasGood {A : Type 0} (read : Reading A) (counts : A → Counts) (Written : A → Type 0) (k : Counts) : Type 0 where
   pub what : A
   pub was : read ≡ good what

@@ -11,7 +11,7 @@ use Rattle.rules.specs.Lists.{over}
 use Rattle.rules.specs.Answers.{timetableFile, refusal, Reading, refused, good}
 use Rattle.rules.specs.Rows.{RowFault, firstFault, placeOfRow}
 use Rattle.rules.specs.Timetable.{Row}
-use Rattle.rules.specs.Profiles.{Curve, sampled, profilesOf, profilesFrom, profileNumbers, profileFault}
+use Rattle.rules.specs.Profiles.{Curve, profilesOf, profilesFrom, profileNumbers, profileFault}
 use Rattle.rules.specs.declared.answers.Refusal.{Refusal}
 use Rattle.ids.specs.Column.{Records}
 use Rattle.ids.proofs.Curves.{profiles-length}
@@ -26,22 +26,12 @@ use Rattle.rows.proofs.Holding.{tabled-tables}
 use Rattle.files.specs.declared.Counts.{Counts}
 use Rattle.files.specs.declared.Filed.the-variants.{Whole, Refused}
 use Rattle.files.specs.Parts.{powersOf, Draft, Lists, Listed, PowersRead}
-use Rattle.files.proofs.Parted.{part-refused, part-good}
+use Rattle.files.proofs.Parted.{WasRead, was-read, part-refused, part-good}
 use Rattle.files.proofs.Fronts.{front-held, front-records}
 
 not-read : (o : Reading (List Curve)) (r : Refusal) → NotRead r ≡ rowsOf o → o ≡ refused r
 not-read (refused s) r e = cc
 not-read (good curves) r e = let z : _≡_ {A = ℕ} 0 1 = cc in absurd (omega arith)
-
-record WasRead (o : Reading (List Curve)) (m k : ℕ) : Type 0 where
-  curves : List Curve
-  was : o ≡ good curves
-  profiles-many : m ≡ length curves
-  samples-many : k ≡ sampled curves
-
-was-read : (o : Reading (List Curve)) (m k : ℕ) → Read m k ≡ rowsOf o → WasRead o m k
-was-read (refused r) m k e = let z : _≡_ {A = ℕ} 0 1 = cc in absurd (omega arith)
-was-read (good curves) m k e = record { curves = curves; was = refl; profiles-many = cc; samples-many = cc }
 
 no-fault : (o : Option RowFault) → Nothing ≡ faultOf o → o ≡ none
 no-fault none e = refl
@@ -63,44 +53,47 @@ module _ (counts : Counts) (timetable text legs configurations profiles : List �
   powers-refused {r} a rows draft lists = part-refused r (rw (not-read outcome r (sym a ∙ read .answer)))
 
   module _ {m k : ℕ} (a : answer ≡ Read m k) where
-    got : WasRead outcome m k
-    got = was-read outcome m k (sym a ∙ read .answer)
+    got : WasRead rowsOf (Read m k) outcome
+    got = was-read rowsOf (Read m k) (λ r e. let z : _≡_ {A = ℕ} 0 1 = cc in omega arith) outcome (sym a ∙ read .answer)
 
-    table : profiles′ ≡ over (profileTable (got .curves)) profiles
-    table = read .profile-table (got .curves) (got .was)
+    profiles-many : m ≡ length (got .what)
+    profiles-many = cc (got .told)
 
-    tabled : (rows : List Row) → Draft timetable legs (counts .legs) rows → Lists configurations rows → Tabled legs (counts .legs) configurations profiles′ m rows (got .curves)
+    table : profiles′ ≡ over (profileTable (got .what)) profiles
+    table = read .profile-table (got .what) (got .was)
+
+    tabled : (rows : List Row) → Draft timetable legs (counts .legs) rows → Lists configurations rows → Tabled legs (counts .legs) configurations profiles′ m rows (got .what)
     tabled rows draft lists =
         record {
           rows-many = draft .many;
           legs-hold = draft .legs-hold;
           configurations-hold = lists .lists-hold;
-          profiles-many = got .profiles-many;
-          profiles-hold = front-held (profileTable (got .curves)) profiles table;
+          profiles-many = profiles-many;
+          profiles-hold = front-held (profileTable (got .what)) profiles table;
         }
 
     -- what 12 and 13 are tested over
     pub powers-able : Listed timetable legs (counts .legs) configurations → Tables legs (counts .legs) configurations × Records profileWidth m profiles′
     powers-able l = (
       tabled-tables (tabled (l .rows) (l .draft) (l .lists)),
-      front-records profileNumbers profileWidth (omega arith) (λ p. refl) (profilesFrom 0 (got .curves)) profiles
-          (got .profiles-many ∙ sym (profiles-length 0 (got .curves))) table,
+      front-records profileNumbers profileWidth (omega arith) (λ p. refl) (profilesFrom 0 (got .what)) profiles
+          (profiles-many ∙ sym (profiles-length 0 (got .what))) table,
     )
 
     module _ {fault : Fault} (f : FirstFault legs (counts .legs) configurations profiles′ m fault) where
-      found : (rows : List Row) → Draft timetable legs (counts .legs) rows → Lists configurations rows → fault ≡ faultOf (firstFault 0 (profileFault (got .curves)) rows)
-      found rows draft lists = f rows (got .curves) (tabled rows draft lists)
+      found : (rows : List Row) → Draft timetable legs (counts .legs) rows → Lists configurations rows → fault ≡ faultOf (firstFault 0 (profileFault (got .what)) rows)
+      found rows draft lists = f rows (got .what) (tabled rows draft lists)
 
       pub powers-row : {row number : ℕ} {r : Refusal} → fault ≡ AtRow row number → r ≡ refusal number timetableFile (placeOfRow timetable row)
           → PowersRead counts timetable text legs configurations profiles samples (Refused r) profiles′ samples′
       unfolding powersOf
       powers-row {row} {number} {r} q e rows draft lists =
-          part-refused r (rw (got .was, a-fault (firstFault 0 (profileFault (got .curves)) rows) row number (sym q ∙ found rows draft lists)) (ap refused (sym e)))
+          part-refused r (rw (got .was, a-fault (firstFault 0 (profileFault (got .what)) rows) row number (sym q ∙ found rows draft lists)) (ap refused (sym e)))
 
       pub powers-whole : fault ≡ Nothing
           → PowersRead counts timetable text legs configurations profiles samples
           (Whole (record { legs = counts .legs; configurations = counts .configurations; profiles = m; samples = k; constraints = 0; tracks = 0; subnets = 0 })) profiles′ samples′
       unfolding powersOf
       powers-whole q rows draft lists =
-          part-good (got .curves) (rw (got .was, no-fault (firstFault 0 (profileFault (got .curves)) rows) (sym q ∙ found rows draft lists)))
-          (cc (got .profiles-many, got .samples-many)) (table, read .sample-table (got .curves) (got .was))
+          part-good (got .what) (rw (got .was, no-fault (firstFault 0 (profileFault (got .what)) rows) (sym q ∙ found rows draft lists)))
+          (cc (got .told)) (table, read .sample-table (got .what) (got .was))

@@ -24,24 +24,13 @@ use Rattle.constraints.proofs.Filling.{tracks-held}
 use Rattle.files.specs.declared.Counts.{Counts}
 use Rattle.files.specs.declared.Filed.the-variants.{Whole, Refused}
 use Rattle.files.specs.Parts.{rulesOf, Draft, Drafted, RulesRead}
-use Rattle.files.proofs.Parted.{same-refusal, part-refused, part-good}
+use Rattle.files.proofs.Parted.{WasRead, was-read, same-refusal, part-refused, part-good}
 use Rattle.files.proofs.Fronts.{front-records, legs-records, legs-ids, legs-tracks}
 
 -- the constraints' refusals lie in the constraints
 own-file : (o : Reading Document) → Refuses (λ r. r .file ≡ constraintsFile) o → (number place : ℕ) → NotRead number place ≡ readOf o → o ≡ refused (refusal number constraintsFile place)
 own-file (refused r) (refuses f) number place e = same-refusal r (cc) f (cc)
 own-file (good d) q number place e = let z : _≡_ {A = ℕ} 0 1 = cc in absurd (omega arith)
-
-record WasRead (o : Reading Document) (k m opened : ℕ) : Type 0 where
-  document : Document
-  was : o ≡ good document
-  constraints-many : k ≡ length (document .constraints)
-  tracks-many : m ≡ length (document .tracks)
-  subnets-many : opened ≡ document .opened
-
-was-read : (o : Reading Document) (k m opened : ℕ) → WholeText k m opened ≡ readOf o → WasRead o k m opened
-was-read (refused r) k m opened e = let z : _≡_ {A = ℕ} 0 1 = cc in absurd (omega arith)
-was-read (good d) k m opened e = record { document = d; was = refl; constraints-many = cc; tracks-many = cc; subnets-many = cc }
 
 -- what the constraints are read over
 pub rules-able : {timetable legs : List ℕ} {n : ℕ} → Drafted timetable legs n → Records legWidth n legs × (n ≤ mostLegs)
@@ -68,24 +57,27 @@ module _ (counts : Counts) (timetable text legs constraints tracks constraints�
       (ap refused (sym e)))
 
   module _ {k m opened : ℕ} (a : answer ≡ WholeText k m opened) where
-    got : WasRead outcome k m opened
-    got = was-read outcome k m opened (sym a ∙ read .answer)
+    got : WasRead readOf (WholeText k m opened) outcome
+    got = was-read readOf (WholeText k m opened) (λ r e. let z : _≡_ {A = ℕ} 0 1 = cc in omega arith) outcome (sym a ∙ read .answer)
 
-    track-table : tracks′ ≡ over (flat trackNumbers (got .document .tracks)) tracks
-    track-table = read .tables (got .document) (got .was) .by-file
+    tracks-many : m ≡ length (got .what .tracks)
+    tracks-many = cc (got .told)
+
+    track-table : tracks′ ≡ over (flat trackNumbers (got .what .tracks)) tracks
+    track-table = read .tables (got .what) (got .was) .by-file
 
     -- what 15 is tested over
     pub fifteen-able : Drafted timetable legs (counts .legs) → Records legWidth (counts .legs) legs × Records trackWidth m tracks′
     fifteen-able d =
-        (rules-able d .0, front-records trackNumbers trackWidth (omega arith) (λ t. refl) (got .document .tracks) tracks (got .tracks-many) track-table)
+        (rules-able d .0, front-records trackNumbers trackWidth (omega arith) (λ t. refl) (got .what .tracks) tracks tracks-many track-table)
 
     module _ (found : Found) (f : Fifteen legs (counts .legs) tracks′ m found) where
-      fault : (rows : List Row) → Draft timetable legs (counts .legs) rows → faultAt found ≡ firstFault 0 (subnetFault (got .document .tracks)) rows
+      fault : (rows : List Row) → Draft timetable legs (counts .legs) rows → faultAt found ≡ firstFault 0 (subnetFault (got .what .tracks)) rows
       fault rows draft =
-          f rows (got .document .tracks)
+          f rows (got .what .tracks)
           (record {
             of-rows = legs-tracks legs (counts .legs) rows (draft .many) (draft .legs-hold);
-            of-tracks = ap₂ (column trackWidth) (got .tracks-many) track-table ∙ tracks-held (got .document .tracks) tracks;
+            of-tracks = ap₂ (column trackWidth) tracks-many track-table ∙ tracks-held (got .what .tracks) tracks;
           })
 
       pub rules-row : {row : ℕ} {r : Refusal} → found ≡ At row → r ≡ refusal noSubnet timetableFile (placeOfRow timetable row)
@@ -109,5 +101,5 @@ module _ (counts : Counts) (timetable text legs constraints tracks constraints�
           constraints′ tracks′
       unfolding rulesOf
       rules-whole q rows draft =
-          part-good (got .document) (rw (by-rows rows draft, got .was, ← fault rows draft, q))
-          (cc (got .constraints-many, got .tracks-many, got .subnets-many)) (read .tables (got .document) (got .was) .by-kind, track-table)
+          part-good (got .what) (rw (by-rows rows draft, got .was, ← fault rows draft, q))
+          (cc (got .told)) (read .tables (got .what) (got .was) .by-kind, track-table)

@@ -1,13 +1,12 @@
--- A flat table's ids by their places: how many, each of them, the first so many, one more. Assumes nothing.
-use Prim.Native.Nat.{ℕ, _+_, _*_, _≤_, _<_}
+-- A flat table's ids by their places: how many, each of them, the first so many. Assumes nothing.
+use Prim.Native.Nat.{ℕ, _*_, _≤_, _<_}
 use mathlib.Core.Path.{_≡_, sym, _∙_}
-use mathlib.Core.List.{List, [], _∷_, _++_}
+use mathlib.Core.List.{List}
 use native.Mathlib.Omega.{arith}
-use native.Mathlib.Numerals.{add-one}
 use native.Mathlib.Nat.{mul-le-mul-right, suc-mul}
 use lib.ListN.{length, getD, take}
 use lib.Seq.{getD-take, length-take-le, ext-getD}
-use Rattle.rules.proofs.Lists.{tabulate-length, tabulate-at, tabulate-more}
+use Rattle.rules.proofs.Lists.{tabulate-length, tabulate-at}
 use Rattle.ids.specs.Column.{Records, column}
 
 module _ (width n : ℕ) (table : List ℕ) where
@@ -36,8 +35,3 @@ take-column width m n table h =
     at i k =
         let below : i < m = omega (arith, count) in
         getD-take m (column width n table) i 0 below ∙ column-at width n table i (omega arith) ∙ sym (column-at width m table i below)
-
--- one record more
-pub column-more : (width n : ℕ) (table : List ℕ) → column width (n + 1) table ≡ column width n table ++ getD table (n * width) 0 ∷ []
-unfolding column
-column-more width n table = rw add-one (tabulate-more n (λ i. getD table (i * width) 0))

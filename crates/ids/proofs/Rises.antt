@@ -10,6 +10,17 @@ use borrow.Author.Tests.{ltb-true, ltb-false}
 use Rattle.ids.specs.Column.{Records, Rising}
 use Rattle.ids.proofs.Column.{column-length, column-at, take-column, in-table}
 
+-- one step more: what holds from each place to the next so far, and at the last step too
+pub steps-more : (R : ℕ → ℕ → Type 0) (i : ℕ) → ((j : ℕ) → j + 1 < i → R j (j + 1)) → 1 ≤ i → R (i - 1) i → (j : ℕ) → j + 1 < i + 1 → R j (j + 1)
+steps-more R i before one last j k = go (ltb (j + 1) i) refl
+  where
+    go : (t : Bool) → ltb (j + 1) i ≡ t → R j (j + 1)
+    go true e = before j (ltb-true (j + 1) i e)
+    go false e =
+        let this : j + 1 ≡ i = omega (arith, ltb-false (j + 1) i e) in
+        let was : i - 1 ≡ j = omega arith in
+        rw this (rw was at last)
+
 module _ {width n : ℕ} {table : List ℕ} where
   -- the id before an id stands in the table too
   pub before-in-table : Records width n table → (i : ℕ) → i < n → (i - 1) * width < length table
@@ -46,11 +57,5 @@ module _ {width n : ℕ} {table : List ℕ} where
   rises-one z records = rises-steps records (omega arith) (λ j h. absurd (omega arith))
 
   pub rises-more : {i : ℕ} → Rising width n i table → 1 ≤ i → i < n → getD table ((i - 1) * width) 0 < getD table (i * width) 0 → Rising width n (i + 1) table
-  rises-more {i} r one h up = rises-steps (r .records) (omega arith) (λ j k. go j k (ltb (j + 1) i) refl)
-    where
-      go : (j : ℕ) → j + 1 < i + 1 → (t : Bool) → ltb (j + 1) i ≡ t → getD table (j * width) 0 < getD table ((j + 1) * width) 0
-      go j k true e = step-at r j (ltb-true (j + 1) i e)
-      go j k false e =
-          let this : j + 1 ≡ i = omega (arith, ltb-false (j + 1) i e) in
-          let last : i - 1 ≡ j = omega arith in
-          rw this (rw last at up)
+  rises-more {i} r one h up =
+      rises-steps (r .records) (omega arith) (steps-more (λ a b. getD table (a * width) 0 < getD table (b * width) 0) i (step-at r) one up)

@@ -7,51 +7,51 @@ use mathlib.Core.Option.{Option, none, some}
 use native.Mathlib.Omega.{arith}
 use native.Mathlib.Numerals.{add-one}
 use lib.Dec.{ltb, eqb}
-use lib.ListN.{length, getD, take, drop, length-drop}
-use lib.Seq.{getD-drop, getD-take, drop-drop}
-use borrow.Author.Tests.{eq-eqb, ne-eqb, lt-ltb, le-ltb}
+use lib.ListN.{length, getD, take, drop, length-drop, take-append-drop}
+use lib.Seq.{getD-drop, drop-drop}
+use borrow.Author.Tests.{lt-ltb, le-ltb}
 use Rattle.rules.specs.Limits.{legWidth}
-use Rattle.rules.specs.Lists.{flat, over}
+use Rattle.rules.specs.Lists.{flat, over, startsWith}
 use Rattle.rules.specs.Answers.{differs, good, _>>=_}
 use Rattle.rules.specs.Rows.{placeOfRow}
 use Rattle.rules.specs.Timetable.{Row, idsOf, legsFrom, legsOf, legNumbers, choicesOf}
 use Rattle.rules.specs.Reading.{sameLeg, differsFrom, matched}
+use Rattle.rules.proofs.Truth.{and-true}
+use Rattle.rules.proofs.Lists.{tabulate-at}
+use Rattle.text.proofs.Names.{start-same, start-other, start-all}
 use Rattle.timetable.specs.RowOver.{heldIds}
 use Rattle.timetable.proofs.Words.{length-snoc}
 use Rattle.solution.specs.declared.compare.Compared.{Compared}
 use Rattle.solution.specs.declared.reader.Choices.{Choices}
 use Rattle.solution.specs.declared.reader.Choices.the-variants.{Fault, Read}
-use Rattle.solution.specs.Against.{sameAt, differsAt, comparedWith}
+use Rattle.solution.specs.Against.{InTable, sameAt, differsAt, comparedWith}
 use Rattle.solution.specs.Promise.{HoldsRows, choicesAnswer}
 use Rattle.solution.specs.Whole.{choicesAfter, comparedAnswer}
 
--- ---- five columns
+-- ---- the ids of a row, one after the other: those that are left say what all say
 
-module _ (a b c d e f g h i j : ℕ) where
-  abbrev five : Bool
-  five = eqb a f && (eqb b g && (eqb c h && (eqb d i && eqb e j)))
+module _ (numbers legs : List ℕ) (row : ℕ) where
+  held-at : (k : ℕ) → k < length (heldIds numbers) → getD (heldIds numbers) k 0 ≡ getD numbers k 0
+  held-at = tabulate-at (length (heldIds numbers)) (λ k. getD numbers k 0) 0
 
-  pub other-leg : (a ≡ f → ⊥) → false ≡ five
-  other-leg p = rw (ne-eqb a f p)
+  module _ (k : ℕ) (left : startsWith (drop k (heldIds numbers)) (drop k (drop (row * legWidth) legs)) ≡ sameAt numbers legs row) where
+    pub same-next : InTable row legs → k < length (heldIds numbers) → getD legs (row * legWidth + k) 0 ≡ getD numbers k 0
+        → startsWith (drop (k + 1) (heldIds numbers)) (drop (k + 1) (drop (row * legWidth) legs)) ≡ sameAt numbers legs row
+    same-next t h q =
+        start-same (heldIds numbers) (drop (row * legWidth) legs) k _ left h (omega (arith, length-drop (row * legWidth) legs))
+        (getD-drop (row * legWidth) legs k 0 ∙ q ∙ sym (held-at k h))
 
-  pub other-train : a ≡ f → (b ≡ g → ⊥) → false ≡ five
-  other-train p q = rw (eq-eqb a f p, ne-eqb b g q)
+    pub other-id : InTable row legs → k < length (heldIds numbers) → (getD legs (row * legWidth + k) 0 ≡ getD numbers k 0 → ⊥) → false ≡ sameAt numbers legs row
+    other-id t h q =
+        start-other (heldIds numbers) (drop (row * legWidth) legs) k _ left h (omega (arith, length-drop (row * legWidth) legs))
+        (λ e. q (sym (getD-drop (row * legWidth) legs k 0) ∙ e ∙ held-at k h))
 
-  pub other-track : a ≡ f → b ≡ g → (c ≡ h → ⊥) → false ≡ five
-  other-track p q r = rw (eq-eqb a f p, eq-eqb b g q, ne-eqb c h r)
-
-  pub other-start : a ≡ f → b ≡ g → c ≡ h → (d ≡ i → ⊥) → false ≡ five
-  other-start p q r s = rw (eq-eqb a f p, eq-eqb b g q, eq-eqb c h r, ne-eqb d i s)
-
-  pub by-end : (t : Bool) → a ≡ f → b ≡ g → c ≡ h → d ≡ i → eqb e j ≡ t → t ≡ five
-  by-end t p q r s u = rw (eq-eqb a f p, eq-eqb b g q, eq-eqb c h r, eq-eqb d i s) (sym u)
+    pub all-same : length (heldIds numbers) ≤ k → true ≡ sameAt numbers legs row
+    all-same h = start-all (heldIds numbers) (drop (row * legWidth) legs) k _ left h
 
 -- ---- one row more
 
 module _ (before : Compared) (numbers legs : List ℕ) (n row place : ℕ) where
-  pub keeps-first : before .differs ≡ true → before ≡ comparedWith before numbers legs n row place
-  keeps-first e = rw e
-
   module _ (so-far : before .differs ≡ false) where
     pub keeps-none : row < n → (t : Bool) → t ≡ sameAt numbers legs row → t ≡ true → before ≡ comparedWith before numbers legs n row place
     keeps-none h t q u = rw (so-far, lt-ltb row n h, ← q, u)
@@ -87,7 +87,7 @@ module _ (c : Compared) (rows n end : ℕ) where
 
 -- the ids of row k
 ids-in : (first k : ℕ) (rows : List Row) (a : Row) (more : List Row) (rest : List ℕ) → drop k rows ≡ a ∷ more
-    → take 5 (drop (k * legWidth) (flat legNumbers (legsFrom first rows) ++ rest)) ≡ idsOf a
+    → take (length (idsOf a)) (drop (k * legWidth) (flat legNumbers (legsFrom first rows) ++ rest)) ≡ idsOf a
 ids-in first zero [] a more rest e = let z : _≡_ {A = ℕ} 0 1 = cc in absurd (omega arith)
 ids-in first zero (r ∷ rows) a more rest e = let same : r ≡ a = cc in rw (← same)
 ids-in first (suc k) [] a more rest e = let z : _≡_ {A = ℕ} 0 1 = cc in absurd (omega arith)
@@ -96,23 +96,14 @@ ids-in first (suc k) (r ∷ rows) a more rest e =
     rw at (ids-in (first + length (r .list)) k rows a more rest e)
 
 module _ {legs : List ℕ} {n : ℕ} {draft : List Row} (holds : HoldsRows legs n draft) where
-  ids-at : (k : ℕ) (a : Row) (more : List Row) → drop k draft ≡ a ∷ more → take 5 (drop (k * legWidth) legs) ≡ idsOf a
+  ids-at : (k : ℕ) (a : Row) (more : List Row) → drop k draft ≡ a ∷ more → take (length (idsOf a)) (drop (k * legWidth) legs) ≡ idsOf a
   unfolding over
   ids-at k a more e = rw (holds .front) (ids-in 0 k draft a more (drop (length (flat legNumbers (legsOf draft))) legs) e)
 
   -- row k of the table differs where the draft's row does
   same-leg : (k : ℕ) (a : Row) (more : List Row) (r : Row) (numbers : List ℕ) → drop k draft ≡ a ∷ more → heldIds numbers ≡ idsOf r → sameAt numbers legs k ≡ sameLeg a r
   same-leg k a more r numbers e ids =
-      rw (first, column 1 (omega arith), column 2 (omega arith), column 3 (omega arith), column 4 (omega arith), id 0, id 1, id 2, id 3, id 4)
-    where
-      column : (j : ℕ) → j < 5 → getD legs (k * legWidth + j) 0 ≡ getD (idsOf a) j 0
-      column j h = sym (getD-drop (k * legWidth) legs j 0) ∙ sym (getD-take 5 (drop (k * legWidth) legs) j 0 h) ∙ ap (λ (l : List ℕ). getD l j 0) (ids-at k a more e)
-
-      first : getD legs (k * legWidth) 0 ≡ a .leg
-      first = let at : k * legWidth ≡ k * legWidth + 0 = omega arith in ap (λ (m : ℕ). getD legs m 0) at ∙ column 0 (omega arith)
-
-      id : (j : ℕ) → getD (heldIds numbers) j 0 ≡ getD (idsOf r) j 0
-      id j = ap (λ (l : List ℕ). getD l j 0) ids
+      rw (ids, ← take-append-drop (length (idsOf a)) (drop (k * legWidth) legs), ids-at k a more e, and-true (eqb (a .end) (r .end)))
 
 -- as many choices as rows
 pub choices-length : (rows : List Row) → length (choicesOf rows) ≡ length rows

@@ -2,7 +2,7 @@
 -- Assumes nothing.
 use Prim.Native.Nat.{ℕ, zero, suc, _+_, _*_, _/_, _≤_, _<_}
 use mathlib.Core.Path.{_≡_, refl, ap, sym, _∙_}
-use mathlib.Core.Bool.{Bool, true, false, not, cond, _&&_, _||_}
+use mathlib.Core.Bool.{Bool, true, false, not, cond, _&&_}
 use mathlib.Core.List.{List, [], _∷_, _++_, map}
 use mathlib.Core.Option.{Option, none, some}
 use native.Mathlib.Omega.{arith}
@@ -13,14 +13,15 @@ use mir.Syntax.{w32}
 use mir.Val.{Fits}
 use borrow.Author.Tests.{leb-true, leb-false, lt-leb, ltb-true, le-leb, le-ltb, lt-ltb, not-false}
 use Rattle.rules.specs.Limits.{mostId, leastTravel, mostTravel, mostLegs, mostListed, mostConfigurations, configurationWidth}
-use Rattle.rules.specs.Lists.{every, any, flat, over, placeFrom}
+use Rattle.rules.specs.Lists.{every, any, flat, over}
 use Rattle.rules.specs.Answers.{outOfRange, tooMany, alreadySeen, nominalNotListed, noRoom, _needs_, Test, judge}
 use Rattle.rules.specs.Timetable.{Row, formOf, idsOf, inRange, offers, listed, rowTests, judgeForm, solutionFits}
 use Rattle.rules.specs.declared.sizes.Configuration.{Configuration}
 use Rattle.rules.proofs.Truth.{all-append, all-map}
 use Rattle.ids.specs.declared.Found.{Found}
 use Rattle.ids.specs.declared.Found.the-variants.{At, Nothing}
-use Rattle.ids.specs.Column.{Records, column, foundOf, placeOf, isNew}
+use Rattle.ids.specs.Column.{Records, column, placeOf, isNew}
+use Rattle.ids.proofs.Places.{some-there, none-there}
 use Rattle.ids.proofs.Written.{column-written, new-among}
 use Rattle.timetable.specs.declared.line.Line.{Line}
 use Rattle.timetable.specs.Held.{stoppedWith, storedAt, nominalOf}
@@ -265,7 +266,7 @@ module _ (H : ℕ) (line : Line) (choices : List ℕ) (k : ℕ) (lowest-is : k �
       }
 
   -- departure plus travel is at most the horizon
-  pub ends-by : getD (line .numbers) 5 0 + getD (line .numbers) 6 0 ≤ H
+  pub ends-by : nominalOf (line .numbers) .departure + nominalOf (line .numbers) .travel ≤ H
   ends-by =
       let n : Configuration = nominalOf (line .numbers) in
       let i = and-left (inRange H n) (not (line .wide)) (and-right (every (λ id. leb id mostId) (heldIds (line .numbers))) _ (passes .0)) in
@@ -274,10 +275,10 @@ module _ (H : ℕ) (line : Line) (choices : List ℕ) (k : ℕ) (lowest-is : k �
 
   -- so it can be packed
   module _ {bytes : List ℕ} (alone : Alone H bytes) where
-    pub product-fits : Fits w32 (getD (line .numbers) 5 0 * travels)
+    pub product-fits : Fits w32 (nominalOf (line .numbers) .departure * travels)
     product-fits = omega (arith, ends-by, alone .horizon)
 
-    pub packed-fits : Fits w32 (getD (line .numbers) 5 0 * travels + getD (line .numbers) 6 0)
+    pub packed-fits : Fits w32 (nominalOf (line .numbers) .departure * travels + nominalOf (line .numbers) .travel)
     packed-fits = omega (arith, ends-by, alone .horizon)
 
 -- ---- whether an id is new
@@ -286,22 +287,12 @@ module _ (rows above id : ℕ) (choices : List ℕ) where
   pub new-above : above ≤ id → true ≡ newAfter rows above id choices
   new-above h = rw (le-leb above id h)
 
-  found-in : (ids : List ℕ) (k : ℕ) (f : Found) → f ≡ foundOf (placeFrom k (λ x. eqb x id) ids) → (f ≡ Nothing → any (λ x. eqb x id) ids ≡ false) × ((i : ℕ) → f ≡ At i → any (λ x. eqb x id) ids ≡ true)
-  found-in [] k f e = (λ q. refl, λ i q. absurd (let z : _≡_ {A = ℕ} 0 1 = cc in omega arith))
-  found-in (x ∷ ids) k f e = go (eqb x id) e (found-in ids (suc k) f)
-    where
-      go : (t : Bool) → f ≡ foundOf (cond t (some k) (placeFrom (suc k) (λ y. eqb y id) ids))
-          → (f ≡ foundOf (placeFrom (suc k) (λ y. eqb y id) ids) → (f ≡ Nothing → any (λ y. eqb y id) ids ≡ false) × ((i : ℕ) → f ≡ At i → any (λ y. eqb y id) ids ≡ true))
-          → (f ≡ Nothing → (t || any (λ y. eqb y id) ids) ≡ false) × ((i : ℕ) → f ≡ At i → (t || any (λ y. eqb y id) ids) ≡ true)
-      go true q h = (λ n. absurd (let z : _≡_ {A = ℕ} 0 1 = cc in omega arith), λ i n. refl)
-      go false q h = h q
-
   module _ (f : Found) (h : id < above) (e : f ≡ placeOf id (column configurationWidth rows choices)) where
     pub new-found : (i : ℕ) → f ≡ At i → false ≡ newAfter rows above id choices
-    new-found i q = rw (lt-leb above id h, found-in (column configurationWidth rows choices) 0 f e .1 i q)
+    new-found i q = rw (lt-leb above id h, some-there id (column configurationWidth rows choices) f e i q)
 
     pub new-nothing : f ≡ Nothing → true ≡ newAfter rows above id choices
-    new-nothing q = rw (lt-leb above id h, found-in (column configurationWidth rows choices) 0 f e .0 q)
+    new-nothing q = rw (lt-leb above id h, none-there id (column configurationWidth rows choices) f e q)
 
 pub three-wide : (n : ℕ) (table : List ℕ) → n * configurationWidth ≤ length table → Records configurationWidth n table
 three-wide n table h = record { one = omega arith; whole = h }

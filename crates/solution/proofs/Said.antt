@@ -11,7 +11,7 @@ use lib.ListN.{length, getD}
 use lib.Seq.{drop-length}
 use borrow.Author.Tests.{leb-true}
 use Rattle.rules.specs.Limits.{mostId}
-use Rattle.rules.specs.Lists.{_>>=_, every}
+use Rattle.rules.specs.Lists.{_>>=_}
 use Rattle.rules.specs.Answers.{badRow, timetableFile}
 use Rattle.rules.specs.Bytes.{lineFeed}
 use Rattle.rules.specs.Timetable.{Row, formOf, configuration, idsOf, judgeForm, timetableHeader}

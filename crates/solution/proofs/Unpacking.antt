@@ -18,7 +18,7 @@ use Rattle.rules.specs.declared.sizes.Configuration.{Configuration}
 use Rattle.rules.proofs.Lists.{tabulate-length, tabulate-ext, tabulate-more}
 use Rattle.timetable.specs.Held.{storedAt}
 use Rattle.timetable.proofs.Words.{flat-append, flat-length, over-more, over-length, stored-fits, and-left, and-right}
-use Rattle.solution.specs.Before.{travels, packedRow}
+use Rattle.solution.specs.Before.{travels, timesAt, profileAt, packedRow}
 use Rattle.solution.specs.Whole.{unpackedAt, unpacked}
 use Rattle.solution.proofs.Judging.{packed-length}
 use Rattle.solution.proofs.Differing.{choices-length}
@@ -55,9 +55,9 @@ module _ (n : ℕ) (table : List ℕ) (fits : n * configurationWidth ≤ length 
       ∙ ap (λ (x : ℕ). getD table (x + k) 0) (written-length i)
 
   module _ (i : ℕ) (now : List ℕ) (u : Unpacks n table i now) where
-    pub unpack-on : (both profile : ℕ) (now′ : List ℕ) → i < n → both ≡ getD now (i * configurationWidth + 1) 0 → profile ≡ getD now (i * configurationWidth + 2) 0
-        → now′ ≡ storedAt configurationWidth i (both / travels ∷ both % travels ∷ profile ∷ []) now → Unpacks n table (i + 1) now′
-    unpack-on both profile now′ h b p s =
+    pub unpack-on : (times profile : ℕ) (now′ : List ℕ) → i < n → times ≡ getD now (i * configurationWidth + timesAt) 0 → profile ≡ getD now (i * configurationWidth + profileAt) 0
+        → now′ ≡ storedAt configurationWidth i (times / travels ∷ times % travels ∷ profile ∷ []) now → Unpacks n table (i + 1) now′
+    unpack-on times profile now′ h b p s =
         record {
           within = omega arith;
           long = ap length now-is ∙ over-length (written (i + 1)) table (omega (arith, written-length (i + 1)));
@@ -67,10 +67,10 @@ module _ (n : ℕ) (table : List ℕ) (fits : n * configurationWidth ≤ length 
         one : List ℕ
         one = configurationNumbers (unpackedAt table i)
 
-        read : both / travels ∷ both % travels ∷ profile ∷ [] ≡ one
+        read : times / travels ∷ times % travels ∷ profile ∷ [] ≡ one
         read =
-            let b′ : both ≡ getD table (i * configurationWidth + 1) 0 = b ∙ ap (λ (t : List ℕ). getD t (i * configurationWidth + 1) 0) (u .now-is) ∙ later i 1 in
-            let p′ : profile ≡ getD table (i * configurationWidth + 2) 0 = p ∙ ap (λ (t : List ℕ). getD t (i * configurationWidth + 2) 0) (u .now-is) ∙ later i 2 in
+            let b′ : times ≡ getD table (i * configurationWidth + timesAt) 0 = b ∙ ap (λ (t : List ℕ). getD t (i * configurationWidth + timesAt) 0) (u .now-is) ∙ later i timesAt in
+            let p′ : profile ≡ getD table (i * configurationWidth + profileAt) 0 = p ∙ ap (λ (t : List ℕ). getD t (i * configurationWidth + profileAt) 0) (u .now-is) ∙ later i profileAt in
             rw (b′, p′)
 
         more : written (i + 1) ≡ written i ++ one
@@ -82,7 +82,7 @@ module _ (n : ℕ) (table : List ℕ) (fits : n * configurationWidth ≤ length 
         now-is : now′ ≡ unpacked (i + 1) table
         now-is =
             s
-            ∙ stored-fits configurationWidth i (both / travels ∷ both % travels ∷ profile ∷ []) now (omega (arith, u .long))
+            ∙ stored-fits configurationWidth i (times / travels ∷ times % travels ∷ profile ∷ []) now (omega (arith, u .long))
             ∙ ap (λ (x : List ℕ). sets now (i * configurationWidth) x) read
             ∙ ap (λ (x : List ℕ). sets x (i * configurationWidth) one) (u .now-is)
             ∙ ap (λ (x : ℕ). sets (unpacked i table) x one) (sym (written-length i))
@@ -97,8 +97,8 @@ module _ (n : ℕ) (table : List ℕ) (fits : n * configurationWidth ≤ length 
 -- an entry in front
 entry-past : (r : Row) (t : List ℕ) (i : ℕ) → unpackedAt (packedRow r ++ t) (suc i) ≡ unpackedAt t i
 entry-past r t i =
-    let a : suc i * configurationWidth + 1 ≡ suc (suc (suc (i * configurationWidth + 1))) = omega arith in
-    let b : suc i * configurationWidth + 2 ≡ suc (suc (suc (i * configurationWidth + 2))) = omega arith in
+    let a : suc i * configurationWidth + timesAt ≡ suc (suc (suc (i * configurationWidth + timesAt))) = omega arith in
+    let b : suc i * configurationWidth + profileAt ≡ suc (suc (suc (i * configurationWidth + profileAt))) = omega arith in
     rw (a, b)
 
 -- a choice in range comes out as it went in

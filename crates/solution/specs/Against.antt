@@ -2,23 +2,20 @@
 use Prim.Native.Nat.{ℕ, _+_, _*_, _≤_}
 use mathlib.Core.Bool.{Bool, true, false, cond, _&&_}
 use mathlib.Core.List.{List}
-use lib.Dec.{ltb, eqb}
-use lib.ListN.{length, getD}
+use lib.Dec.{ltb}
+use lib.ListN.{length, drop}
 use Rattle.rules.specs.Limits.{legWidth}
+use Rattle.rules.specs.Lists.{startsWith}
+use Rattle.timetable.specs.RowOver.{heldIds}
 use Rattle.solution.specs.declared.compare.Compared.{Compared}
 
 -- the table has a whole row there
 abbrev pub InTable : (row : ℕ) (legs : List ℕ) → Type 0
 InTable row legs = row * legWidth + legWidth ≤ length legs
 
--- a row's ids, as they are held, are those of a row of the leg table
+-- a row of the leg table begins with a row's ids, as they are held
 abbrev pub sameAt : (numbers legs : List ℕ) (row : ℕ) → Bool
-sameAt numbers legs row =
-    eqb (getD legs (row * legWidth) 0) (getD numbers 0 0)
-    && (eqb (getD legs (row * legWidth + 1) 0) (getD numbers 1 0)
-    && (eqb (getD legs (row * legWidth + 2) 0) (getD numbers 2 0)
-    && (eqb (getD legs (row * legWidth + 3) 0) (getD numbers 3 0)
-    && eqb (getD legs (row * legWidth + 4) 0) (getD numbers 4 0))))
+sameAt numbers legs row = startsWith (heldIds numbers) (drop (row * legWidth) legs)
 
 abbrev pub noneDiffers : Compared
 noneDiffers = record { differs = false; place = 0 }

@@ -20,6 +20,13 @@ use Rattle.timetable.specs.RowOver.{heldIds, rangeHolds, countsHold}
 abbrev pub travels : ℕ
 travels = suc mostTravel
 
+-- where such an entry holds both times, and the profile
+abbrev pub timesAt : ℕ
+timesAt = 1
+
+abbrev pub profileAt : ℕ
+profileAt = 2
+
 -- an id and a choice in one entry
 abbrev pub packed : (id : ℕ) → Configuration → List ℕ
 packed id c = id ∷ (c .departure * travels + c .travel) ∷ c .profile ∷ []

@@ -6,7 +6,11 @@ use lib.ListN.{length, drop}
 use Rattle.rules.specs.Bytes.{lineFeed}
 use Rattle.text.specs.Places.{upTo}
 
--- eight bytes stand from a place on, and the line ends where it ends from behind them
+-- so many bytes are looked at together
+abbrev pub together : ℕ
+together = 8
+
+-- they stand from a place on, and the line ends where it ends from behind them
 pub record Clear (text : List ℕ) (at : ℕ) : Type 0 where
-  pub there : at + 8 ≤ length text
-  pub on : at + 8 + upTo lineFeed (drop (at + 8) text) ≡ at + upTo lineFeed (drop at text)
+  pub there : at + together ≤ length text
+  pub on : at + together + upTo lineFeed (drop (at + together) text) ≡ at + upTo lineFeed (drop at text)

@@ -18,7 +18,7 @@ use Rattle.rules.specs.declared.sizes.Configuration.{Configuration}
 use Rattle.solution.specs.declared.compare.Compared.{Compared}
 use Rattle.solution.specs.declared.reader.Choices.{Choices}
 use Rattle.solution.specs.declared.reader.Choices.the-variants.{Fault, Read}
-use Rattle.solution.specs.Before.{travels, packedRow}
+use Rattle.solution.specs.Before.{travels, timesAt, profileAt, packedRow}
 use Rattle.solution.specs.Promise.{Able, HoldsRows, choicesAnswer}
 
 -- ---- the rows
@@ -59,7 +59,7 @@ pub record RowsRead (H : ℕ) (text legs : List ℕ) (n : ℕ) (lent : List ℕ)
 
 abbrev pub unpackedAt : List ℕ → ℕ → Configuration
 unpackedAt table i =
-    configuration (getD table (i * configurationWidth + 1) 0 / travels) (getD table (i * configurationWidth + 1) 0 % travels) (getD table (i * configurationWidth + 2) 0)
+    configuration (getD table (i * configurationWidth + timesAt) 0 / travels) (getD table (i * configurationWidth + timesAt) 0 % travels) (getD table (i * configurationWidth + profileAt) 0)
 
 abbrev pub unpacked : (n : ℕ) → List ℕ → List ℕ
 unpacked n table = over (flat configurationNumbers (tabulate n (unpackedAt table))) table

@@ -11,11 +11,22 @@ use ids::Found;
 use rules::answers::Refusal;
 use rules::sizes::Choice;
 use rules::sizes::Configuration;
+use rules::sizes::Leg;
 use timetable::line;
 use timetable::line::Line;
 
 // More than any travel time.
 pub const TRAVELS: u32 = Configuration::MOST_TRAVEL + 1;
+
+// Where an entry holds both times of a choice in one number, beside the row's id.
+pub const TIMES_AT: usize = 1;
+
+// The nominal's numbers stand behind a row's ids.
+const DEPARTURE_AT: usize = Leg::IDS + Configuration::DEPARTURE_AT;
+
+const TRAVEL_AT: usize = Leg::IDS + Configuration::TRAVEL_AT;
+
+const PROFILE_AT: usize = Leg::IDS + Configuration::PROFILE_AT;
 
 fn counted_as(line: Line, before: Line) -> Line
     ensures { λ r. ⌜ r ≡ countedAs line before ⌝ }
@@ -53,7 +64,7 @@ fn fault(line: Line, h: u32, choices: &[u32]) -> u8
         return Refusal::COUNT;
     }
     let numbers = line.numbers;
-    if is_new(choices, line.rows as usize, line.above, numbers[0]) {
+    if is_new(choices, line.rows as usize, line.above, numbers[Leg::ID_AT]) {
         if line.entries <= line.nominal {
             return Refusal::NOMINAL;
         }
@@ -83,9 +94,9 @@ pub fn turn(bytes: &[u8], h: u32, before: Line, choices: &mut [u32]) -> Line
     line::store(
         choices,
         line.rows as usize,
-        numbers[0],
-        numbers[5] * TRAVELS + numbers[6],
-        numbers[7],
+        numbers[Leg::ID_AT],
+        numbers[DEPARTURE_AT] * TRAVELS + numbers[TRAVEL_AT],
+        numbers[PROFILE_AT],
     );
     line::next_row(line, 0)
 }

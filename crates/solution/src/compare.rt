@@ -4,6 +4,7 @@ ghost use Prim.Native.Nat.{_*_, _≤_, _<_};
 ghost use lib.ListN.{length};
 ghost use Rattle.rules.specs.Limits.{legWidth};
 ghost use Rattle.solution.specs.Against.{sameAt, InTable, noneDiffers, comparedWith};
+use crate::row::HELD;
 use rules::sizes::Leg;
 
 // Whether a row so far differs from the draft's, and where the first that does starts.
@@ -22,30 +23,25 @@ pub fn none_differs() -> Compared
 }
 
 // A row's five ids are those of a row of the leg table.
-fn same_ids(numbers: [u32; 10], legs: &[u32], row: usize) -> bool
+fn same_ids(numbers: [u32; HELD], legs: &[u32], row: usize) -> bool
     requires { ⌜ InTable row (now legs) ⌝ }
     ensures { λ r. ⌜ r ≡ sameAt numbers (now (legs .entry)) row ⌝ }
 {
     let from = row * Leg::WIDTH;
-    if legs[from] != numbers[0] {
-        return false;
+    let mut k = 0;
+    while k < Leg::IDS {
+        if legs[from + k] != numbers[k] {
+            return false;
+        }
+        k += 1;
     }
-    if legs[from + 1] != numbers[1] {
-        return false;
-    }
-    if legs[from + 2] != numbers[2] {
-        return false;
-    }
-    if legs[from + 3] != numbers[3] {
-        return false;
-    }
-    legs[from + 4] == numbers[4]
+    true
 }
 
 // With one row more: a row past the draft's last differs too.
 pub fn compared_with(
     before: Compared,
-    numbers: [u32; 10],
+    numbers: [u32; HELD],
     legs: &[u32],
     n: usize,
     row: usize,

@@ -1,4 +1,4 @@
-// Where a line ends: lines are long, so eight bytes are looked at together.
+// Where a line ends: lines are long, so some bytes are looked at together.
 ghost use mathlib.Core.Path.{_≡_};
 ghost use mathlib.Core.Bool.{true};
 ghost use Prim.Native.Nat.{_+_};
@@ -10,7 +10,7 @@ use text::pieces;
 
 const TOGETHER: usize = 8;
 
-// Whether eight bytes stand from a place on, and no LF is among them.
+// Whether so many bytes stand from a place on, and no LF is among them.
 fn clear_at(text: &[u8], at: usize) -> bool
     ensures { λ r. ⌜ (r ≡ true → Clear (now (text .entry)) at) ⌝ }
 {

@@ -11,6 +11,7 @@ use crate::compare::Compared;
 use crate::ends;
 use rules::answers::Refusal;
 use rules::sizes::Choice;
+use rules::sizes::Configuration;
 use rules::sizes::Leg;
 use rules::sizes::Text;
 use text::words;
@@ -71,13 +72,13 @@ fn unpack(choices: &mut [u32], n: usize)
     let mut i = 0;
     while i < n {
         let from = i * Choice::WIDTH;
-        let both = choices[from + 1];
-        let profile = choices[from + 2];
+        let times = choices[from + after::TIMES_AT];
+        let profile = choices[from + Configuration::PROFILE_AT];
         line::store(
             choices,
             i,
-            both / after::TRAVELS,
-            both % after::TRAVELS,
+            times / after::TRAVELS,
+            times % after::TRAVELS,
             profile,
         );
         i += 1;

@@ -2,6 +2,7 @@
 ghost use Rattle.rules.specs.Timetable.{formOf};
 ghost use Rattle.solution.specs.Said.{Alone, SaidOf, RowClosed};
 use rules::answers::Refusal;
+use rules::sizes::Configuration;
 use rules::sizes::Leg;
 use timetable::line;
 use timetable::line::Line;
@@ -9,8 +10,8 @@ use timetable::number;
 use timetable::number::Number;
 use timetable::reader;
 
-// The third number of an entry: where a row may end.
-const LAST: usize = 10;
+// The numbers of a row that are held: its ids, its nominal, and those of an entry but the third, at whose place a row may end.
+pub const HELD: usize = Leg::IDS + Configuration::WIDTH + Configuration::PROFILE_AT;
 
 // The line is over: its last number is closed.
 fn close_row(row: Line, unclosed: Number, h: u32, entries: &mut [u32]) -> Line
@@ -19,7 +20,7 @@ fn close_row(row: Line, unclosed: Number, h: u32, entries: &mut [u32]) -> Line
     if number::is_empty(unclosed) {
         return line::stopped(row, Refusal::ROW_FORM);
     }
-    if row.slot != LAST {
+    if row.slot != HELD {
         return line::stopped(row, Refusal::ROW_FORM);
     }
     line::entry(row, number::value(unclosed), h, entries)

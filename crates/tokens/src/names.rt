@@ -1,11 +1,28 @@
 // The names of lists, of keys and of connection types, by spelling; 0 where a word is none of them.
 ghost use mathlib.Core.Path.{_≡_};
-ghost use Rattle.rules.specs.Kinds.{listNamed, keyNamed, typeNamed};
+ghost use lib.ListN.{drop};
+ghost use Rattle.rules.specs.Kinds.{dwell, turnaround, minHeadway, maxConnection, listNames, keyNames, numberFrom, bitFrom, listNamed, keyNamed, typeNamed};
 use rules::kinds::Key;
 use rules::kinds::Kind;
 use rules::sizes::Constraint;
 use rules::tokens::Lists;
 use text::words::spells;
+
+// The lists behind the third.
+fn later_list(word: &[u8]) -> u8
+    ensures { λ r. ⌜ r ≡ numberFrom turnaround (drop dwell listNames) (now (word .entry)) ⌝ }
+{
+    if spells(word, b"terminal_turnaround_constraints") {
+        return Kind::TURNAROUND;
+    }
+    if spells(word, b"connection_constraints") {
+        return Kind::CONNECTION;
+    }
+    if spells(word, b"recuperation_subnets") {
+        return Lists::SUBNETS;
+    }
+    Lists::UNKNOWN
+}
 
 // The lists in the order of their kinds; the sixth is that of the subnets.
 pub fn list_named(word: &[u8]) -> u8
@@ -20,40 +37,13 @@ pub fn list_named(word: &[u8]) -> u8
     if spells(word, b"dwell_time_constraints") {
         return Kind::DWELL;
     }
-    if spells(word, b"terminal_turnaround_constraints") {
-        return Kind::TURNAROUND;
-    }
-    if spells(word, b"connection_constraints") {
-        return Kind::CONNECTION;
-    }
-    if spells(word, b"recuperation_subnets") {
-        return Lists::SUBNETS;
-    }
-    Lists::UNKNOWN
+    later_list(word)
 }
 
-// The keys of records, each by its bit.
-pub fn key_named(word: &[u8]) -> u16
-    ensures { λ r. ⌜ r ≡ keyNamed (now (word .entry)) ⌝ }
+// The keys behind those of the legs and of the least seconds.
+fn later_key(word: &[u8]) -> u16
+    ensures { λ r. ⌜ r ≡ bitFrom maxConnection (drop 6 keyNames) (now (word .entry)) ⌝ }
 {
-    if spells(word, b"first_leg_id") {
-        return Key::FIRST_LEG;
-    }
-    if spells(word, b"second_leg_id") {
-        return Key::SECOND_LEG;
-    }
-    if spells(word, b"min_headway_time") {
-        return Key::MIN_HEADWAY;
-    }
-    if spells(word, b"min_dwell_time") {
-        return Key::MIN_DWELL;
-    }
-    if spells(word, b"min_turnaround_time") {
-        return Key::MIN_TURNAROUND;
-    }
-    if spells(word, b"min_connection_time") {
-        return Key::MIN_CONNECTION;
-    }
     if spells(word, b"max_connection_time") {
         return Key::MAX_CONNECTION;
     }
@@ -67,6 +57,38 @@ pub fn key_named(word: &[u8]) -> u16
         return Key::TRACK_IDS;
     }
     Key::UNKNOWN
+}
+
+// The keys behind those of the two legs: four carry the least seconds.
+fn seconds_key(word: &[u8]) -> u16
+    ensures { λ r. ⌜ r ≡ bitFrom minHeadway (drop 2 keyNames) (now (word .entry)) ⌝ }
+{
+    if spells(word, b"min_headway_time") {
+        return Key::MIN_HEADWAY;
+    }
+    if spells(word, b"min_dwell_time") {
+        return Key::MIN_DWELL;
+    }
+    if spells(word, b"min_turnaround_time") {
+        return Key::MIN_TURNAROUND;
+    }
+    if spells(word, b"min_connection_time") {
+        return Key::MIN_CONNECTION;
+    }
+    later_key(word)
+}
+
+// The keys of records, each by its bit.
+pub fn key_named(word: &[u8]) -> u16
+    ensures { λ r. ⌜ r ≡ keyNamed (now (word .entry)) ⌝ }
+{
+    if spells(word, b"first_leg_id") {
+        return Key::FIRST_LEG;
+    }
+    if spells(word, b"second_leg_id") {
+        return Key::SECOND_LEG;
+    }
+    seconds_key(word)
 }
 
 // The connection types.

@@ -1,55 +1,42 @@
--- Lists and keys by number: the bit of a list, the keys of its records, the keys that carry the least seconds. Assumes nothing.
-use Prim.Native.Nat.{ℕ, suc, _-_, _≤_}
-use mathlib.Core.Path.{_≡_, ap, sym}
-use mathlib.Core.Bool.{Bool, true, false, cond, _||_}
+-- Lists by number: the bit of a list, the keys of its records, how many there are. Assumes nothing.
+use Prim.Native.Nat.{ℕ, suc, _+_, _*_, _-_, _%_, _^_, _≤_}
+use mathlib.Core.Path.{_≡_, _∙_}
+use mathlib.Core.Bool.{Bool, true, false, cond}
+use mathlib.Core.List.{List, [], _∷_}
 use native.Mathlib.Omega.{arith}
-use lib.ListN.{getD, List·getD-eq-default}
+use native.Mathlib.Nat.{one-mul}
+use native.Mathlib.Numerals.{add-one}
+use lib.ListN.{length, getD, List·getD-eq-default}
+use lib.Pow.{shl-exact}
 use borrow.Author.Tests.{ne-eqb}
-use Rattle.rules.specs.Kinds.{subnets, kindTable, noKind}
+use Rattle.rules.specs.Lists.{sameList}
+use Rattle.rules.specs.Kinds.{subnets, kindTable, noKind, numberFrom, listNames, listNamed}
 use Rattle.rules.specs.Constraints.{listBit, keysOf}
 use Rattle.rules.specs.declared.kinds.Kind.{Kind}
-use Rattle.rules.specs.declared.sizes.Constraint.{Constraint}
 
-above : (k n : ℕ) → k ≤ n → (n ≡ k → ⊥) → suc k ≤ n
-above k n h other = omega (arith, other)
-
--- the last of six lists
-pub last-bit : (list : ℕ) → 1 ≤ list → list ≤ 6 → (list ≡ 1 → ⊥) → (list ≡ 2 → ⊥) → (list ≡ 3 → ⊥) → (list ≡ 4 → ⊥) → (list ≡ 5 → ⊥) → 32 ≡ listBit list
-last-bit list low high a b c d e =
-    let six : 6 ≤ list = above 5 list (above 4 list (above 3 list (above 2 list (above 1 list low a) b) c) d) e in
-    let is : list ≡ 6 = omega arith in
-    ap listBit (sym is)
+-- the bit of a list: there are fewer lists than bits
+pub bit-of : (list : ℕ) → list ≤ subnets → (1 * 2 ^ (list - 1)) % 2 ^ 8 ≡ listBit list
+bit-of list high = shl-exact 1 (list - 1) 8 (omega arith) (omega arith) ∙ one-mul (listBit list)
 
 module _ (list : ℕ) (other : list ≡ subnets → ⊥) where
   pub kind-keys : (k : Kind) → k ≡ getD kindTable (list - 1) noKind → k .keys ≡ keysOf list
   unfolding keysOf
   kind-keys k e = rw (ne-eqb list subnets other, e)
 
-  pub no-keys : 5 ≤ list - 1 → 0 ≡ keysOf list
+  pub no-keys : length kindTable ≤ list - 1 → 0 ≡ keysOf list
   unfolding keysOf
   no-keys h = rw (ne-eqb list subnets other, List·getD-eq-default kindTable noKind h)
 
-pub or-last : (a b c d : Bool) → a ≡ false → b ≡ false → c ≡ false → d ≡ a || (b || (c || d))
-or-last a b c d p q r = rw (p, q, r)
+-- a known list is one of six
+number-within : (n : ℕ) (names : List (List ℕ)) (word : List ℕ) → numberFrom (suc n) names word ≤ n + length names
+number-within n [] word = omega arith
+number-within n (name ∷ names) word = go (sameList name word) (rw (← add-one (suc n)) at (number-within (suc n) names word))
+  where
+    go : (t : Bool) → numberFrom (suc n + 1) names word ≤ suc n + length names
+        → cond t (suc n) (numberFrom (suc n + 1) names word) ≤ n + suc (length names)
+    go true h = omega arith
+    go false h = omega arith
 
--- a record's numbers, each new where its test passes
-abbrev fields : (first second low high type : Bool) → ℕ → Constraint → Constraint
-fields first second low high type n c =
-    record {
-      kind = c .kind;
-      first = cond first n (c .first);
-      second = cond second n (c .second);
-      low = cond low n (c .low);
-      high = cond high n (c .high);
-      connection = cond type n (c .connection);
-    }
-
-pub low-entered : (first second low high type : Bool) (n : ℕ) (c : Constraint)
-    → first ≡ false → second ≡ false → high ≡ false → type ≡ false → low ≡ true
-    → fields false false true false false n c ≡ fields first second low high type n c
-low-entered first second low high type n c p q r s t = rw (p, q, r, s, t)
-
-pub none-entered : (first second low high type : Bool) (n : ℕ) (c : Constraint)
-    → first ≡ false → second ≡ false → high ≡ false → type ≡ false → low ≡ false
-    → c ≡ fields first second low high type n c
-none-entered first second low high type n c p q r s t = rw (p, q, r, s, t)
+pub list-within : (word : List ℕ) → listNamed word ≤ subnets
+unfolding listNamed
+list-within word = number-within 0 listNames word

@@ -1,4 +1,2 @@
-pub mod Words
-pub mod Numbers
 pub mod Keys
 pub mod ByAction

@@ -4,7 +4,7 @@ ghost use Rattle.rules.specs.Limits.{legWidth};
 ghost use Rattle.rules.specs.Constraints.{Document, turnOf};
 ghost use Rattle.ids.specs.Column.{column};
 ghost use Rattle.tokens.specs.Seen.{found};
-ghost use Rattle.turns.specs.Steps.{turned, Tied, Ready};
+ghost use Rattle.steps.specs.Steps.{turned, Tied, Ready};
 use actions::action;
 use records::document_ends;
 use records::key_name;
@@ -14,23 +14,19 @@ use records::record_opens;
 use rules::answers::Refusal;
 use rules::tokens::Action;
 use rules::tokens::State;
-use states::to_phase;
 use steps::Counts;
 use steps::Room;
 use steps::Step;
+use steps::states::to_phase;
+use steps::tracks::track_number;
+use steps::tracks::tracks_open;
+use steps::values::number_value;
+use steps::values::string_cut;
+use steps::values::string_value;
 use text::numbers::read_whole;
 use tokens::Token;
-use tracks::track_number;
-use tracks::tracks_open;
-use values::number_value;
-use values::string_cut;
-use values::string_value;
 
-pub mod steps; // what that leads to
-pub mod states; // the state after it
 pub mod records; // names and braces
-pub mod values; // strings and numbers
-pub mod tracks; // the tracks of a subnet
 
 // A token of the text, by the state and by what has been read: `tracks` holds the tracks so far, `ids` the ids of subnets.
 pub fn turn(

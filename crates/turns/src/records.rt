@@ -7,13 +7,7 @@ ghost use Rattle.rules.specs.Kinds.{headway, subnets, listNamed, keyNamed};
 ghost use Rattle.rules.specs.Constraints as law;
 ghost use Rattle.rules.specs.Constraints.{Document};
 ghost use Rattle.rules.specs.Tokens.{Token};
-ghost use Rattle.turns.specs.Steps.{turned, Always};
-use crate::states::at_key;
-use crate::states::in_list;
-use crate::states::in_record;
-use crate::states::to_phase;
-use crate::steps::Counts;
-use crate::steps::Step;
+ghost use Rattle.steps.specs.Steps.{turned, Always};
 use rules::answers::Refusal;
 use rules::kinds::Key;
 use rules::kinds::Kind;
@@ -23,20 +17,19 @@ use rules::sizes::Subnet;
 use rules::tokens::Lists;
 use rules::tokens::Phase;
 use rules::tokens::State;
+use steps::Counts;
+use steps::Step;
+use steps::states::at_key;
+use steps::states::in_list;
+use steps::states::in_record;
+use steps::states::to_phase;
 use tokens::names;
 
 fn list_bit(list: u8) -> u8
     requires { ⌜ (headway ≤ list) × (list ≤ subnets) ⌝ }
     ensures { λ r. ⌜ r ≡ law.listBit list ⌝ }
 {
-    match list {
-        Kind::HEADWAY => 1,
-        Kind::SINGLE_TRACK => 2,
-        Kind::DWELL => 4,
-        Kind::TURNAROUND => 8,
-        Kind::CONNECTION => 16,
-        _ => 32,
-    }
+    1 << (list - 1)
 }
 
 pub fn list_name(word: &[u8], st: State, place: u32) -> Step

@@ -1,6 +1,6 @@
 -- `actions::action` meets its contract: each row of the table. Assumes nothing.
-use Rattle.rules.specs.Constraints.{actionOf}
 use borrow.Author.Needs.{needs}
+use Rattle.actions.proofs.Classes.{by-phase}
 use Rattle.actions.proofs.action.Statement.{statement}
 use Rattle.actions.proofs.action.Tie as tie
 
@@ -113,76 +113,58 @@ only-requires-7 : tie.Need-only-requires-7
 only-requires-7 c κs = search needs
 
 returns : tie.Need-returns
-unfolding actionOf
-returns c = simp (c .before .enum-told .given .1) (c .only .ensures)
+returns c = search (by-phase, needs)
 
 returns-2 : tie.Need-returns-2
-unfolding actionOf
-returns-2 c = simp (c .before .enum-told2 .given .1) (c .name-or-brace .ensures)
+returns-2 c = search (by-phase, needs)
 
 returns-3 : tie.Need-returns-3
-unfolding actionOf
-returns-3 c = simp (c .before .enum-told3 .given .1) (c .name .ensures)
+returns-3 c = search (by-phase, needs)
 
 returns-4 : tie.Need-returns-4
-unfolding actionOf
-returns-4 c = simp (c .before .enum-told4 .given .1) (c .only2 .ensures)
+returns-4 c = search (by-phase, needs)
 
 returns-5 : tie.Need-returns-5
-unfolding actionOf
-returns-5 c = simp (c .before .enum-told5 .given .1) (c .only3 .ensures)
+returns-5 c = search (by-phase, needs)
 
 returns-6 : tie.Need-returns-6
-unfolding actionOf
-returns-6 c = simp (c .before .enum-told6 .given .1) (c .comma-or-brace .ensures)
+returns-6 c = search (by-phase, needs)
 
 returns-7 : tie.Need-returns-7
-unfolding actionOf
-returns-7 c = simp (c .before .enum-told7 .given .1) (c .or-bracket .ensures)
+returns-7 c = search (by-phase, needs)
 
 returns-8 : tie.Need-returns-8
-unfolding actionOf
-returns-8 c = simp (c .before .enum-told8 .given .1) (c .only4 .ensures)
+returns-8 c = search (by-phase, needs)
 
 returns-9 : tie.Need-returns-9
-unfolding actionOf
-returns-9 c = simp (c .before .enum-told9 .given .1) (c .comma-or-bracket .ensures)
+returns-9 c = search (by-phase, needs)
 
 returns-10 : tie.Need-returns-10
-unfolding actionOf
-returns-10 c = simp (c .before .enum-told10 .given .1) (c .name-or-brace2 .ensures)
+returns-10 c = search (by-phase, needs)
 
 returns-11 : tie.Need-returns-11
-unfolding actionOf
-returns-11 c = simp (c .before .enum-told11 .given .1) (c .name2 .ensures)
+returns-11 c = search (by-phase, needs)
 
 returns-12 : tie.Need-returns-12
-unfolding actionOf
-returns-12 c = simp (c .before .enum-told12 .given .1) (c .only5 .ensures)
+returns-12 c = search (by-phase, needs)
 
 returns-13 : tie.Need-returns-13
-unfolding actionOf
-returns-13 c = simp (c .before .enum-told13 .given .1) (c .value .ensures)
+returns-13 c = search (by-phase, needs)
 
 returns-14 : tie.Need-returns-14
-unfolding actionOf
-returns-14 c = simp (c .before .enum-told14 .given .1) (c .comma-or-brace2 .ensures)
+returns-14 c = search (by-phase, needs)
 
 returns-15 : tie.Need-returns-15
-unfolding actionOf
-returns-15 c = simp (c .before .enum-told15 .given .1) (c .or-bracket2 .ensures)
+returns-15 c = search (by-phase, needs)
 
 returns-16 : tie.Need-returns-16
-unfolding actionOf
-returns-16 c = simp (c .before .enum-told16 .given .1) (c .only6 .ensures)
+returns-16 c = search (by-phase, needs)
 
 returns-17 : tie.Need-returns-17
-unfolding actionOf
-returns-17 c = simp (c .before .enum-told17 .given .1) (c .comma-or-bracket2 .ensures)
+returns-17 c = search (by-phase, needs)
 
 returns-18 : tie.Need-returns-18
-unfolding actionOf
-returns-18 c = simp (c .before .enum-told18 .given .1) (c .only7 .ensures)
+returns-18 c = search (by-phase, needs)
 
 pub action-spec : {M : Type 1} → statement M
 action-spec =

@@ -1,6 +1,4 @@
 -- `tokens::past_white` meets its contract: at each white byte the tokens that are left stay the same. Assumes nothing.
-use Rattle.rules.specs.Constraints.{onward}
-use Rattle.rules.specs.Timetable.{same}
 use borrow.Author.Needs.{needs}
 use mathlib.Core.Path.{refl}
 use Prim.Native.Nat.{_-_}

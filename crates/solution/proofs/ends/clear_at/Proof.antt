@@ -3,6 +3,7 @@ use Prim.Native.Nat.{_-_}
 use mathlib.Core.Path.{sym}
 use mathlib.Core.Bool.{true≢false}
 use borrow.Author.Needs.{needs}
+use Rattle.solution.specs.Ends.{together}
 use Rattle.solution.proofs.Clearing.{Clearing, clearing-first, clearing-next, cleared}
 use Rattle.solution.proofs.ends.clear_at.Statement.{statement}
 use Rattle.solution.proofs.ends.clear_at.Tie as tie
@@ -11,7 +12,7 @@ abbrev Inv-loop : tie.InvT-loop
 Inv-loop text at k₀ k = Clearing text at k
 
 abbrev μ-loop : tie.MeasureT-loop
-μ-loop text at k₀ k = 8 - k
+μ-loop text at k₀ k = together - k
 
 returns : tie.Need-returns Inv-loop μ-loop
 returns c = λ e. absurd (true≢false (sym e))

@@ -17,14 +17,14 @@ loop-holds c = search (unpack-first, needs)
 mul-from : tie.Need-mul-from Inv-loop μ-loop
 mul-from c = search needs
 
-add-both : tie.Need-add-both Inv-loop μ-loop
-add-both c = search needs
+add-times : tie.Need-add-times Inv-loop μ-loop
+add-times c = search needs
 
-mul-both : tie.Need-mul-both Inv-loop μ-loop
-mul-both c = search needs
+mul-times : tie.Need-mul-times Inv-loop μ-loop
+mul-times c = search needs
 
-slice-read-both : tie.Need-slice-read-both Inv-loop μ-loop
-slice-read-both c = search needs
+slice-read-times : tie.Need-slice-read-times Inv-loop μ-loop
+slice-read-times c = search needs
 
 add-profile : tie.Need-add-profile Inv-loop μ-loop
 add-profile c = search needs
@@ -61,9 +61,9 @@ unpack-spec =
     μ-loop
     loop-holds
     mul-from
-    add-both
-    mul-both
-    slice-read-both
+    add-times
+    mul-times
+    slice-read-times
     add-profile
     mul-profile
     slice-read-profile

@@ -1,8 +1,7 @@
--- `tokens::names::key_named` meets its contract: the ten keys by bit, and 0 for any other word. Assumes nothing.
+-- `tokens::names::key_named` meets its contract: two keys by bit, and then the others. Assumes nothing.
 use Rattle.rules.specs.Kinds.{keyNamed}
 use Rattle.tokens.proofs.Chosen.{chosen, passed}
 use borrow.Author.Needs.{needs}
-use mathlib.Core.Path.{refl}
 use Rattle.tokens.proofs.names.key_named.Statement.{statement}
 use Rattle.tokens.proofs.names.key_named.Tie as tie
 
@@ -14,7 +13,7 @@ spells-requires c κs = search needs
 
 returns : tie.Need-returns
 unfolding keyNamed
-returns c = chosen _ _ (c .before .spells .ensures) (c .if1 .taken) refl
+returns c = search (chosen, passed, needs)
 
 slice-aggregate-spells-2 : tie.Need-slice-aggregate-spells-2
 slice-aggregate-spells-2 c = search needs
@@ -24,91 +23,14 @@ spells-requires-2 c κs = search needs
 
 returns-2 : tie.Need-returns-2
 unfolding keyNamed
-returns-2 c = passed _ _ (c .before .before .before .before .spells .ensures) (c .before .before .before .if1 .left) (chosen _ _ (c .before .spells2 .ensures) (c .if2 .taken) refl)
+returns-2 c = search (chosen, passed, needs)
 
-slice-aggregate-spells-3 : tie.Need-slice-aggregate-spells-3
-slice-aggregate-spells-3 c = search needs
-
-spells-requires-3 : tie.Need-spells-requires-3
-spells-requires-3 c κs = search needs
+seconds-key-requires : tie.Need-seconds-key-requires
+seconds-key-requires c κs = search needs
 
 returns-3 : tie.Need-returns-3
 unfolding keyNamed
-returns-3 c = passed _ _ (c .before .before .before .before .before .before .before .spells .ensures) (c .before .before .before .before .before .before .if1 .left) (passed _ _ (c .before .before .before .before .spells2 .ensures) (c .before .before .before .if2 .left) (chosen _ _ (c .before .spells3 .ensures) (c .if3 .taken) refl))
-
-slice-aggregate-spells-4 : tie.Need-slice-aggregate-spells-4
-slice-aggregate-spells-4 c = search needs
-
-spells-requires-4 : tie.Need-spells-requires-4
-spells-requires-4 c κs = search needs
-
-returns-4 : tie.Need-returns-4
-unfolding keyNamed
-returns-4 c = passed _ _ (c .before .before .before .before .before .before .before .before .before .before .spells .ensures) (c .before .before .before .before .before .before .before .before .before .if1 .left) (passed _ _ (c .before .before .before .before .before .before .before .spells2 .ensures) (c .before .before .before .before .before .before .if2 .left) (passed _ _ (c .before .before .before .before .spells3 .ensures) (c .before .before .before .if3 .left) (chosen _ _ (c .before .spells4 .ensures) (c .if4 .taken) refl)))
-
-slice-aggregate-spells-5 : tie.Need-slice-aggregate-spells-5
-slice-aggregate-spells-5 c = search needs
-
-spells-requires-5 : tie.Need-spells-requires-5
-spells-requires-5 c κs = search needs
-
-returns-5 : tie.Need-returns-5
-unfolding keyNamed
-returns-5 c = passed _ _ (c .before .before .before .before .before .before .before .before .before .before .before .before .before .spells .ensures) (c .before .before .before .before .before .before .before .before .before .before .before .before .if1 .left) (passed _ _ (c .before .before .before .before .before .before .before .before .before .before .spells2 .ensures) (c .before .before .before .before .before .before .before .before .before .if2 .left) (passed _ _ (c .before .before .before .before .before .before .before .spells3 .ensures) (c .before .before .before .before .before .before .if3 .left) (passed _ _ (c .before .before .before .before .spells4 .ensures) (c .before .before .before .if4 .left) (chosen _ _ (c .before .spells5 .ensures) (c .if5 .taken) refl))))
-
-slice-aggregate-spells-6 : tie.Need-slice-aggregate-spells-6
-slice-aggregate-spells-6 c = search needs
-
-spells-requires-6 : tie.Need-spells-requires-6
-spells-requires-6 c κs = search needs
-
-returns-6 : tie.Need-returns-6
-unfolding keyNamed
-returns-6 c = passed _ _ (c .before .before .before .before .before .before .before .before .before .before .before .before .before .before .before .before .spells .ensures) (c .before .before .before .before .before .before .before .before .before .before .before .before .before .before .before .if1 .left) (passed _ _ (c .before .before .before .before .before .before .before .before .before .before .before .before .before .spells2 .ensures) (c .before .before .before .before .before .before .before .before .before .before .before .before .if2 .left) (passed _ _ (c .before .before .before .before .before .before .before .before .before .before .spells3 .ensures) (c .before .before .before .before .before .before .before .before .before .if3 .left) (passed _ _ (c .before .before .before .before .before .before .before .spells4 .ensures) (c .before .before .before .before .before .before .if4 .left) (passed _ _ (c .before .before .before .before .spells5 .ensures) (c .before .before .before .if5 .left) (chosen _ _ (c .before .spells6 .ensures) (c .if6 .taken) refl)))))
-
-slice-aggregate-spells-7 : tie.Need-slice-aggregate-spells-7
-slice-aggregate-spells-7 c = search needs
-
-spells-requires-7 : tie.Need-spells-requires-7
-spells-requires-7 c κs = search needs
-
-returns-7 : tie.Need-returns-7
-unfolding keyNamed
-returns-7 c = passed _ _ (c .before .before .before .before .before .before .before .before .before .before .before .before .before .before .before .before .before .before .before .spells .ensures) (c .before .before .before .before .before .before .before .before .before .before .before .before .before .before .before .before .before .before .if1 .left) (passed _ _ (c .before .before .before .before .before .before .before .before .before .before .before .before .before .before .before .before .spells2 .ensures) (c .before .before .before .before .before .before .before .before .before .before .before .before .before .before .before .if2 .left) (passed _ _ (c .before .before .before .before .before .before .before .before .before .before .before .before .before .spells3 .ensures) (c .before .before .before .before .before .before .before .before .before .before .before .before .if3 .left) (passed _ _ (c .before .before .before .before .before .before .before .before .before .before .spells4 .ensures) (c .before .before .before .before .before .before .before .before .before .if4 .left) (passed _ _ (c .before .before .before .before .before .before .before .spells5 .ensures) (c .before .before .before .before .before .before .if5 .left) (passed _ _ (c .before .before .before .before .spells6 .ensures) (c .before .before .before .if6 .left) (chosen _ _ (c .before .spells7 .ensures) (c .if7 .taken) refl))))))
-
-slice-aggregate-spells-8 : tie.Need-slice-aggregate-spells-8
-slice-aggregate-spells-8 c = search needs
-
-spells-requires-8 : tie.Need-spells-requires-8
-spells-requires-8 c κs = search needs
-
-returns-8 : tie.Need-returns-8
-unfolding keyNamed
-returns-8 c = passed _ _ (c .before .before .before .before .before .before .before .before .before .before .before .before .before .before .before .before .before .before .before .before .before .before .spells .ensures) (c .before .before .before .before .before .before .before .before .before .before .before .before .before .before .before .before .before .before .before .before .before .if1 .left) (passed _ _ (c .before .before .before .before .before .before .before .before .before .before .before .before .before .before .before .before .before .before .before .spells2 .ensures) (c .before .before .before .before .before .before .before .before .before .before .before .before .before .before .before .before .before .before .if2 .left) (passed _ _ (c .before .before .before .before .before .before .before .before .before .before .before .before .before .before .before .before .spells3 .ensures) (c .before .before .before .before .before .before .before .before .before .before .before .before .before .before .before .if3 .left) (passed _ _ (c .before .before .before .before .before .before .before .before .before .before .before .before .before .spells4 .ensures) (c .before .before .before .before .before .before .before .before .before .before .before .before .if4 .left) (passed _ _ (c .before .before .before .before .before .before .before .before .before .before .spells5 .ensures) (c .before .before .before .before .before .before .before .before .before .if5 .left) (passed _ _ (c .before .before .before .before .before .before .before .spells6 .ensures) (c .before .before .before .before .before .before .if6 .left) (passed _ _ (c .before .before .before .before .spells7 .ensures) (c .before .before .before .if7 .left) (chosen _ _ (c .before .spells8 .ensures) (c .if8 .taken) refl)))))))
-
-slice-aggregate-spells-9 : tie.Need-slice-aggregate-spells-9
-slice-aggregate-spells-9 c = search needs
-
-spells-requires-9 : tie.Need-spells-requires-9
-spells-requires-9 c κs = search needs
-
-returns-9 : tie.Need-returns-9
-unfolding keyNamed
-returns-9 c = passed _ _ (c .before .before .before .before .before .before .before .before .before .before .before .before .before .before .before .before .before .before .before .before .before .before .before .before .before .spells .ensures) (c .before .before .before .before .before .before .before .before .before .before .before .before .before .before .before .before .before .before .before .before .before .before .before .before .if1 .left) (passed _ _ (c .before .before .before .before .before .before .before .before .before .before .before .before .before .before .before .before .before .before .before .before .before .before .spells2 .ensures) (c .before .before .before .before .before .before .before .before .before .before .before .before .before .before .before .before .before .before .before .before .before .if2 .left) (passed _ _ (c .before .before .before .before .before .before .before .before .before .before .before .before .before .before .before .before .before .before .before .spells3 .ensures) (c .before .before .before .before .before .before .before .before .before .before .before .before .before .before .before .before .before .before .if3 .left) (passed _ _ (c .before .before .before .before .before .before .before .before .before .before .before .before .before .before .before .before .spells4 .ensures) (c .before .before .before .before .before .before .before .before .before .before .before .before .before .before .before .if4 .left) (passed _ _ (c .before .before .before .before .before .before .before .before .before .before .before .before .before .spells5 .ensures) (c .before .before .before .before .before .before .before .before .before .before .before .before .if5 .left) (passed _ _ (c .before .before .before .before .before .before .before .before .before .before .spells6 .ensures) (c .before .before .before .before .before .before .before .before .before .if6 .left) (passed _ _ (c .before .before .before .before .before .before .before .spells7 .ensures) (c .before .before .before .before .before .before .if7 .left) (passed _ _ (c .before .before .before .before .spells8 .ensures) (c .before .before .before .if8 .left) (chosen _ _ (c .before .spells9 .ensures) (c .if9 .taken) refl))))))))
-
-slice-aggregate-spells-10 : tie.Need-slice-aggregate-spells-10
-slice-aggregate-spells-10 c = search needs
-
-spells-requires-10 : tie.Need-spells-requires-10
-spells-requires-10 c κs = search needs
-
-returns-10 : tie.Need-returns-10
-unfolding keyNamed
-returns-10 c = passed _ _ (c .before .before .before .before .before .before .before .before .before .before .before .before .before .before .before .before .before .before .before .before .before .before .before .before .before .before .before .before .spells .ensures) (c .before .before .before .before .before .before .before .before .before .before .before .before .before .before .before .before .before .before .before .before .before .before .before .before .before .before .before .if1 .left) (passed _ _ (c .before .before .before .before .before .before .before .before .before .before .before .before .before .before .before .before .before .before .before .before .before .before .before .before .before .spells2 .ensures) (c .before .before .before .before .before .before .before .before .before .before .before .before .before .before .before .before .before .before .before .before .before .before .before .before .if2 .left) (passed _ _ (c .before .before .before .before .before .before .before .before .before .before .before .before .before .before .before .before .before .before .before .before .before .before .spells3 .ensures) (c .before .before .before .before .before .before .before .before .before .before .before .before .before .before .before .before .before .before .before .before .before .if3 .left) (passed _ _ (c .before .before .before .before .before .before .before .before .before .before .before .before .before .before .before .before .before .before .before .spells4 .ensures) (c .before .before .before .before .before .before .before .before .before .before .before .before .before .before .before .before .before .before .if4 .left) (passed _ _ (c .before .before .before .before .before .before .before .before .before .before .before .before .before .before .before .before .spells5 .ensures) (c .before .before .before .before .before .before .before .before .before .before .before .before .before .before .before .if5 .left) (passed _ _ (c .before .before .before .before .before .before .before .before .before .before .before .before .before .spells6 .ensures) (c .before .before .before .before .before .before .before .before .before .before .before .before .if6 .left) (passed _ _ (c .before .before .before .before .before .before .before .before .before .before .spells7 .ensures) (c .before .before .before .before .before .before .before .before .before .if7 .left) (passed _ _ (c .before .before .before .before .before .before .before .spells8 .ensures) (c .before .before .before .before .before .before .if8 .left) (passed _ _ (c .before .before .before .before .spells9 .ensures) (c .before .before .before .if9 .left) (chosen _ _ (c .before .spells10 .ensures) (c .if10 .taken) refl)))))))))
-
-returns-11 : tie.Need-returns-11
-unfolding keyNamed
-returns-11 c = passed _ _ (c .before .before .before .before .before .before .before .before .before .before .before .before .before .before .before .before .before .before .before .before .before .before .before .before .before .before .before .before .spells .ensures) (c .before .before .before .before .before .before .before .before .before .before .before .before .before .before .before .before .before .before .before .before .before .before .before .before .before .before .before .if1 .left) (passed _ _ (c .before .before .before .before .before .before .before .before .before .before .before .before .before .before .before .before .before .before .before .before .before .before .before .before .before .spells2 .ensures) (c .before .before .before .before .before .before .before .before .before .before .before .before .before .before .before .before .before .before .before .before .before .before .before .before .if2 .left) (passed _ _ (c .before .before .before .before .before .before .before .before .before .before .before .before .before .before .before .before .before .before .before .before .before .before .spells3 .ensures) (c .before .before .before .before .before .before .before .before .before .before .before .before .before .before .before .before .before .before .before .before .before .if3 .left) (passed _ _ (c .before .before .before .before .before .before .before .before .before .before .before .before .before .before .before .before .before .before .before .spells4 .ensures) (c .before .before .before .before .before .before .before .before .before .before .before .before .before .before .before .before .before .before .if4 .left) (passed _ _ (c .before .before .before .before .before .before .before .before .before .before .before .before .before .before .before .before .spells5 .ensures) (c .before .before .before .before .before .before .before .before .before .before .before .before .before .before .before .if5 .left) (passed _ _ (c .before .before .before .before .before .before .before .before .before .before .before .before .before .spells6 .ensures) (c .before .before .before .before .before .before .before .before .before .before .before .before .if6 .left) (passed _ _ (c .before .before .before .before .before .before .before .before .before .before .spells7 .ensures) (c .before .before .before .before .before .before .before .before .before .if7 .left) (passed _ _ (c .before .before .before .before .before .before .before .spells8 .ensures) (c .before .before .before .before .before .before .if8 .left) (passed _ _ (c .before .before .before .before .spells9 .ensures) (c .before .before .before .if9 .left) (passed _ _ (c .before .spells10 .ensures) (c .if10 .left) refl)))))))))
+returns-3 c = search (chosen, passed, needs)
 
 pub key-named-spec : {M : Type 1} → statement M
 key-named-spec =
@@ -120,28 +42,5 @@ key-named-spec =
     slice-aggregate-spells-2
     spells-requires-2
     returns-2
-    slice-aggregate-spells-3
-    spells-requires-3
-    returns-3
-    slice-aggregate-spells-4
-    spells-requires-4
-    returns-4
-    slice-aggregate-spells-5
-    spells-requires-5
-    returns-5
-    slice-aggregate-spells-6
-    spells-requires-6
-    returns-6
-    slice-aggregate-spells-7
-    spells-requires-7
-    returns-7
-    slice-aggregate-spells-8
-    spells-requires-8
-    returns-8
-    slice-aggregate-spells-9
-    spells-requires-9
-    returns-9
-    slice-aggregate-spells-10
-    spells-requires-10
-    returns-10
-    returns-11)
+    seconds-key-requires
+    returns-3)

@@ -2,7 +2,6 @@
 use Rattle.rules.specs.Kinds.{typeNamed}
 use Rattle.tokens.proofs.Chosen.{chosen, passed}
 use borrow.Author.Needs.{needs}
-use mathlib.Core.Path.{refl}
 use Rattle.tokens.proofs.names.type_named.Statement.{statement}
 use Rattle.tokens.proofs.names.type_named.Tie as tie
 
@@ -14,7 +13,7 @@ spells-requires c κs = search needs
 
 returns : tie.Need-returns
 unfolding typeNamed
-returns c = chosen _ _ (c .before .spells .ensures) (c .if1 .taken) refl
+returns c = search (chosen, passed, needs)
 
 slice-aggregate-spells-2 : tie.Need-slice-aggregate-spells-2
 slice-aggregate-spells-2 c = search needs
@@ -24,11 +23,11 @@ spells-requires-2 c κs = search needs
 
 returns-2 : tie.Need-returns-2
 unfolding typeNamed
-returns-2 c = passed _ _ (c .before .before .before .before .spells .ensures) (c .before .before .before .if1 .left) (chosen _ _ (c .before .spells2 .ensures) (c .if2 .taken) refl)
+returns-2 c = search (chosen, passed, needs)
 
 returns-3 : tie.Need-returns-3
 unfolding typeNamed
-returns-3 c = passed _ _ (c .before .before .before .before .spells .ensures) (c .before .before .before .if1 .left) (passed _ _ (c .before .spells2 .ensures) (c .if2 .left) refl)
+returns-3 c = search (chosen, passed, needs)
 
 pub type-named-spec : {M : Type 1} → statement M
 type-named-spec =

@@ -1,6 +1,6 @@
 -- `turns::records::list_name` meets its contract: a known list that has not been there. Assumes nothing.
 use Prim.Native.Nat.{_≤_, ℕ}
-use Rattle.turns.proofs.Words.{list-within}
+use Rattle.turns.proofs.Keys.{list-within}
 use Rattle.rules.specs.Kinds.{subnets}
 use Rattle.rules.specs.Constraints.{listName}
 use borrow.Author.Needs.{needs}

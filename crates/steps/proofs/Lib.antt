@@ -1,0 +1,3 @@
+pub mod Words
+pub mod Entered
+pub mod Numbers

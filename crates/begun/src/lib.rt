@@ -28,12 +28,9 @@ pub fn begin_checked(line: &mut [u8], answer: Answer, l: Lent) -> Begun {
     }
 }
 
-// A fluctuation is the greatest less the least, so none is below 0.
-fn from_zero(x: i64) -> u64 {
-    if 0 < x { x as u64 } else { 0 }
-}
-
 fn put_figures(line: &mut [u8], g: Figures, d: Desk) -> usize {
+    // The greatest less the least, which is never below 0.
+    let fluctuation = signs::above(g.fluctuation);
     let peaks = g.peaks;
     let before_peak = peaks.before;
     let drawn_peak = peaks.drawn;
@@ -41,7 +38,7 @@ fn put_figures(line: &mut [u8], g: Figures, d: Desk) -> usize {
         g.before,
         g.drawn,
         g.lost,
-        from_zero(g.fluctuation),
+        fluctuation,
         before_peak.kj,
         drawn_peak.kj,
         before_peak.quarter as u64,

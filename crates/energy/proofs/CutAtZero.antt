@@ -1,28 +1,20 @@
--- A signed number of 32 bits, tested against 0 and cast: what stands above zero, and what below. Assumes nothing.
+-- A signed number of 32 bits, tested against 0 and cast: how great is what stands above zero, and what stands below. Assumes nothing.
 use Prim.Native.Nat.{ℕ, zero, suc, _+_, _≤_, _<_, _^_}
 use native.Mathlib.Omega.{arith}
-use mathlib.Core.Path.{_≡_, refl, sym, subst}
+use mathlib.Core.Path.{_≡_, refl, subst}
 use mathlib.Core.Bool.{true, false}
-use lib.Dec.{T, ltb}
+use lib.Dec.{T}
 use lib.IntN.{ℤ, pos, negsuc, natAbs, negℤ, _-ℤ_, +ℤ-idl}
 use lib.Signed.{ltZ, nonNeg, mag}
-use mir.Syntax.{Width, w32, w64}
-use mir.Val.{SFits, Fits, toZ, ofZ, bits, hbits}
+use mir.Syntax.{w32, w64}
+use mir.Val.{SFits, Fits, toZ, ofZ}
 use mir.Facts.{toZ-ofZ, sfits-widen, fits-natAbs}
 use native.Mathlib.Nat.{not-suc-le-zero}
-use borrow.Author.Tests.{ltb-true, ltb-false}
+use borrow.Author.Tests.{ltb-true}
 use Rattle.rules.specs.Energy.{above, below}
 use Rattle.energy.specs.Parts.{SmallPart}
 
 -- ---- the tests
-
-raised : (x : ℤ) → ltZ (pos 0) x ≡ true → T (nonNeg x) × (natAbs x ≡ above x)
-raised (pos n) e = (tt, refl)
-raised (negsuc n) e = absurd (subst T (sym e) tt)
-
-level : (x : ℤ) → ltZ (pos 0) x ≡ false → 0 ≡ above x
-level (pos n) e = omega (arith, ltb-false 0 n e)
-level (negsuc n) e = refl
 
 lowered : (x : ℤ) → ltZ x (pos 0) ≡ true → T (nonNeg (pos 0 -ℤ x)) × (natAbs (pos 0 -ℤ x) ≡ below x)
 lowered (pos n) e = absurd (not-suc-le-zero (ltb-true n 0 e))
@@ -43,16 +35,6 @@ below-mag (pos n) = omega arith
 below-mag (negsuc n) = omega arith
 
 -- ---- as the machine has them: a local holds the number's bits
-
-module _ (w : Width) (narrow : T (ltb (hbits w) (bits w64))) (x : ℤ) (fits : SFits w x) where
-  pub casts-up : ltZ (pos 0) (toZ w (ofZ w x)) ≡ true → T (nonNeg (toZ w (ofZ w x))) × Fits w64 (natAbs (toZ w (ofZ w x)))
-  casts-up = rw (toZ-ofZ fits) (λ e. (raised x e .0, fits-natAbs narrow fits))
-
-  pub is-above : ltZ (pos 0) (toZ w (ofZ w x)) ≡ true → natAbs (toZ w (ofZ w x)) ≡ above x
-  is-above = rw (toZ-ofZ fits) (λ e. raised x e .1)
-
-  pub not-above : ltZ (pos 0) (toZ w (ofZ w x)) ≡ false → 0 ≡ above x
-  not-above = rw (toZ-ofZ fits) (level x)
 
 module _ (x : ℤ) (fits : SFits w32 x) where
   abbrev held : ℤ

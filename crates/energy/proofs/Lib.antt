@@ -4,16 +4,7 @@ pub mod CutAtZero
 pub mod Listed
 pub mod SideSums
 pub mod Lookup
-pub mod Adding
-pub mod Cutting
-pub mod Homes
-pub mod LegSteps
-pub mod LegsLaid
+pub mod Sizes
 pub mod WindowSums
 pub mod QuarterSteps
 pub mod QuarterSums
-pub mod CurveSums
-pub mod Totals
-pub mod BeforeSteps
-pub mod Figured
-pub mod Reading

@@ -20,21 +20,21 @@ use Rattle.laws.specs.Laying.{Within}
 use Rattle.laws.proofs.Sums.{sum-zero, cond-le}
 use Rattle.laws.proofs.Parts.{above-part, size-part}
 use Rattle.laws.proofs.Tabulate.{tabulate-length, tabulate-at}
-use Rattle.energy.specs.Quarters.{drawnBy, quarterTaken, withRun, RunRoom}
-use Rattle.energy.proofs.Adding.{fits-long}
+use Rattle.energy.specs.Quarters.{quartersBefore, drawnBy, quarterTaken, withRun, RunRoom}
+use Rattle.energy.proofs.Sizes.{fits-long}
 
 -- ---- sums with numbers added, up to entry k
 
 abbrev entry : (sums : List ℤ) → (q : ℕ → ℕ) → (k j : ℕ) → ℤ
 entry sums q k j = getD sums j (pos 0) +ℤ pos (cond (ltb j k) (q j) 0)
 
-pub record Counted (sums : List ℤ) (q : ℕ → ℕ) (out : List ℤ) (k : ℕ) : Type 0 where
+pub record Counting (sums : List ℤ) (q : ℕ → ℕ) (out : List ℤ) (k : ℕ) : Type 0 where
   pub long : length out ≡ mostQuarters
   pub each : (j : ℕ) → getD out j (pos 0) ≡ entry sums q k j
 
 module _ (sums : List ℤ) (q : ℕ → ℕ) where
   -- entries that get nothing
-  pub counting-begins : (k : ℕ) → length sums ≡ mostQuarters → ((j : ℕ) → j < k → q j ≡ 0) → Counted sums q sums k
+  pub counting-begins : (k : ℕ) → length sums ≡ mostQuarters → ((j : ℕ) → j < k → q j ≡ 0) → Counting sums q sums k
   counting-begins k long z =
       record { long = long; each = λ j. sym (ap (λ n. getD sums j (pos 0) +ℤ pos n) (nothing j (ltb j k) refl) ∙ +ℤ-idr (getD sums j (pos 0))) }
     where
@@ -42,12 +42,12 @@ module _ (sums : List ℤ) (q : ℕ → ℕ) where
       nothing j true e = z j (ltb-true j k e)
       nothing j false e = refl
 
-  module _ (out : List ℤ) (k : ℕ) (c : Counted sums q out k) where
+  module _ (out : List ℤ) (k : ℕ) (c : Counting sums q out k) where
     pub entry-untouched : getD out k (pos 0) ≡ getD sums k (pos 0)
     entry-untouched =
         c .each k ∙ ap (λ b. getD sums k (pos 0) +ℤ pos (cond b (q k) 0)) (le-ltb k k (omega arith)) ∙ +ℤ-idr (getD sums k (pos 0))
 
-    pub entry-counted : k < mostQuarters → (v : ℤ) → v ≡ getD out k (pos 0) +ℤ pos (q k) → Counted sums q (set out k v) (k + 1)
+    pub entry-counted : k < mostQuarters → (v : ℤ) → v ≡ getD out k (pos 0) +ℤ pos (q k) → Counting sums q (set out k v) (k + 1)
     entry-counted h v e = record { long = length-set out k v ∙ c .long; each = λ j. go j (eqb j k) refl }
       where
         go : (j : ℕ) (b : Bool) → eqb j k ≡ b → getD (set out k v) j (pos 0) ≡ entry sums q (k + 1) j
@@ -130,16 +130,16 @@ module _ (start : ℕ) (run : List ℤ) where
         cut : (H j : ℕ) → H / quarterSeconds ≤ j → H < quarterSeconds * j + quarterSeconds
         cut H j h = omega arith
 
-    late-quarter : (j : ℕ) → (start + length run + 899) / quarterSeconds ≤ j → runQuarter j ≡ 0
+    late-quarter : (j : ℕ) → (start + length run + (quarterSeconds - 1)) / quarterSeconds ≤ j → runQuarter j ≡ 0
     late-quarter j h =
         sum-zero (λ i. drawnBy start run (quarterSeconds * j + i)) (secondsOf H j)
         (λ i l. drawn-after (quarterSeconds * j + i) (late (start + length run) j i h))
       where
-        late : (e j i : ℕ) → (e + 899) / quarterSeconds ≤ j → e ≤ quarterSeconds * j + i
+        late : (e j i : ℕ) → (e + (quarterSeconds - 1)) / quarterSeconds ≤ j → e ≤ quarterSeconds * j + i
         late e j i h = omega arith
 
     -- past its last quarter, or the horizon's
-    pub quarters-past : (j : ℕ) → min ((start + length run + 899) / quarterSeconds) (H / quarterSeconds) ≤ j → runQuarter j ≡ 0
+    pub quarters-past : (j : ℕ) → quartersBefore (start + length run) H ≤ j → runQuarter j ≡ 0
     quarters-past j h = go (leb (H / quarterSeconds) j) refl
       where
         other : (a b j : ℕ) → min a b ≤ j → j < b → a ≤ j
@@ -164,11 +164,11 @@ module _ (start : ℕ) (run : List ℤ) where
 -- ---- as the machine adds them
 
 module _ (start H : ℕ) (run sums : List ℤ) (room : RunRoom start H run sums) where
-  pub run-begins : length sums ≡ mostQuarters → Counted sums (runQuarter start run H) sums (start / quarterSeconds)
+  pub run-begins : length sums ≡ mostQuarters → Counting sums (runQuarter start run H) sums (start / quarterSeconds)
   run-begins long = counting-begins sums (runQuarter start run H) (start / quarterSeconds) long (quarters-ahead start run H)
 
-  module _ (last : ℕ) (el : last ≡ min ((start + length run + 899) / quarterSeconds) (H / quarterSeconds))
-      (out : List ℤ) (k : ℕ) (c : Counted sums (runQuarter start run H) out k) where
+  module _ (last : ℕ) (el : last ≡ quartersBefore (start + length run) H)
+      (out : List ℤ) (k : ℕ) (c : Counting sums (runQuarter start run H) out k) where
     pub run-ends : last ≤ k → out ≡ withRun start run H sums
     unfolding withRun
     run-ends h = counting-ends sums (runQuarter start run H) out k c (λ j l. quarters-past start run H j (subst (λ m. m ≤ j) el (le-trans h l)))
@@ -209,6 +209,6 @@ module _ (start H : ℕ) (run sums : List ℤ) (room : RunRoom start H run sums)
       sum-held = rw held sum-fits
 
       pub quarter-added : k < mostQuarters
-          → Counted sums (runQuarter start run H) (set out k (toZ w64 (ofZ w64 (toZ w64 (ofZ w64 (getD out k (pos 0))) +ℤ toZ w64 more)))) (k + 1)
+          → Counting sums (runQuarter start run H) (set out k (toZ w64 (ofZ w64 (toZ w64 (ofZ w64 (getD out k (pos 0))) +ℤ toZ w64 more)))) (k + 1)
       quarter-added l =
           entry-counted sums (runQuarter start run H) out k c l _ (ap (λ z. toZ w64 (ofZ w64 z)) held ∙ toZ-ofZ sum-fits ∙ ap (λ n. getD out k (pos 0) +ℤ pos n) more-is)

@@ -1,11 +1,5 @@
 pub mod Exact
 pub mod Parts
 pub mod Seen
-pub mod Room
-pub mod Given
-pub mod Legs
 pub mod Quarters
-pub mod Curves
-pub mod Before
-pub mod Worked
 pub mod Bits

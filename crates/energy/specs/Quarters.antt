@@ -1,5 +1,5 @@
 -- The quarter sums, and what one run of powers adds to them: a leg's samples from its departure on, or a subnet's powers from second 0 on.
-use Prim.Native.Nat.{ℕ, _+_, _*_, _-_, _≤_, _^_}
+use Prim.Native.Nat.{ℕ, _+_, _*_, _-_, _/_, _≤_, _^_, min}
 use mathlib.Core.Bool.{cond}
 use mathlib.Core.List.{List}
 use lib.Dec.{leb, ltb}
@@ -10,6 +10,10 @@ use Rattle.rules.specs.Energy.{sumTo, maxTo, maxAt, above, tabulate, quarter}
 use Rattle.rules.specs.declared.figures.Peak.{Peak}
 use Rattle.laws.specs.Sized.{mostPower}
 use Rattle.laws.specs.Laying.{Within}
+
+-- how many quarters begin before a second, of those that H does not cut
+abbrev pub quartersBefore : (second H : ℕ) → ℕ
+quartersBefore second H = min ((second + (quarterSeconds - 1)) / quarterSeconds) (H / quarterSeconds)
 
 -- what a run of powers from second `start` on takes at second t
 abbrev pub runAt : (start : ℕ) → List ℤ → (t : ℕ) → ℤ

@@ -1,11 +1,10 @@
 // Quarter hours: quarter k covers the seconds 900 k to 900 k + 899, and one that the horizon cuts is left out.
 // The 196 quarter sums are carried through as one array.
 ghost use mathlib.Core.Path.{_≡_};
-ghost use Prim.Native.Nat.{_+_, _/_, _≤_, _<_, min};
+ghost use Prim.Native.Nat.{_≤_, _<_};
 ghost use lib.ListN.{length};
-ghost use Rattle.rules.specs.Energy as energy;
-ghost use Rattle.rules.specs.Limits.{quarterSeconds, mostQuarters, mostHorizon};
-ghost use Rattle.energy.specs.Quarters.{quarterTaken, withRun, higherOf, greatestSum, RunRoom};
+ghost use Rattle.rules.specs.Limits.{mostQuarters, mostHorizon};
+ghost use Rattle.energy.specs.Quarters.{quartersBefore, quarterTaken, withRun, higherOf, greatestSum, RunRoom};
 use crate::runs;
 use crate::sides;
 use rules::figures::Peak;
@@ -27,7 +26,7 @@ fn in_quarter(run: &[i32], start: usize, k: usize) -> u64
 // How many whole quarters of the horizon begin before a second.
 fn quarters_before(second: usize, h: usize) -> usize
     requires { ⌜ second ≤ mostHorizon ⌝ }
-    ensures { λ r. ⌜ r ≡ min ((second + 899) / quarterSeconds) (h / quarterSeconds) ⌝ }
+    ensures { λ r. ⌜ r ≡ quartersBefore second h ⌝ }
 {
     let begun = (second + (Horizon::QUARTER as usize - 1)) / Horizon::QUARTER as usize;
     let whole = h / Horizon::QUARTER as usize;
@@ -55,13 +54,6 @@ pub fn add_run(
     out
 }
 
-// max(x, 0)
-fn above(x: i64) -> u64
-    ensures { λ r. ⌜ r ≡ energy.above x ⌝ }
-{
-    if 0 < x { x as u64 } else { 0 }
-}
-
 // The greatest sum so far, and that of quarter `k`.
 fn higher(best: Peak, kj: u64, k: u32) -> Peak
     ensures { λ r. ⌜ r ≡ higherOf best kj k ⌝ }
@@ -80,7 +72,7 @@ pub fn greatest_of(sums: [i64; Horizon::QUARTERS]) -> Peak
     let mut best = Peak { kj: 0, quarter: 0 };
     let mut k: usize = 0;
     while k < Horizon::QUARTERS {
-        best = higher(best, above(sums[k]), k as u32);
+        best = higher(best, signs::above(sums[k]), k as u32);
         k += 1;
     }
     best

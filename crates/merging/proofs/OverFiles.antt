@@ -19,8 +19,9 @@ use Rattle.tails.specs.Left.{Judgeable}
 use Rattle.tails.proofs.Checking.{WasFiled, was-filed, not-filed}
 use Rattle.writer.specs.Merges.{mergeOf}
 use Rattle.writer.specs.declared.merge.Direction.{Direction}
+use Rattle.order.specs.Both.{solutionsRead}
 use Rattle.merging.specs.declared.Merged.{Merged}
-use Rattle.merging.specs.Left.{notWritten, solutionsRead, Solves}
+use Rattle.merging.specs.Left.{notWritten, Solves}
 use Rattle.merging.specs.Promise.{MergeRead}
 use Rattle.merging.proofs.Standing.{never, files-stand}
 

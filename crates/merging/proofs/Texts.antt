@@ -30,7 +30,7 @@ use Rattle.writer.specs.declared.merge.Travels.the-variants.{Equal, UnequalAt}
 use Rattle.writer.proofs.Writing.{written-length}
 use Rattle.writer.proofs.Filled.{unequal-seen, merged-fits, merged-whole}
 use Rattle.merging.specs.declared.Merged.{Merged}
-use Rattle.merging.specs.Order.{travelAnswer, roomAnswer, firstOf}
+use Rattle.order.specs.Order.{travelAnswer, roomAnswer, firstOf}
 use Rattle.merging.specs.Left.{notWritten, Made, Mergeable, bothOf, mergedEqual}
 use Rattle.merging.proofs.Standing.{never}
 
@@ -53,23 +53,23 @@ module _ {counts : Counts} {second legs configurations choices secondChoices : L
   rows-many : counts .legs ≡ length (f .rows)
   rows-many = ap (λ (c : Counts). c .legs) (k .left .counted)
 
-  a-many : length (k .a) ≡ length (f .rows)
-  a-many = choices-many (k .H) (k .left .texts) (roomsOf (k .left .lent)) f (k .left .read) solutionFile (length (k .lent)) (k .first) (k .a) (k .a-read)
+  a-many : length (k .both .a) ≡ length (f .rows)
+  a-many = choices-many (k .H) (k .left .texts) (roomsOf (k .left .lent)) f (k .left .read) solutionFile (length (k .lent)) (k .first) (k .both .a) (k .both .a-read)
 
-  b-many : length (k .b) ≡ length (f .rows)
-  b-many = choices-many (k .H) (k .left .texts) (roomsOf (k .left .lent)) f (k .left .read) secondFile (length (k .lentSecond)) second (k .b) (k .b-read)
+  b-many : length (k .both .b) ≡ length (f .rows)
+  b-many = choices-many (k .H) (k .left .texts) (roomsOf (k .left .lent)) f (k .left .read) secondFile (length (k .lentSecond)) second (k .both .b) (k .both .b-read)
 
   -- a solution that was read is no longer than a text may be
   pub second-short : length second ≤ mostText
-  second-short = choices-good (k .H) f secondFile (length (k .lentSecond)) second (k .b) (k .b-read) .solution .short
+  second-short = choices-good (k .H) f secondFile (length (k .lentSecond)) second (k .both .b) (k .both .b-read) .solution .short
 
-  travels-seen : unequalFrom 0 (configurationsIn (counts .legs) choices) (configurationsIn (counts .legs) secondChoices) ≡ unequalFrom 0 (k .a) (k .b)
+  travels-seen : unequalFrom 0 (configurationsIn (counts .legs) choices) (configurationsIn (counts .legs) secondChoices) ≡ unequalFrom 0 (k .both .a) (k .both .b)
   travels-seen =
-      (λ j. unequalFrom 0 (configurationsIn (rows-many j) (k .choices-are j)) (configurationsIn (rows-many j) (k .second-are j)))
-      ∙ unequal-seen (f .rows) (k .left .lent .legs) (k .left .lent .configurations) (k .a) (k .b) (k .lent) (k .lentSecond) a-many b-many
+      (λ j. unequalFrom 0 (configurationsIn (rows-many j) (k .both .choices-are j)) (configurationsIn (rows-many j) (k .both .second-are j)))
+      ∙ unequal-seen (f .rows) (k .left .lent .legs) (k .left .lent .configurations) (k .both .a) (k .both .b) (k .lent) (k .lentSecond) a-many b-many
 
   abbrev written : Direction → List ℕ
-  written d = textOf (chosen (f .rows) (mergeOf d (k .a) (k .b)))
+  written d = textOf (chosen (f .rows) (mergeOf d (k .both .a) (k .both .b)))
 
   module _ (d : Direction) (text : List ℕ) {v : Travels}
       (told : v ≡ travelsOf (unequalFrom 0 (configurationsIn (counts .legs) choices) (configurationsIn (counts .legs) secondChoices))) where
@@ -78,7 +78,7 @@ module _ {counts : Counts} {second legs configurations choices secondChoices : L
         → r ≡ notWritten (Refused x) → Made (mergedEqual k d text) r text′
     unequal-way {row} {x} {r} {text′} e q s =
         subst (λ o. Made (mergeTravel (k .left .lent) (k .lent) (k .lentSecond) text second (mergeOf d) o (bothOf k)) r text′)
-        (sym (was-unequal (unequalFrom 0 (k .a) (k .b)) row (sym e ∙ told ∙ ap travelsOf travels-seen)))
+        (sym (was-unequal (unequalFrom 0 (k .both .a) (k .both .b)) row (sym e ∙ told ∙ ap travelsOf travels-seen)))
         (rw (s, q) (record { answer = refl; size = refl; puts = λ z. never (sym z) }))
 
     module _ (e : v ≡ Equal) {text′ : List ℕ} {n : ℕ} (small : length text < lastPlace)
@@ -86,11 +86,11 @@ module _ {counts : Counts} {second legs configurations choices secondChoices : L
         {fits : Bool} (tested : fits ≡ (leb n (length text′) && leb n mostText)) where
       put-left : Written text 0
           (textOf
-          (mergedIn d (length (f .rows)) (writtenTables f (k .left .lent) .legs) (writtenTables f (k .left .lent) .configurations) (writtenChoices (k .a) (k .lent))
-          (writtenChoices (k .b) (k .lentSecond)))) text′ n
+          (mergedIn d (length (f .rows)) (writtenTables f (k .left .lent) .legs) (writtenTables f (k .left .lent) .configurations) (writtenChoices (k .both .a) (k .lent))
+          (writtenChoices (k .both .b) (k .lentSecond)))) text′ n
       put-left =
           subst (λ rows. Written text 0 (textOf rows) text′ n)
-          (λ j. mergedIn d (rows-many j) (k .legs-are j) (k .configurations-are j) (k .choices-are j) (k .second-are j)) put
+          (λ j. mergedIn d (rows-many j) (k .legs-are j) (k .configurations-are j) (k .both .choices-are j) (k .both .second-are j)) put
 
       -- the buffer is as long as it was
       fits-at : fits ≡ (leb n (length text) && leb n mostText)
@@ -100,29 +100,28 @@ module _ {counts : Counts} {second legs configurations choices secondChoices : L
       fits-seen =
           fits-at
           ∙ ap₂ _&&_
-          (merged-fits (f .rows) (k .left .lent .legs) (k .left .lent .configurations) (k .a) (k .b) (k .lent) (k .lentSecond) a-many b-many d text text′ n put-left (length text) small)
-          (merged-fits (f .rows) (k .left .lent .legs) (k .left .lent .configurations) (k .a) (k .b) (k .lent) (k .lentSecond) a-many b-many d text text′ n put-left mostText (omega arith))
+          (merged-fits (f .rows) (k .left .lent .legs) (k .left .lent .configurations) (k .both .a) (k .both .b) (k .lent) (k .lentSecond) a-many b-many d text text′ n put-left (length text) small)
+          (merged-fits (f .rows) (k .left .lent .legs) (k .left .lent .configurations) (k .both .a) (k .both .b) (k .lent) (k .lentSecond) a-many b-many d text text′ n put-left mostText (omega arith))
 
       fitted : {r : Merged} → Made (mergeFitted (k .left .lent) (k .lent) (k .lentSecond) text fits (written d) (bothOf k)) r text′ → Made (mergedEqual k d text) r text′
       fitted {r} m =
           subst (λ o. Made (mergeTravel (k .left .lent) (k .lent) (k .lentSecond) text second (mergeOf d) o (bothOf k)) r text′)
-          (sym (was-equal (unequalFrom 0 (k .a) (k .b)) (sym e ∙ told ∙ ap travelsOf travels-seen)))
+          (sym (was-equal (unequalFrom 0 (k .both .a) (k .both .b)) (sym e ∙ told ∙ ap travelsOf travels-seen)))
           (subst (λ b. Made (mergeFitted (k .left .lent) (k .lent) (k .lentSecond) text b (written d) (bothOf k)) r text′) fits-seen m)
 
       -- the text
       text-way : fits ≡ true → Made (mergedEqual k d text) (record { answer = Accepted; length = n }) text′
       text-way h =
           let room : n ≤ length text = leb-true n (length text) (and-first (leb n (length text)) (leb n mostText) (sym fits-at ∙ h)) in
-          let whole = merged-whole (f .rows) (k .left .lent .legs) (k .left .lent .configurations) (k .a) (k .b) (k .lent) (k .lentSecond) a-many b-many d text text′ n put-left small room in
+          let whole = merged-whole (f .rows) (k .left .lent .legs) (k .left .lent .configurations) (k .both .a) (k .both .b) (k .lent) (k .lentSecond) a-many b-many d text text′ n put-left small room in
           fitted (rw h (record { answer = refl; size = whole .0; puts = λ z. whole .1 }))
 
       -- 16
       room-way : {x : Refusal} {r : Merged} → fits ≡ false → x ≡ refusal noRoom noFile 0 → r ≡ notWritten (Refused x) → Made (mergedEqual k d text) r text′
       room-way h q s = fitted (rw (h, s, q) (record { answer = refl; size = refl; puts = λ z. never (sym z) }))
 
-    -- one and two: the answers of the two tests
     module _ {text′ : List ℕ} {n : ℕ} (small : length text < lastPlace) (put : Written text 0 (textOf (mergedIn d (counts .legs) legs configurations choices secondChoices)) text′ n)
-        {one two answer : Answer} (one-is : one ≡ travelAnswer second v) (two-is : two ≡ roomAnswer (leb n (length text′) && leb n mostText)) (first : answer ≡ firstOf one two) where
+        {answer : Answer} (first : answer ≡ firstOf (travelAnswer second v) (roomAnswer (leb n (length text′) && leb n mostText))) where
       abbrev Ends : Type 0
       Ends =
           (isAccepted answer ≡ true → Made (mergedEqual k d text) (record { answer = answer; length = n }) text′)
@@ -140,12 +139,12 @@ module _ {counts : Counts} {second legs configurations choices secondChoices : L
         where
           room : v ≡ Equal → (fits : Bool) → (leb n (length text′) && leb n mostText) ≡ fits → Ends
           room e true h =
-              ends-accepted (first ∙ (λ j. firstOf ((one-is ∙ ap (travelAnswer second) e) j) ((two-is ∙ ap roomAnswer h) j))) (text-way e small put refl h)
+              ends-accepted (first ∙ (λ j. firstOf (travelAnswer second (e j)) (roomAnswer (h j)))) (text-way e small put refl h)
           room e false h =
-              ends-refused (first ∙ (λ j. firstOf ((one-is ∙ ap (travelAnswer second) e) j) ((two-is ∙ ap roomAnswer h) j))) (room-way e small put refl h refl refl)
+              ends-refused (first ∙ (λ j. firstOf (travelAnswer second (e j)) (roomAnswer (h j)))) (room-way e small put refl h refl refl)
 
           go : (w : Travels) → v ≡ w → Ends
-          go (UnequalAt row) e = ends-refused (first ∙ (λ j. firstOf ((one-is ∙ ap (travelAnswer second) e) j) two)) (unequal-way e refl refl)
+          go (UnequalAt row) e = ends-refused (first ∙ (λ j. firstOf (travelAnswer second (e j)) (roomAnswer (leb n (length text′) && leb n mostText)))) (unequal-way e refl refl)
           go Equal e = room e (leb n (length text′) && leb n mostText) refl
 
       pub text-ends : isAccepted answer ≡ true → Made (mergedEqual k d text) (record { answer = answer; length = n }) text′

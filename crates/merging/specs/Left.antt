@@ -4,17 +4,16 @@ use mathlib.Core.Path.{_≡_}
 use mathlib.Core.Bool.{true, false}
 use mathlib.Core.List.{List}
 use lib.ListN.{length}
-use Rattle.rules.specs.Answers.{Reading, good, _>>=_, solutionFile, secondFile, isRefusal, isAccepted}
-use Rattle.rules.specs.Reading.{Files, choicesRead}
+use Rattle.rules.specs.Answers.{isRefusal, isAccepted}
 use Rattle.rules.specs.Merge.{unequalFrom}
-use Rattle.rules.specs.Entries.{writtenTables, writtenChoices, verdictOf, Both, mergeTravel, mergeFirst, mergeFrom}
+use Rattle.rules.specs.Entries.{writtenTables, verdictOf, Both, mergeTravel, mergeFirst, mergeFrom}
 use Rattle.rules.specs.Entries as entries
-use Rattle.rules.specs.declared.sizes.Configuration.{Configuration}
 use Rattle.rules.specs.declared.answers.Answer.{Answer}
 use Rattle.files.specs.declared.Counts.{Counts}
 use Rattle.tails.specs.Left.{Left, Judgeable}
 use Rattle.writer.specs.Merges.{mergeOf}
 use Rattle.writer.specs.declared.merge.Direction.{Direction}
+use Rattle.order.specs.Both.{BothChosen, solutionsRead}
 use Rattle.merging.specs.declared.Merged.{Merged}
 
 -- short of acceptance no byte is written
@@ -27,7 +26,7 @@ pub record Made (o : entries.Merged) (r : Merged) (text : List ℕ) : Type 0 whe
   pub size : r .length ≡ o .size
   pub puts : isAccepted (r .answer) ≡ true → text ≡ o .text
 
--- ---- two solutions that were read: a and b are their choices, and the last two tables hold them; second is the text of the second
+-- ---- two solutions that were read, and the last two tables hold their choices; second is the text of the second
 
 pub record Mergeable (counts : Counts) (second legs configurations choices secondChoices : List ℕ) : Type 0 where
   pub H : ℕ
@@ -37,12 +36,7 @@ pub record Mergeable (counts : Counts) (second legs configurations choices secon
   pub first : List ℕ
   pub lent : List ℕ
   pub lentSecond : List ℕ
-  pub a : List Configuration
-  pub b : List Configuration
-  pub a-read : choicesRead H (left .files) solutionFile (length lent) first ≡ good a
-  pub b-read : choicesRead H (left .files) secondFile (length lentSecond) second ≡ good b
-  pub choices-are : choices ≡ writtenChoices a lent
-  pub second-are : secondChoices ≡ writtenChoices b lentSecond
+  pub both : BothChosen H (left .files) first second lent lentSecond choices secondChoices
 
 -- for verdicts, with the constraints
 pub record Disputable (counts : Counts) (second legs configurations constraints choices secondChoices : List ℕ) : Type 0 where
@@ -51,15 +45,15 @@ pub record Disputable (counts : Counts) (second legs configurations constraints 
 
 module _ {counts : Counts} {second legs configurations choices secondChoices : List ℕ} (k : Mergeable counts second legs configurations choices secondChoices) where
   abbrev pub bothOf : Both
-  bothOf = record { files = k .left .files; first = k .a; second = k .b }
+  bothOf = record { files = k .left .files; first = k .both .a; second = k .both .b }
 
   -- 17, 16 and the text
   abbrev pub mergedEqual : Direction → (text : List ℕ) → entries.Merged
-  mergedEqual d text = mergeTravel (k .left .lent) (k .lent) (k .lentSecond) text second (mergeOf d) (unequalFrom 0 (k .a) (k .b)) bothOf
+  mergedEqual d text = mergeTravel (k .left .lent) (k .lent) (k .lentSecond) text second (mergeOf d) (unequalFrom 0 (k .both .a) (k .both .b)) bothOf
 
   -- after both verdicts
   abbrev pub mergedJudged : Direction → (text : List ℕ) → entries.Merged
-  mergedJudged d text = mergeFirst (k .left .lent) (k .lent) (k .lentSecond) text second (mergeOf d) (verdictOf (k .left .files) (k .a)) bothOf
+  mergedJudged d text = mergeFirst (k .left .lent) (k .lent) (k .lentSecond) text second (mergeOf d) (verdictOf (k .left .files) (k .both .a)) bothOf
 
 abbrev pub Writes : Direction → Counts → (second legs configurations choices secondChoices text : List ℕ) → Merged → (text′ : List ℕ) → Type 0
 Writes d counts second legs configurations choices secondChoices text r text′ =
@@ -70,13 +64,6 @@ Judges d counts second legs configurations constraints choices secondChoices tex
     (k : Disputable counts second legs configurations constraints choices secondChoices) → Made (mergedJudged (k .mergeable) d text) r text′
 
 -- ---- the solutions themselves, over files that were read
-
--- both solutions
-abbrev pub solutionsRead : (H : ℕ) → Files → (first second : List ℕ) → (choices secondChoices : ℕ) → Reading Both
-solutionsRead H files first second choices secondChoices = do
-  a ← choicesRead H files solutionFile choices first
-  b ← choicesRead H files secondFile secondChoices second
-  good (record { files = files; first = a; second = b })
 
 -- and the choice tables, where nothing is refused
 pub record Solved (o : entries.Merged) (r : Merged) (choices second text : List ℕ) : Type 0 where

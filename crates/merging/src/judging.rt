@@ -1,4 +1,4 @@
-// Two solutions over files that were read: the verdict of the first, of the second, and then the merge.
+// Two solutions over files that were read: both verdicts, and then the merge.
 ghost use Rattle.tails.specs.Left.{Judgeable};
 ghost use Rattle.merging.specs.Left.{Disputable, Judges, Solves};
 use crate::Merged;
@@ -6,7 +6,6 @@ use crate::not_written;
 use crate::writing;
 use files::Counts;
 use rules::answers::Answer;
-use rules::answers::File;
 use tails::Chosen;
 use tails::refusals;
 use writer::merge::Direction;
@@ -26,38 +25,27 @@ fn merge_chosen(
     requires { ⌜ Disputable counts (now second) (now legs) (now configurations) (now constraints) (now choices) (now «second_choices») ⌝ }
     ensures { λ r. ⌜ Judges direction counts (now (second .entry)) (now (legs .entry)) (now (configurations .entry)) (now (constraints .entry)) (now (choices .entry)) (now («second_choices» .entry)) (now (text .entry)) r (now (text .exit)) ⌝ }
 {
-    let one = tails::judge_choices(
+    let judged = order::judge_both(
         counts,
         legs,
         configurations,
         constraints,
         choices,
-        File::SOLUTION,
+        second_choices,
     );
-    if refusals::is_accepted(one) {
-        let two = tails::judge_choices(
+    if refusals::is_accepted(judged) {
+        return writing::write_merge(
+            direction,
             counts,
+            second,
             legs,
             configurations,
-            constraints,
+            choices,
             second_choices,
-            File::SECOND_SOLUTION,
+            text,
         );
-        if refusals::is_accepted(two) {
-            return writing::write_merge(
-                direction,
-                counts,
-                second,
-                legs,
-                configurations,
-                choices,
-                second_choices,
-                text,
-            );
-        }
-        return not_written(two);
     }
-    not_written(one)
+    not_written(judged)
 }
 
 // A second solution's refusals come before both verdicts.
@@ -77,30 +65,18 @@ pub fn merge_solutions(
     requires { ⌜ Judgeable h counts (now legs) (now configurations) (now constraints) ⌝ }
     ensures { λ r. ⌜ Solves h direction counts (now (first .entry)) (now (second .entry)) (now (legs .entry)) (now (configurations .entry)) (now (constraints .entry)) (now (choices .entry)) (now («second_choices» .entry)) (now (text .entry)) r (now (choices .exit)) (now («second_choices» .exit)) (now (text .exit)) ⌝ }
 {
-    match tails::choose(first, h, File::SOLUTION, counts, legs, choices) {
+    match order::choose_both(first, second, h, counts, legs, choices, second_choices) {
         Chosen::Refused(refusal) => not_written(Answer::Refused(refusal)),
-        Chosen::Whole => {
-            match tails::choose(
-                second,
-                h,
-                File::SECOND_SOLUTION,
-                counts,
-                legs,
-                second_choices,
-            ) {
-                Chosen::Refused(refusal) => not_written(Answer::Refused(refusal)),
-                Chosen::Whole => merge_chosen(
-                    direction,
-                    counts,
-                    second,
-                    legs,
-                    configurations,
-                    constraints,
-                    choices,
-                    second_choices,
-                    text,
-                ),
-            }
-        }
+        Chosen::Whole => merge_chosen(
+            direction,
+            counts,
+            second,
+            legs,
+            configurations,
+            constraints,
+            choices,
+            second_choices,
+            text,
+        ),
     }
 }

@@ -9,7 +9,7 @@ use rules::answers::Answer;
 use tails::refusals;
 use writer::merge::Direction;
 
-pub mod writing; // 17, the text, 16
+pub mod writing; // the text, 17, 16
 pub mod judging; // the solutions, and their verdicts
 
 // The bytes that were written: none short of acceptance.

@@ -5,12 +5,12 @@ use lib.Dec.{leb}
 use borrow.Author.Tests.{le-leb, lt-leb}
 use native.Mathlib.Omega.{arith}
 use mathlib.Core.Path.{_≡_, refl, sym, ap, _∙_, subst}
-use mathlib.Core.List.{List, [], _∷_}
-use native.Mathlib.Nat.{suc-mul, mul-le-mul}
-use lib.ListN.{length, drop, length-append}
+use mathlib.Core.List.{List}
+use native.Mathlib.Nat.{mul-le-mul}
+use lib.ListN.{length}
 use lib.IntN.{ℤ}
 use Rattle.rules.specs.Limits.{profileWidth, trackWidth, mostSubnets, mostHorizon}
-use Rattle.rules.specs.Lists.{flat, over}
+use Rattle.rules.specs.Lists.{over}
 use Rattle.rules.specs.Energy.{figuresOf, curvesOf, deskOf}
 use Rattle.rules.specs.Answers.{refusal, noRoom, noFile, good, solutionFile}
 use Rattle.rules.specs.Reading.{legIds, filesOf}
@@ -24,30 +24,20 @@ use Rattle.rules.specs.declared.answers.Answer.{Answer}
 use Rattle.rules.specs.declared.answers.Answer.the-variants.{Accepted, Refused}
 use Rattle.ids.specs.Column.{Records, Rising}
 use Rattle.ids.proofs.Curves.{profiles-length}
+use Rattle.rows.proofs.Holding.{front-records}
 use Rattle.laws.proofs.Sized.{accepted-sized}
 use Rattle.laws.proofs.GoodFiles.{GoodFiles, files-good, all-good}
 use Rattle.laws.proofs.Documents.{good-is-lawful}
 use Rattle.verdict.proofs.GoodReading.{choices-many}
 use Rattle.energy.specs.declared.runs.Counts.{Counts}
 use Rattle.energy.specs.Exact.{Exact}
-use Rattle.energy.specs.Given.{given, curvesSeen, Readable}
-use Rattle.energy.specs.Worked.{figuresSeen, Worked}
-use Rattle.energy.proofs.Reading.{Counted, read as read-tables, curves-read, figures-read, reading-readable, figures-exact}
+use Rattle.figures.specs.Given.{given, curvesSeen, Readable}
+use Rattle.figures.specs.Worked.{figuresSeen, Worked}
+use Rattle.figures.proofs.Reading.{Counted, read as read-tables, curves-read, figures-read, reading-readable, figures-exact}
 use Rattle.files.specs.declared as files
 use Rattle.reports.specs.declared.Report.{Report}
 use Rattle.reports.specs.Promise.{noReport}
 use Rattle.reports.specs.Left.{Left, Risen, Roomy, WorkedOut, Tested}
-
--- entries of one width that were written stand in their table
-records-written : {A : Type 0} (numbers : A → List ℕ) (width : ℕ) → 1 ≤ width → ((x : A) → length (numbers x) ≡ width) → (xs : List A) (t : List ℕ)
-    → Records width (length xs) (over (flat numbers xs) t)
-unfolding over
-records-written {A = A} numbers width one wide xs t =
-    record { one = one; whole = omega (arith, many xs, length-append (flat numbers xs) (drop (length (flat numbers xs)) t)) }
-  where
-    many : (ys : List A) → length (flat numbers ys) ≡ length ys * width
-    many [] = omega arith
-    many (y ∷ ys) = length-append (numbers y) (flat numbers ys) ∙ rw (suc-mul (length ys) width) (omega (arith, wide y, many ys))
 
 module _ {H : ℕ} {counts : files.Counts.Counts} {choices legs profiles : List ℕ} {samples : List ℤ} {tracks : List ℕ}
     (l : Left H counts choices legs profiles samples tracks) where
@@ -57,15 +47,12 @@ module _ {H : ℕ} {counts : files.Counts.Counts} {choices legs profiles : List 
   -- the profiles and the tracks that were counted stand in their tables
   pub left-profiles : Records profileWidth (counts .profiles) profiles
   left-profiles =
-      let many : counts .profiles ≡ length (profilesFrom 0 (w .files .curves)) = ap (λ c. c .profiles) (l .counted) ∙ sym (profiles-length 0 (w .files .curves)) in
-      subst (Records profileWidth (counts .profiles)) (sym (l .profiles-are))
-      (rw many (records-written profileNumbers profileWidth (omega arith) (λ p. refl) (profilesFrom 0 (w .files .curves)) (l .lent .profiles)))
+      front-records profileNumbers profileWidth (omega arith) (λ p. refl) (profilesFrom 0 (w .files .curves)) (l .lent .profiles)
+      (ap (λ c. c .profiles) (l .counted) ∙ sym (profiles-length 0 (w .files .curves))) (l .profiles-are)
 
   pub left-tracks : Records trackWidth (counts .tracks) tracks
   left-tracks =
-      let many : counts .tracks ≡ length (w .files .document .tracks) = ap (λ c. c .tracks) (l .counted) in
-      subst (Records trackWidth (counts .tracks)) (sym (l .tracks-are))
-      (rw many (records-written trackNumbers trackWidth (omega arith) (λ t. refl) (w .files .document .tracks) (l .lent .tracks)))
+      front-records trackNumbers trackWidth (omega arith) (λ t. refl) (w .files .document .tracks) (l .lent .tracks) (ap (λ c. c .tracks) (l .counted)) (l .tracks-are)
 
   module _ {k : Counts} (n : Risen counts profiles tracks k) where
     abbrev read : filesOf H (l .texts) (roomsOf (l .lent)) ≡ good (w .files)

@@ -49,7 +49,7 @@ fn work_out(
     ensures { λ r. ⌜ Works h counts (now (choices .entry)) (now (legs .entry)) (now (profiles .entry)) (now (samples .entry)) (now (tracks .entry)) (now (curves .entry)) r (now (curves .exit)) ⌝ }
 {
     let entries = risen(counts, profiles, tracks);
-    let figures = energy::work_out(
+    let figures = figures::work_out(
         curves,
         h as usize,
         entries,

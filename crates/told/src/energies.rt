@@ -17,14 +17,10 @@ fn peak(name: &[u8], h: u32, p: Peak) {
     say::text(b"\n");
 }
 
-fn above(x: i64) -> u64 {
-    if 0 < x { x as u64 } else { 0 }
-}
-
 // The greatest less the least, which is never below 0.
 fn fluctuation(kw: i64) {
     say::text(b"fluctuation: ");
-    say::number(above(kw));
+    say::number(signs::above(kw));
     say::text(b" kW\n");
 }
 

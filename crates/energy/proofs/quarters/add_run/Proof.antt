@@ -3,12 +3,12 @@
 use Prim.Native.Nat.{_-_}
 use native.Mathlib.Omega.{arith}
 use borrow.Author.Needs.{needs}
-use Rattle.energy.proofs.QuarterSteps.{Counted, runQuarter, run-begins, more-fits, sum-held, quarter-added, run-ends}
+use Rattle.energy.proofs.QuarterSteps.{Counting, runQuarter, run-begins, more-fits, sum-held, quarter-added, run-ends}
 use Rattle.energy.proofs.quarters.add_run.Statement.{statement}
 use Rattle.energy.proofs.quarters.add_run.Tie as tie
 
 abbrev Inv-loop : tie.InvT-loop
-Inv-loop run start h out₀ last k₀ out k = Counted out₀ (runQuarter start run h) out k
+Inv-loop run start h out₀ last k₀ out k = Counting out₀ (runQuarter start run h) out k
 
 abbrev μ-loop : tie.MeasureT-loop
 μ-loop run start h out₀ last k₀ out k = last - k

@@ -1,5 +1,6 @@
 -- `energy::sides::above` meets its contract. Assumes nothing.
-use Rattle.energy.proofs.CutAtZero.{casts-up, is-above, not-above, above-small}
+use Rattle.signs.proofs.CutAtZero.{casts-up, is-above, not-above}
+use Rattle.energy.proofs.CutAtZero.{above-small}
 use Rattle.energy.proofs.sides.above.Statement.{statement}
 use Rattle.energy.proofs.sides.above.Tie as tie
 

@@ -15,14 +15,8 @@ unequal-requires c κs = search needs
 put-merged-requires : tie.Need-put-merged-requires
 put-merged-requires c κs = search needs
 
-of-travels-requires : tie.Need-of-travels-requires
-of-travels-requires c κs = second-short (c .before .before .before .before .before .before .before .before .before .before .before .pre)
-
-of-room-requires : tie.Need-of-room-requires
-of-room-requires c κs = search needs
-
-first-of-requires : tie.Need-first-of-requires
-first-of-requires c κs = search needs
+of-merge-requires : tie.Need-of-merge-requires
+of-merge-requires c κs = second-short (c .before .before .before .before .before .before .before .before .before .before .before .pre)
 
 is-accepted-requires : tie.Need-is-accepted-requires
 is-accepted-requires c κs = search needs
@@ -32,9 +26,9 @@ same-length c = search needs
 
 returns : tie.Need-returns
 returns c = λ k.
-    let s = c .before .before .before .before .before .before .before .before .before .before .before .before .before .before .before .before in
+    let s = c .before .before .before .before .before .before .before .before .before .before .before .before .before .before in
     let small : length (s .args .text .now) < lastPlace = omega (arith, s .good .1 .1 .1 .1 .1 .1 .1 .0 .1) in
-    text-ends k (s .args .direction) (s .args .text .now) (c .before .before .before .before .before .before .before .before .before .unequal .ensures) small (c .before .before .before .before .before .before .before .put-merged .ensures) (c .before .before .before .before .of-travels .ensures) (c .before .before .before .of-room .ensures) (c .before .before .first-of .ensures) (sym (c .before .is-accepted .ensures) ∙ c .if1 .taken)
+    text-ends k (s .args .direction) (s .args .text .now) (c .before .before .before .before .before .before .before .unequal .ensures) small (c .before .before .before .before .before .put-merged .ensures) (c .before .before .of-merge .ensures) (sym (c .before .is-accepted .ensures) ∙ c .if1 .taken)
 
 not-written-requires : tie.Need-not-written-requires
 not-written-requires c κs = search needs
@@ -44,9 +38,9 @@ same-length-2 c = search needs
 
 returns-2 : tie.Need-returns-2
 returns-2 c = λ k.
-    let s = c .before .before .before .before .before .before .before .before .before .before .before .before .before .before .before .before .before in
+    let s = c .before .before .before .before .before .before .before .before .before .before .before .before .before .before .before in
     let small : length (s .args .text .now) < lastPlace = omega (arith, s .good .1 .1 .1 .1 .1 .1 .1 .0 .1) in
-    refusal-ends k (s .args .direction) (s .args .text .now) (c .before .before .before .before .before .before .before .before .before .before .unequal .ensures) small (c .before .before .before .before .before .before .before .before .put-merged .ensures) (c .before .before .before .before .before .of-travels .ensures) (c .before .before .before .before .of-room .ensures) (c .before .before .before .first-of .ensures) (sym (c .before .before .is-accepted .ensures) ∙ c .before .if1 .left) (c .not-written .ensures)
+    refusal-ends k (s .args .direction) (s .args .text .now) (c .before .before .before .before .before .before .before .before .unequal .ensures) small (c .before .before .before .before .before .before .put-merged .ensures) (c .before .before .before .of-merge .ensures) (sym (c .before .before .is-accepted .ensures) ∙ c .before .if1 .left) (c .not-written .ensures)
 
 pub write-merge-spec : {M : Type 1} → statement M
 write-merge-spec =
@@ -54,9 +48,7 @@ write-merge-spec =
     (tie.spec
     unequal-requires
     put-merged-requires
-    of-travels-requires
-    of-room-requires
-    first-of-requires
+    of-merge-requires
     is-accepted-requires
     same-length
     returns

@@ -1,6 +1,6 @@
 // What a case asks of an entry.
 pub mod starts; // where each text starts
-pub mod entries; // check, energy and the row at a place, asked about the texts of a case
+pub mod rows; // the row at a place
 
 // The numbers by which a block names the entries.
 pub struct Entry {}

@@ -1,4 +1,5 @@
 // What an entry answered, as the beginning of a line.
+use answered::Said;
 use cases::block::Lent;
 use cases::digest;
 use cases::lines;
@@ -10,23 +11,6 @@ use reports::Report;
 use rules::answers::Answer;
 use rules::figures::Desk;
 use rules::figures::Figures;
-
-// The place after it, and the digests of the rooms that only some entries take.
-pub struct Begun {
-    pub after: usize,
-    pub others: Others,
-}
-
-pub fn begin_checked(line: &mut [u8], answer: Answer, l: Lent) -> Begun {
-    Begun {
-        after: lines::put_answer(line, 0, answer),
-        others: Others {
-            second: lent::idle(l.second),
-            curves: lent::idle(l.curves),
-            text: lent::idle(l.text),
-        },
-    }
-}
 
 fn put_figures(line: &mut [u8], g: Figures, d: Desk) -> usize {
     // The greatest less the least, which is never below 0.
@@ -60,17 +44,6 @@ fn put_report(line: &mut [u8], report: Report) -> usize {
     lines::put_answer(line, 0, answer)
 }
 
-pub fn begin_reported(line: &mut [u8], report: Report, l: Lent, curves: &[i32]) -> Begun {
-    Begun {
-        after: put_report(line, report),
-        others: Others {
-            second: lent::idle(l.second),
-            curves: digest::signed(curves) as u64,
-            text: lent::idle(l.text),
-        },
-    }
-}
-
 fn put_merged(line: &mut [u8], merged: Merged) -> usize {
     let answer = merged.answer;
     if let Answer::Accepted = answer {
@@ -80,19 +53,38 @@ fn put_merged(line: &mut [u8], merged: Merged) -> usize {
     lines::put_answer(line, 0, answer)
 }
 
-pub fn begin_merged(
-    line: &mut [u8],
-    merged: Merged,
-    l: Lent,
-    second: &[u32],
-    text: &[u8],
-) -> Begun {
-    Begun {
-        after: put_merged(line, merged),
-        others: Others {
-            second: digest::unsigned(second) as u64,
+// The place after it.
+pub fn put(line: &mut [u8], said: Said) -> usize {
+    match said {
+        Said::Check(answer) => lines::put_answer(line, 0, answer),
+        Said::Energy(reported) => {
+            let report = reported.report;
+            put_report(line, report)
+        }
+        Said::Merge(joined) => {
+            let merged = joined.merged;
+            put_merged(line, merged)
+        }
+    }
+}
+
+// The digests of the rooms that only some entries take.
+pub fn others(said: Said, l: Lent) -> Others {
+    match said {
+        Said::Check(_) => Others {
+            second: lent::idle(l.second),
             curves: lent::idle(l.curves),
-            text: digest::bytes(text) as u64,
+            text: lent::idle(l.text),
+        },
+        Said::Energy(reported) => Others {
+            second: lent::idle(l.second),
+            curves: reported.curves,
+            text: lent::idle(l.text),
+        },
+        Said::Merge(joined) => Others {
+            second: joined.second,
+            curves: lent::idle(l.curves),
+            text: joined.text,
         },
     }
 }

@@ -4,8 +4,11 @@ use mathlib.Core.List.{List, [], _∷_}
 use lib.IntN.{ℤ}
 use Rattle.cases.specs.Numbers.{words, wordOf}
 
+abbrev pub factor : ℕ
+factor = 31
+
 abbrev pub stepped : ℕ → ℕ → ℕ
-stepped d n = (d * 31 + n) % words
+stepped d n = (d * factor + n) % words
 
 abbrev pub digestFrom : {A : Type 0} → (A → ℕ) → ℕ → List A → ℕ
 digestFrom word d [] = d

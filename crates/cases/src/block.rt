@@ -19,6 +19,10 @@ pub struct Texts {
     pub second: u32,
 }
 
+impl Texts {
+    pub const COUNT: usize = 5;
+}
+
 // The numbers lent of each table, and the bytes of the text.
 pub struct Lent {
     pub legs: u32,
@@ -48,6 +52,11 @@ impl Case {
     pub const BYTES: usize = 256;
 
     pub const NUMBERS: usize = 21;
+
+    // The only edition and the only rule set that there are.
+    pub const EDITION: u32 = 0;
+
+    pub const RULES: u32 = 0;
 }
 
 pub enum Block {
@@ -111,36 +120,83 @@ fn find_numbers(s: &[u8]) -> Found
     nothing()
 }
 
+// Where each number stands in the block.
+struct At {}
+
+impl At {
+    const ENTRY: usize = 0;
+
+    const H: usize = 1;
+
+    const FILE: usize = 2;
+
+    const PLACE: usize = 3;
+
+    const TIMETABLE: usize = 4;
+
+    const PROFILES: usize = 5;
+
+    const CONSTRAINTS: usize = 6;
+
+    const SOLUTION: usize = 7;
+
+    const SECOND: usize = 8;
+
+    const LEGS: usize = 9;
+
+    const CONFIGURATIONS: usize = 10;
+
+    const PROFILE_TABLE: usize = 11;
+
+    const SAMPLES: usize = 12;
+
+    const CONSTRAINT_TABLE: usize = 13;
+
+    const TRACKS: usize = 14;
+
+    const CHOICES: usize = 15;
+
+    const SECOND_CHOICES: usize = 16;
+
+    const CURVES: usize = 17;
+
+    const TEXT: usize = 18;
+
+    const EDITION: usize = 19;
+
+    const RULES: usize = 20;
+}
+
 // The numbers by their places.
 fn named(n: [u32; Case::NUMBERS]) -> Case
     ensures { λ r. ⌜ r ≡ caseOf n ⌝ }
 {
     Case {
-        entry: n[0],
-        h: n[1],
-        file: n[2],
-        place: n[3],
+        entry: n[At::ENTRY],
+        h: n[At::H],
+        file: n[At::FILE],
+        place: n[At::PLACE],
         texts: Texts {
-            timetable: n[4],
-            profiles: n[5],
-            constraints: n[6],
-            solution: n[7],
-            second: n[8],
+            timetable: n[At::TIMETABLE],
+            profiles: n[At::PROFILES],
+            constraints: n[At::CONSTRAINTS],
+            solution: n[At::SOLUTION],
+            second: n[At::SECOND],
         },
         lent: Lent {
-            legs: n[9],
-            configurations: n[10],
-            profiles: n[11],
-            samples: n[12],
-            constraints: n[13],
-            tracks: n[14],
-            choices: n[15],
-            second: n[16],
-            curves: n[17],
-            text: n[18],
+            legs: n[At::LEGS],
+            configurations: n[At::CONFIGURATIONS],
+            profiles: n[At::PROFILE_TABLE],
+            samples: n[At::SAMPLES],
+            constraints: n[At::CONSTRAINT_TABLE],
+            tracks: n[At::TRACKS],
+            choices: n[At::CHOICES],
+            second: n[At::SECOND_CHOICES],
+            curves: n[At::CURVES],
+            text: n[At::TEXT],
         },
-        edition: n[19],
-        rules: n[20],
+        edition: n[At::EDITION],
+        rules: n[At::RULES],
     }
 }
 

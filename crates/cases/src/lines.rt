@@ -8,6 +8,11 @@ ghost use Rattle.cases.specs.Lines.{styled, spacedIn, spaced, answered, 
 use rules::answers::Answer;
 use writer::bytes;
 
+// The digits of the greatest number of 64 bits, and the hexadecimal digits of each.
+const DECIMAL: usize = 20;
+
+const HEXADECIMAL: usize = 16;
+
 // How a number is written.
 pub enum Style {
     // Its digits, with no needless zero.
@@ -19,7 +24,7 @@ pub enum Style {
 fn put_number(buffer: &mut [u8], at: usize, n: u64) -> usize
     ensures { λ r. ⌜ Written (now (buffer .entry)) at (spelled n) (now (buffer .exit)) r ⌝ }
 {
-    let mut digits = [0u8; 20];
+    let mut digits = [0u8; DECIMAL];
     let k = io::decimal(n, &mut digits);
     bytes::put_bytes(buffer, at, &digits[..k])
 }
@@ -27,8 +32,8 @@ fn put_number(buffer: &mut [u8], at: usize, n: u64) -> usize
 fn put_pattern(buffer: &mut [u8], at: usize, n: u64) -> usize
     ensures { λ r. ⌜ Written (now (buffer .entry)) at (digitsIn 16 16 n) (now (buffer .exit)) r ⌝ }
 {
-    let mut digits = [0u8; 16];
-    let k = io::hex(n, 16, &mut digits);
+    let mut digits = [0u8; HEXADECIMAL];
+    let k = io::hex(n, HEXADECIMAL, &mut digits);
     bytes::put_bytes(buffer, at, &digits[..k])
 }
 

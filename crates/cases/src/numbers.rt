@@ -7,6 +7,8 @@ use text::numbers::Whole;
 // How many numbers 32 bits hold.
 pub const WORDS: u64 = 4_294_967_296;
 
+const TEN: u64 = 10;
+
 pub enum Number {
     Word(u32),
     // No whole number, or one that 32 bits do not hold.
@@ -27,7 +29,7 @@ fn digits(s: &[u8]) -> Number
         if b'9' < b {
             return Number::Other;
         }
-        value = value * 10 + ((b - b'0') as u64);
+        value = value * TEN + ((b - b'0') as u64);
         if WORDS <= value {
             return Number::Other;
         }

@@ -1,92 +1,26 @@
-// The two merges, asked about the texts of a case.
+// The two merges, with the rooms lent that only they take.
 use asked::Entry;
-use asked::starts;
 use cases::block::Case;
+use cases::within::Room;
 use checker::merges;
-use checker::merges::Merged;
+use lent::Before;
+use merging::Merged;
 
-fn earlier(
-    case: Case,
-    texts: &[u8],
-    legs: &mut [u32],
-    configurations: &mut [u32],
-    profile_table: &mut [u32],
-    samples: &mut [i32],
-    constraint_table: &mut [u32],
-    tracks: &mut [u32],
-    choices: &mut [u32],
-    second_choices: &mut [u32],
-    text: &mut [u8],
-) -> Merged {
-    let t = case.texts;
-    let starts = starts::of(t, texts);
-    let profiles = starts.profiles;
-    let constraints = starts.constraints;
-    let solution = starts.solution;
-    let second = starts.second;
-    let end = starts.end;
-    merges::merge_earlier(
-        case.h,
-        &texts[..profiles],
-        &texts[profiles..constraints],
-        &texts[constraints..solution],
-        &texts[solution..second],
-        &texts[second..end],
-        legs,
-        configurations,
-        profile_table,
-        samples,
-        constraint_table,
-        tracks,
-        choices,
-        second_choices,
-        text,
-    )
-}
-
-fn later(
-    case: Case,
-    texts: &[u8],
-    legs: &mut [u32],
-    configurations: &mut [u32],
-    profile_table: &mut [u32],
-    samples: &mut [i32],
-    constraint_table: &mut [u32],
-    tracks: &mut [u32],
-    choices: &mut [u32],
-    second_choices: &mut [u32],
-    text: &mut [u8],
-) -> Merged {
-    let t = case.texts;
-    let starts = starts::of(t, texts);
-    let profiles = starts.profiles;
-    let constraints = starts.constraints;
-    let solution = starts.solution;
-    let second = starts.second;
-    let end = starts.end;
-    merges::merge_later(
-        case.h,
-        &texts[..profiles],
-        &texts[profiles..constraints],
-        &texts[constraints..solution],
-        &texts[solution..second],
-        &texts[second..end],
-        legs,
-        configurations,
-        profile_table,
-        samples,
-        constraint_table,
-        tracks,
-        choices,
-        second_choices,
-        text,
-    )
+// What a merge answered, and the digests of those rooms.
+pub struct Joined {
+    pub merged: Merged,
+    pub second: u64,
+    pub text: u64,
 }
 
 // The one that the case names.
-pub fn merge(
+fn either(
     case: Case,
-    texts: &[u8],
+    timetable: &[u8],
+    profiles: &[u8],
+    constraints: &[u8],
+    first: &[u8],
+    second: &[u8],
     legs: &mut [u32],
     configurations: &mut [u32],
     profile_table: &mut [u32],
@@ -98,9 +32,13 @@ pub fn merge(
     text: &mut [u8],
 ) -> Merged {
     if case.entry == Entry::MERGE_EARLIER {
-        return earlier(
-            case,
-            texts,
+        return merges::merge_earlier(
+            case.h,
+            timetable,
+            profiles,
+            constraints,
+            first,
+            second,
             legs,
             configurations,
             profile_table,
@@ -112,9 +50,13 @@ pub fn merge(
             text,
         );
     }
-    later(
-        case,
-        texts,
+    merges::merge_later(
+        case.h,
+        timetable,
+        profiles,
+        constraints,
+        first,
+        second,
         legs,
         configurations,
         profile_table,
@@ -125,4 +67,48 @@ pub fn merge(
         second_choices,
         text,
     )
+}
+
+pub fn merge(
+    case: Case,
+    timetable: &[u8],
+    profiles: &[u8],
+    constraints: &[u8],
+    first: &[u8],
+    second: &[u8],
+    legs: &mut [u32],
+    configurations: &mut [u32],
+    profile_table: &mut [u32],
+    samples: &mut [i32],
+    constraint_table: &mut [u32],
+    tracks: &mut [u32],
+    choices: &mut [u32],
+) -> Joined {
+    let l = case.lent;
+    let mut second_choices = [Before::NUMBER; Room::NUMBERS];
+    let mut text = [Before::BYTE; Room::BYTES];
+    let second_part = lent::unsigned(l.second as usize, &second_choices);
+    let text_part = lent::bytes(l.text as usize, &text);
+    let merged = either(
+        case,
+        timetable,
+        profiles,
+        constraints,
+        first,
+        second,
+        legs,
+        configurations,
+        profile_table,
+        samples,
+        constraint_table,
+        tracks,
+        choices,
+        &mut second_choices[..second_part],
+        &mut text[..text_part],
+    );
+    Joined {
+        merged,
+        second: lent::numbers_digest(l.second, &second_choices),
+        text: lent::bytes_digest(l.text, &text),
+    }
 }

@@ -1,5 +1,6 @@
 // Many small cases in one run, for comparison with an independent program: each is a block of numbers and five texts, and is answered by one line.
 use asked::Entry;
+use asked::rows;
 use cases::block;
 use cases::block::Block;
 use cases::block::Case;
@@ -7,7 +8,7 @@ use cases::block::Texts;
 use cases::lines;
 use cases::within;
 use cases::within::Room;
-use lent::Before;
+use lent::ROOMS;
 use libc::STDOUT_FILENO;
 use pieces::Piece;
 
@@ -16,7 +17,7 @@ mod pieces; // standard input
 const MOST_CASES: u32 = 1_000_000;
 
 // The texts of a case stand one behind the other.
-const TEXTS: usize = 5 * Room::BYTES;
+const TEXTS: usize = Texts::COUNT * Room::BYTES;
 
 // More than a word, eight figures, four patterns and ten digests take.
 const LINE: usize = 512;
@@ -30,10 +31,10 @@ enum Next {
 
 // Whether the entry is there, under the only edition and rule set that are.
 fn is_known(case: Case) -> bool {
-    if case.edition != 0 {
+    if case.edition != Case::EDITION {
         return false;
     }
-    if case.rules != 0 {
+    if case.rules != Case::RULES {
         return false;
     }
     if case.entry < Entry::CHECK {
@@ -62,108 +63,27 @@ fn skip(case: Case) -> Next {
     Next::Bad
 }
 
-// The line of a case whose tables are lent, and the place after it.
-fn answer(
-    line: &mut [u8],
-    case: Case,
-    texts: &[u8],
-    legs: &mut [u32],
-    configurations: &mut [u32],
-    profile_table: &mut [u32],
-    samples: &mut [i32],
-    constraint_table: &mut [u32],
-    tracks: &mut [u32],
-    choices: &mut [u32],
-) -> usize {
-    let begun = answered::begin(
-        line,
-        case,
-        texts,
-        legs,
-        configurations,
-        profile_table,
-        samples,
-        constraint_table,
-        tracks,
-        choices,
-    );
-    let others = begun.others;
-    let digests = lent::digests(
-        legs,
-        configurations,
-        profile_table,
-        samples,
-        constraint_table,
-        tracks,
-        choices,
-        others,
-    );
-    lines::put_end(line, begun.after, &digests)
+fn put_digests(line: &mut [u8], at: usize, digests: &[u64; ROOMS]) -> usize {
+    lines::put_end(line, at, digests)
 }
 
-fn lend_others(
-    line: &mut [u8],
-    case: Case,
-    texts: &[u8],
-    legs: &mut [u32],
-    configurations: &mut [u32],
-    profile_table: &mut [u32],
-    samples: &mut [i32],
-) -> usize {
+// The line of a case that takes no room, and the place after it.
+fn put_row(line: &mut [u8], case: Case, texts: &[u8]) -> usize {
     let l = case.lent;
-    let mut constraint_table = [Before::NUMBER; Room::NUMBERS];
-    let mut tracks = [Before::NUMBER; Room::NUMBERS];
-    let mut choices = [Before::NUMBER; Room::NUMBERS];
-    let constraint_part = lent::unsigned(l.constraints as usize, &constraint_table);
-    let tracks_part = lent::unsigned(l.tracks as usize, &tracks);
-    let choices_part = lent::unsigned(l.choices as usize, &choices);
-    answer(
-        line,
-        case,
-        texts,
-        legs,
-        configurations,
-        profile_table,
-        samples,
-        &mut constraint_table[..constraint_part],
-        &mut tracks[..tracks_part],
-        &mut choices[..choices_part],
-    )
-}
-
-fn lend(line: &mut [u8], case: Case, texts: &[u8]) -> usize {
-    let l = case.lent;
-    let mut legs = [Before::NUMBER; Room::NUMBERS];
-    let mut configurations = [Before::NUMBER; Room::NUMBERS];
-    let mut profile_table = [Before::NUMBER; Room::NUMBERS];
-    let mut samples = [Before::SIGNED; Room::NUMBERS];
-    let legs_part = lent::unsigned(l.legs as usize, &legs);
-    let configurations_part = lent::unsigned(l.configurations as usize, &configurations);
-    let profile_part = lent::unsigned(l.profiles as usize, &profile_table);
-    let samples_part = lent::signed(l.samples as usize, &samples);
-    lend_others(
-        line,
-        case,
-        texts,
-        &mut legs[..legs_part],
-        &mut configurations[..configurations_part],
-        &mut profile_table[..profile_part],
-        &mut samples[..samples_part],
-    )
-}
-
-fn show(line: &mut [u8], case: Case, texts: &[u8]) -> usize {
-    let l = case.lent;
-    let after = answered::row(line, case, texts);
+    let after = begun::put_row(line, rows::row(case, texts));
     let digests = lent::all_idle(l);
-    lines::put_end(line, after, &digests)
+    put_digests(line, after, &digests)
 }
 
 fn put(line: &mut [u8], case: Case, texts: &[u8]) -> usize {
     if case.entry == Entry::ROW {
-        return show(line, case, texts);
+        return put_row(line, case, texts);
     }
-    lend(line, case, texts)
+    let outcome = outcomes::of_case(case, texts);
+    let said = outcome.said;
+    let digests = outcome.digests;
+    let after = begun::put(line, said);
+    put_digests(line, after, &digests)
 }
 
 // A case whose texts are read.

@@ -1,0 +1,83 @@
+// A solution judged, and with `energy` its energies, with the room lent that only they take.
+use cases::block::Case;
+use cases::within::Room;
+use checker::energies;
+use checker::verdicts;
+use lent::Before;
+use reports::Report;
+use rules::answers::Answer;
+
+// What the energies' entry answered, and the digest of that room.
+pub struct Reported {
+    pub report: Report,
+    pub curves: u64,
+}
+
+pub fn check(
+    case: Case,
+    timetable: &[u8],
+    profiles: &[u8],
+    constraints: &[u8],
+    solution: &[u8],
+    legs: &mut [u32],
+    configurations: &mut [u32],
+    profile_table: &mut [u32],
+    samples: &mut [i32],
+    constraint_table: &mut [u32],
+    tracks: &mut [u32],
+    choices: &mut [u32],
+) -> Answer {
+    let checked = verdicts::check(
+        case.h,
+        timetable,
+        profiles,
+        constraints,
+        solution,
+        legs,
+        configurations,
+        profile_table,
+        samples,
+        constraint_table,
+        tracks,
+        choices,
+    );
+    checked.answer
+}
+
+pub fn energy(
+    case: Case,
+    timetable: &[u8],
+    profiles: &[u8],
+    constraints: &[u8],
+    solution: &[u8],
+    legs: &mut [u32],
+    configurations: &mut [u32],
+    profile_table: &mut [u32],
+    samples: &mut [i32],
+    constraint_table: &mut [u32],
+    tracks: &mut [u32],
+    choices: &mut [u32],
+) -> Reported {
+    let l = case.lent;
+    let mut curves = [Before::SIGNED; Room::CURVES];
+    let part = lent::signed(l.curves as usize, &curves);
+    let report = energies::energy(
+        case.h,
+        timetable,
+        profiles,
+        constraints,
+        solution,
+        legs,
+        configurations,
+        profile_table,
+        samples,
+        constraint_table,
+        tracks,
+        choices,
+        &mut curves[..part],
+    );
+    Reported {
+        report,
+        curves: lent::curves_digest(l.curves, &curves),
+    }
+}

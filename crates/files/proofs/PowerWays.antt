@@ -20,7 +20,7 @@ use Rattle.profiles.specs.declared.reader.Rows.the-variants.{Refused as NotRead
 use Rattle.rows.specs.declared.lists.Fault.{Fault}
 use Rattle.rows.specs.declared.lists.Fault.the-variants.{Row as AtRow, Nothing}
 use Rattle.profiles.specs.Reads.{rowsOf, Reads}
-use Rattle.profiles.specs.Holds.{profileTable}
+use Rattle.samples.specs.Row.{profileTable}
 use Rattle.rows.specs.Counts.{Tables, Tabled, faultOf, FirstFault}
 use Rattle.rows.proofs.Holding.{tabled-tables}
 use Rattle.files.specs.declared.Counts.{Counts}

@@ -8,24 +8,31 @@ use native.Mathlib.Nat.{add-zero}
 use lib.ListN.{length, getD, drop}
 use lib.IntN.{ℤ}
 use Rattle.rules.specs.Limits.{mostText, profileWidth}
+use Rattle.rules.specs.Answers.{profilesFile}
+use Rattle.rules.specs.Profiles.{profilesHeader, judgeForm}
+use Rattle.lines.specs.Fold.{fold}
+use Rattle.lines.specs.Machine.{stopped}
 use Rattle.lines.proofs.Fold.{fold-drop, fold-end}
-use Rattle.profiles.specs.declared.number.Number.{Number}
-use Rattle.profiles.specs.declared.number.Number.the-variants.{Empty}
+use Rattle.lines.proofs.Machine.{stopped-stays}
+use Rattle.samples.specs.declared.number.Number.{Number}
+use Rattle.samples.specs.declared.number.Number.the-variants.{Empty}
 use Rattle.profiles.specs.declared.quick.Spaced.{Spaced}
 use Rattle.profiles.specs.declared.quick.Spaced.the-variants.{At}
-use Rattle.profiles.specs.declared.reader.Past.{Past}
-use Rattle.profiles.specs.declared.reader.Listed.{Listed}
-use Rattle.profiles.specs.declared.reader.Tail.{Tail}
-use Rattle.profiles.specs.declared.reader.State.{State}
-use Rattle.profiles.specs.declared.reader.State.the-variants.{Whole}
+use Rattle.samples.specs.declared.row.Past.{Past}
+use Rattle.samples.specs.declared.row.Listed.{Listed}
+use Rattle.samples.specs.declared.sample.Tail.{Tail}
+use Rattle.powers.specs.declared.state.State.{State}
+use Rattle.powers.specs.declared.state.State.the-variants.{Whole, Stopped}
 use Rattle.profiles.specs.declared.reader.Reader.{Reader}
 use Rattle.profiles.specs.declared.reader.Many.{Many}
 use Rattle.profiles.specs.declared.reader.Moved.{Moved}
-use Rattle.profiles.specs.Open.{Reached, reach}
-use Rattle.profiles.specs.Holds.{Holds, in-header, in-id, in-whole, in-fraction, at-stop, Live, Steps, ClosesTo, Feeds, reading, Leads, Leap, countIn, ManyRead, Quickens}
+use Rattle.powers.specs.Open.{start, openStep, openEnd, Reached, reach}
+use Rattle.samples.specs.Row.{ClosesTo}
+use Rattle.powers.specs.Holds.{Holds, in-header, in-id, in-whole, in-fraction, at-stop, Live, Steps, reading, Leads, Leap}
+use Rattle.profiles.specs.Feeds.{Feeds, countIn, ManyRead, Skips, Quickens}
 use Rattle.profiles.specs.Quick.{Samples, lasting}
-use Rattle.profiles.proofs.Fraction.{fraction-space}
-use Rattle.profiles.proofs.Leaps.{leap-none, leap-then, leap-step}
+use Rattle.powers.proofs.Fraction.{fraction-space}
+use Rattle.powers.proofs.Leaps.{leap-none, leap-then, leap-step}
 
 -- ---- whole samples
 
@@ -69,11 +76,38 @@ module _ {part : List ℕ} {past : Past} {l : Listed} {from : ℕ} {samples₁ :
   pub sampling-end : ManyRead part past l from samples₁ (record { l = cur; next = i }) samples
   sampling-end = s .leaps
 
+-- ---- after a fault
+
+stays : (profiles samples number place : ℕ) (s : List ℕ) → fold (reach profiles samples) (stopped number place) s ≡ stopped number place
+unfolding reach
+stays profiles samples number place s =
+    stopped-stays profilesFile profilesHeader (judgeForm profiles samples) start openStep openEnd number place s
+
+module _ {part : List ℕ} {from : ℕ} where
+  pub skip-none : (state : State) → from ≤ length part → Skips part from state (record { state = state; next = from })
+  skip-none state h profiles samples = leap-none h
+
+  pub skip-stopped : {state : State} (number place : ℕ) → state ≡ Stopped number place → from ≤ length part → Skips part from state (record { state = Stopped number place; next = length part })
+  skip-stopped number place e h profiles samples =
+      rw e
+      (record { onward = h; inside = omega arith; leaps = λ base profiles₀ samples₀ reached held. go base profiles₀ samples₀ reached held })
+    where
+      go : (base : ℕ) (profiles₀ : List ℕ) (samples₀ : List ℤ) (reached : Reached) → Holds profiles₀ samples₀ (base + from) (Stopped number place) profiles samples reached
+          → Leads profiles₀ samples₀ (base + length part) (Stopped number place) profiles samples (drop (length part) part) (reading profiles₀ samples₀ reached (drop from part))
+      go base profiles₀ samples₀ reached at-stop =
+          record {
+            midway = stopped number place;
+            holds = at-stop;
+            leads =
+                stays (length profiles₀ / profileWidth) (length samples₀) number place (drop (length part) part)
+                ∙ sym (stays (length profiles₀ / profileWidth) (length samples₀) number place (drop from part));
+          }
+
 -- ---- quicken
 
 module _ {part : List ℕ} {from : ℕ} where
-  pub quick-none : (state : State) (samples : List ℤ) → from ≤ length part → Quickens part from state samples (record { state = state; next = from }) samples
-  quick-none state samples h profiles = leap-none h
+  pub quick-skip : {state : State} (samples : List ℤ) {moved : Moved} → Skips part from state moved → Quickens part from state samples moved samples
+  quick-skip samples f profiles = f profiles samples
 
   pub quick-same : {state : State} (named : State) (samples : List ℤ) → state ≡ named → from ≤ length part → Quickens part from state samples (record { state = named; next = from }) samples
   quick-same named samples e h profiles = rw e (leap-none h)
@@ -174,4 +208,4 @@ module _ {reader : Reader} {profiles₁ : List ℕ} {samples₁ : List ℤ} {par
           (l .holds)
 
 pub ruleset feeding =
-    (sampling-none, sampling-count, sampling-next, sampling-after, sampling-end, quick-none, quick-same, quick-many, quick-count, fed-first, fed-place, fed-count, fed-next, fed-last)
+    (sampling-none, sampling-count, sampling-next, sampling-after, sampling-end, skip-none, skip-stopped, quick-skip, quick-same, quick-many, quick-count, fed-first, fed-place, fed-count, fed-next, fed-last)

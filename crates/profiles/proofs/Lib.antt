@@ -1,14 +1,3 @@
-pub mod Pieces
-pub mod Sample
-pub mod Form
-pub mod Near
-pub mod Tables
-pub mod Steps
-pub mod Closing
-pub mod Faults
-pub mod Rows
-pub mod Fraction
+pub mod Looks
 pub mod Feed
 pub mod Text
-pub mod Leaps
-pub mod Looks

@@ -6,26 +6,27 @@ use mathlib.Core.List.{List}
 use native.Mathlib.Omega.{arith}
 use lib.ListN.{length, getD}
 use Rattle.rules.specs.Bytes.{digitZero, digitNine, point, minus}
-use Rattle.profiles.specs.declared.number.Number.{Number}
-use Rattle.profiles.specs.declared.number.Number.the-variants.{Empty, Zero, Digits}
-use Rattle.profiles.specs.declared.number.Pushed.the-variants.{To}
-use Rattle.profiles.specs.declared.number.Ended.{Ended}
-use Rattle.profiles.specs.declared.number.Ended.the-variants.{Value}
+use Rattle.samples.specs.declared.number.Number.{Number}
+use Rattle.samples.specs.declared.number.Number.the-variants.{Empty, Zero, Digits}
+use Rattle.samples.specs.declared.number.Pushed.the-variants.{To}
+use Rattle.samples.specs.declared.number.Ended.{Ended}
+use Rattle.samples.specs.declared.number.Ended.the-variants.{Value}
 use Rattle.profiles.specs.declared.quick.Run.{Run}
 use Rattle.profiles.specs.declared.quick.Pointed.{Pointed}
 use Rattle.profiles.specs.declared.quick.Pointed.the-variants.{At}
 use Rattle.profiles.specs.declared.quick.Sign.{Sign}
 use Rattle.profiles.specs.declared.quick.Spaced.{Spaced}
-use Rattle.profiles.specs.declared.reader.Past.{Past}
-use Rattle.profiles.specs.declared.reader.Listed.{Listed}
-use Rattle.profiles.specs.declared.reader.State.the-variants.{Whole, Fraction}
-use Rattle.profiles.specs.Near.{cap, Ends}
-use Rattle.profiles.specs.Holds.{Jump}
+use Rattle.samples.specs.declared.row.Past.{Past}
+use Rattle.samples.specs.declared.row.Listed.{Listed}
+use Rattle.powers.specs.declared.state.State.the-variants.{Whole, Fraction}
+use Rattle.samples.specs.Sample.{mostDigits}
+use Rattle.samples.specs.Near.{cap, Ends}
+use Rattle.powers.specs.Holds.{Jump}
 use Rattle.profiles.specs.Quick.{Runs, tail, Points, missed, pointed, Spaces, unspaced, spaced, unlasting, lasting, Fractions, Signs, signed, unsigned, Samples}
-use Rattle.profiles.proofs.Near.{pushes-zero, pushes-first, pushes-next}
-use Rattle.profiles.proofs.Steps.{whole-digits, point-value, minus-first}
-use Rattle.profiles.proofs.Fraction.{fraction-digits}
-use Rattle.profiles.proofs.Leaps.{leap-none, leap-then, jump-step}
+use Rattle.samples.proofs.Near.{pushes-zero, pushes-first, pushes-next}
+use Rattle.powers.proofs.Steps.{whole-digits, point-value, minus-first}
+use Rattle.powers.proofs.Fraction.{fraction-digits}
+use Rattle.powers.proofs.Leaps.{leap-none, leap-then, jump-step}
 
 -- ---- more digits of the whole part
 
@@ -91,7 +92,7 @@ pub fractioning-none : {part : List ℕ} {from : ℕ} (negative : Bool) (whole :
 fractioning-none negative whole h = record { inside = h; jumps = λ past l profiles samples. leap-none h }
 
 module _ {part : List ℕ} {from : ℕ} {negative : Bool} {whole digits value i : ℕ} (r : Fractioning part from negative whole digits value i) where
-  pub fractioning-next : {w : ℕ} → i < length part → digitZero ≤ getD part i 0 → getD part i 0 ≤ digitNine → digits < 3
+  pub fractioning-next : {w : ℕ} → i < length part → digitZero ≤ getD part i 0 → getD part i 0 ≤ digitNine → digits < mostDigits
       → w ≡ min (value * 10 + (getD part i 0 - digitZero)) cap → Fractioning part from negative whole (digits + 1) w (i + 1)
   fractioning-next {w} h low high few e =
       record {

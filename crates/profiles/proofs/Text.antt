@@ -2,10 +2,10 @@
 use Prim.Native.Nat.{ℕ, _/_, _≤_, _<_}
 use mathlib.Core.Path.{_≡_, refl, sym, _∙_}
 use mathlib.Core.Bool.{Bool, true, false, cond}
-use mathlib.Core.List.{List, _++_}
+use mathlib.Core.List.{List}
 use native.Mathlib.Omega.{arith}
 use lib.Dec.{eqb}
-use lib.ListN.{length, length-append}
+use lib.ListN.{length}
 use lib.IntN.{ℤ}
 use borrow.Author.Tests.{eq-eqb, ne-eqb, lt-leb}
 use Rattle.rules.specs.Limits.{mostText, profileWidth}
@@ -15,21 +15,22 @@ use Rattle.rules.specs.Rows.{csvOf}
 use Rattle.rules.specs.Profiles.{Curve, profilesOf, profilesHeader, judgeForm, formOf, sampleTable}
 use Rattle.lines.specs.Fold.{fold}
 use Rattle.lines.specs.Machine.{inHeader}
-use Rattle.lines.proofs.Fold.{fold-append}
 use Rattle.lines.proofs.Machine.{csv-by-bytes}
-use Rattle.profiles.specs.declared.number.Number.{Number}
-use Rattle.profiles.specs.declared.reader.Past.{Past}
-use Rattle.profiles.specs.declared.reader.Listed.{Listed}
-use Rattle.profiles.specs.declared.reader.Tail.{Tail}
-use Rattle.profiles.specs.declared.reader.State.{State}
-use Rattle.profiles.specs.declared.reader.State.the-variants.{Header, Id, Whole, Fraction, Stopped}
+use Rattle.samples.specs.declared.number.Number.{Number}
+use Rattle.samples.specs.declared.row.Past.{Past}
+use Rattle.samples.specs.declared.row.Listed.{Listed}
+use Rattle.samples.specs.declared.sample.Tail.{Tail}
+use Rattle.powers.specs.declared.state.State.{State}
+use Rattle.powers.specs.declared.state.State.the-variants.{Header, Id, Whole, Fraction, Stopped}
 use Rattle.profiles.specs.declared.reader.Reader.{Reader}
 use Rattle.profiles.specs.declared.reader.Rows.{Rows}
 use Rattle.profiles.specs.declared.reader.Rows.the-variants.{Refused, Read}
-use Rattle.profiles.specs.Open.{start, openStep, openEnd, Reached, reach, reachedEnd}
-use Rattle.profiles.specs.Holds.{profileTable, Holds, in-header, in-id, in-whole, in-fraction, at-stop, Live, Feeds}
+use Rattle.powers.specs.Open.{start, openStep, openEnd, Reached, reach, reachedEnd}
+use Rattle.samples.specs.Row.{profileTable}
+use Rattle.powers.specs.Holds.{Holds, in-header, in-id, in-whole, in-fraction, at-stop, Live}
+use Rattle.profiles.specs.Feeds.{Feeds}
 use Rattle.profiles.specs.Reads.{rowsOf, Starts, Finishes, Reads}
-use Rattle.profiles.proofs.Form.{form-run}
+use Rattle.powers.proofs.Form.{form-run}
 
 -- the profiles of a text, or its first fault in file order, byte by byte
 pub profiles-by-bytes : (profiles samples : ℕ) (s : List ℕ) → length s ≤ mostText
@@ -49,30 +50,6 @@ starts = record { place = refl; nothing = λ profiles samples. in-header (omega 
 
 pub started : {reader : Reader} (profiles : List ℕ) (samples : List ℤ) → Starts reader → Live (reader .next) (reader .state) profiles samples
 started profiles samples s = record { profiles₀ = profiles; samples₀ = samples; reached = inHeader 0; holds = s .nothing profiles samples }
-
--- ---- parts
-
-module _ {reader r : Reader} {profiles profiles′ part : List ℕ} {samples samples′ : List ℤ} (f : Feeds reader profiles samples part r profiles′ samples′) where
-  -- another part can follow
-  pub fed-live : Live (reader .next) (reader .state) profiles samples → Live (r .next) (r .state) profiles′ samples′
-  fed-live l =
-      record {
-        profiles₀ = l .profiles₀;
-        samples₀ = l .samples₀;
-        reached = _;
-        holds = f .reads (l .profiles₀) (l .samples₀) (l .reached) (l .holds);
-      }
-
-  -- and both are read as one
-  pub fed-both : {last : Reader} {profiles″ more : List ℕ} {samples″ : List ℤ} → Feeds r profiles′ samples′ more last profiles″ samples″
-      → Feeds reader profiles samples (part ++ more) last profiles″ samples″
-  fed-both {more = more} g =
-      record {
-        place = omega (arith, f .place, g .place, length-append part more);
-        reads =
-            λ profiles₀ samples₀ reached h.
-            rw (fold-append (reach (length profiles₀ / profileWidth) (length samples₀)) reached part more) (g .reads profiles₀ samples₀ _ (f .reads profiles₀ samples₀ reached h));
-      }
 
 -- ---- finish
 

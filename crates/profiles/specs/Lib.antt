@@ -1,5 +1,3 @@
-pub mod Open
-pub mod Near
-pub mod Holds
-pub mod Reads
 pub mod Quick
+pub mod Feeds
+pub mod Reads

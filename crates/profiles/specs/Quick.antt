@@ -5,20 +5,20 @@ use mathlib.Core.Bool.{Bool, true, false}
 use mathlib.Core.List.{List}
 use lib.ListN.{length, getD}
 use Rattle.rules.specs.Bytes.{minus, space}
-use Rattle.profiles.specs.declared.number.Number.{Number}
-use Rattle.profiles.specs.declared.number.Number.the-variants.{Empty, Digits}
+use Rattle.samples.specs.declared.number.Number.{Number}
+use Rattle.samples.specs.declared.number.Number.the-variants.{Empty, Digits}
 use Rattle.profiles.specs.declared.quick.Run.{Run}
 use Rattle.profiles.specs.declared.quick.Pointed.{Pointed}
 use Rattle.profiles.specs.declared.quick.Pointed.the-variants.{At, Miss}
 use Rattle.profiles.specs.declared.quick.Sign.{Sign}
 use Rattle.profiles.specs.declared.quick.Spaced.{Spaced}
 use Rattle.profiles.specs.declared.quick.Spaced.the-variants.{At as SpaceAt, Miss as NoSpace}
-use Rattle.profiles.specs.declared.reader.Past.{Past}
-use Rattle.profiles.specs.declared.reader.Listed.{Listed}
-use Rattle.profiles.specs.declared.reader.Tail.{Tail}
-use Rattle.profiles.specs.declared.reader.State.{State}
-use Rattle.profiles.specs.declared.reader.State.the-variants.{Whole, Fraction}
-use Rattle.profiles.specs.Holds.{Jump}
+use Rattle.samples.specs.declared.row.Past.{Past}
+use Rattle.samples.specs.declared.row.Listed.{Listed}
+use Rattle.samples.specs.declared.sample.Tail.{Tail}
+use Rattle.powers.specs.declared.state.State.{State}
+use Rattle.powers.specs.declared.state.State.the-variants.{Whole, Fraction}
+use Rattle.powers.specs.Holds.{Jump}
 
 -- more digits of the whole part
 abbrev pub Runs : List ℕ → (from value : ℕ) → Run → Type 0

@@ -12,8 +12,9 @@ use Rattle.lines.specs.Machine.{inHeader}
 use Rattle.profiles.specs.declared.reader.Reader.{Reader}
 use Rattle.profiles.specs.declared.reader.Rows.{Rows}
 use Rattle.profiles.specs.declared.reader.Rows.the-variants.{Refused, Read}
-use Rattle.profiles.specs.Open.{Reached, reachedEnd}
-use Rattle.profiles.specs.Holds.{profileTable, Holds}
+use Rattle.powers.specs.Open.{Reached, reachedEnd}
+use Rattle.samples.specs.Row.{profileTable}
+use Rattle.powers.specs.Holds.{Holds}
 
 -- the refusal, or the counts
 abbrev pub rowsOf : Reading (List Curve) → Rows

@@ -1,4 +1,3 @@
-// profiles.csv, read byte by byte.
-pub mod number; // a whole number that is open
-pub mod quick; // whole samples at once
-pub mod reader; // the rows
+// profiles.csv, read whole or in parts.
+pub mod quick; // a whole sample at once
+pub mod reader; // the text

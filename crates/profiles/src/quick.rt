@@ -1,8 +1,8 @@
-// Whole samples of a list at once: numbers in registers, the state touched at the spaces alone. What is no whole sample is left for `step`.
-use crate::number;
-use crate::number::Ended;
-use crate::number::Number;
-use crate::reader::Tail;
+// Whole samples of a list at once: numbers in registers, the state touched at the spaces alone. What is no whole sample is left for `state::step`.
+use samples::number;
+use samples::number::Ended;
+use samples::number::Number;
+use samples::sample::Tail;
 ghost use Prim.Native.Nat.{_≤_, _<_};
 ghost use lib.ListN.{length};
 ghost use Rattle.profiles.specs.Quick.{Runs, Points, Spaces, Fractions, Signs, Samples};
@@ -117,7 +117,7 @@ fn fraction_at(part: &[u8], from: usize, negative: bool, whole: u32) -> Spaced
         if b'9' < b {
             return Spaced::Miss;
         }
-        if 3 <= digits {
+        if Tail::MOST_DIGITS <= digits {
             return Spaced::Miss;
         }
         value = number::push(value, b);

@@ -7,8 +7,11 @@ use Rattle.profiles.proofs.reader.quicken.Tie as tie
 enum-known-state : tie.Need-enum-known-state
 enum-known-state c = search needs
 
+skip-requires : tie.Need-skip-requires
+skip-requires c κs = search needs
+
 returns : tie.Need-returns
-returns c = search needs
+returns c = search (feeding, needs)
 
 enum-told : tie.Need-enum-told
 enum-told c = search needs
@@ -33,6 +36,7 @@ quicken-spec =
     tie.close
     (tie.spec
     enum-known-state
+    skip-requires
     returns
     enum-told
     returns-2

@@ -1,0 +1,2 @@
+// A byte of profiles.csv.
+pub mod state;

@@ -1,0 +1,5 @@
+pub mod Near
+pub mod Tables
+pub mod Entering
+pub mod Closing
+pub mod Faults

@@ -1,0 +1,4 @@
+// What a row of profiles.csv is made of.
+pub mod number; // a whole number that is open
+pub mod row; // the open row, its first fault and its entry
+pub mod sample; // a sample in kW

@@ -2,56 +2,35 @@
 ghost use Rattle.io.specs.Counts.{Counts};
 use crate::rooms::Room;
 use input::End;
+use input::Taken;
 use told::say;
-
-pub enum State {
-    Whole,
-    // It is missing, is a folder, or a read failed.
-    Unreadable,
-    // It fills its room, which is one byte greater than a text may be.
-    TooLong,
-}
 
 // The bytes at the front of a room, and whether they are the whole file.
 pub struct Loaded {
-    pub state: State,
+    pub whole: bool,
     pub length: usize,
 }
 
-pub fn is_whole(loaded: Loaded) -> bool {
-    let state = loaded.state;
-    match state {
-        State::Whole => true,
-        State::Unreadable => false,
-        State::TooLong => false,
-    }
-}
-
-fn state_of(end: End) -> State {
-    match end {
-        End::Ended => State::Whole,
-        End::Broken => State::Unreadable,
-        End::Full => State::TooLong,
-    }
-}
-
-fn read_named(path: &[u8], room: &mut [u8]) -> Loaded
+// A file that cannot be opened is one that cannot be read.
+fn read_named(path: &[u8], room: &mut [u8]) -> Taken
     ensures { λ r. ⌜ Counts (r .length) (now (room .exit)) ⌝ }
 {
     let fd = os::open_read(path);
     if fd < 0 {
-        return Loaded {
-            state: State::Unreadable,
+        return Taken {
+            end: End::Broken,
             length: 0,
         };
     }
     let taken = input::read_all(fd, room);
     libc::close(fd);
-    let end = taken.end;
-    Loaded {
-        state: state_of(end),
-        length: taken.length,
-    }
+    taken
+}
+
+fn say_name(file: u8, path: &[u8]) {
+    say::file(file);
+    say::text(b": ");
+    say::text(path);
 }
 
 fn too_long() {
@@ -60,19 +39,20 @@ fn too_long() {
     say::text(b" bytes that this program takes\n");
 }
 
-// Says what is wrong with a file that cannot be judged.
-fn complain(loaded: Loaded, file: u8, path: &[u8]) {
-    if is_whole(loaded) {
-        return;
-    }
-    say::file(file);
-    say::text(b": ");
-    say::text(path);
-    let state = loaded.state;
-    match state {
-        State::TooLong => too_long(),
-        State::Unreadable => say::text(b" could not be read\n"),
-        State::Whole => say::text(b"\n"),
+// Whether a file can be judged; says what is wrong with one that cannot. A room is one byte greater than a text may be.
+fn is_whole(end: End, file: u8, path: &[u8]) -> bool {
+    match end {
+        End::Ended => true,
+        End::Broken => {
+            say_name(file, path);
+            say::text(b" could not be read\n");
+            false
+        }
+        End::Full => {
+            say_name(file, path);
+            too_long();
+            false
+        }
     }
 }
 
@@ -82,9 +62,12 @@ pub fn load(at: usize, file: u8, room: &mut [u8]) -> Loaded
 {
     let mut path = io::buffer();
     let length = os::arg(at, &mut path);
-    let loaded = read_named(&path[..length], room);
-    complain(loaded, file, &path[..length]);
-    loaded
+    let taken = read_named(&path[..length], room);
+    let end = taken.end;
+    Loaded {
+        whole: is_whole(end, file, &path[..length]),
+        length: taken.length,
+    }
 }
 
 // Whether the file has the whole text now. What stood there before is lost either way.

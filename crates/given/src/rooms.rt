@@ -1,5 +1,5 @@
 // Room for whatever texts of 16 KiB can hold, so that the program never answers 16. The shortest row of a timetable has 22 bytes, an entry of a list 6,
-// the shortest row of the profiles 6, a sample 4, a record 35; track numbers are distinct.
+// the shortest row of the profiles 6, a sample 4, a record 36; track numbers are distinct.
 use rules::sizes::Horizon;
 use rules::sizes::Subnet;
 

@@ -1,7 +1,5 @@
 // `merge-earlier H TIMETABLE PROFILES CONSTRAINTS FIRST SECOND OUT`, and `merge-later`: the merged timetable goes to OUT and the report to standard output.
 use checker::display;
-use checker::merges;
-use checker::merges::Merged;
 use given::files;
 use given::rooms::Room;
 use rules::answers::Answer;
@@ -58,64 +56,7 @@ fn close(answer: Answer, out: usize, text: &[u8], length: usize) {
     }
 }
 
-// The entry of a direction.
-fn call(
-    direction: Direction,
-    h: u32,
-    timetable: &[u8],
-    profiles: &[u8],
-    constraints: &[u8],
-    first: &[u8],
-    second: &[u8],
-    legs: &mut [u32],
-    configurations: &mut [u32],
-    profile_table: &mut [u32],
-    samples: &mut [i32],
-    constraint_table: &mut [u32],
-    tracks: &mut [u32],
-    choices: &mut [u32],
-    second_choices: &mut [u32],
-    text: &mut [u8],
-) -> Merged {
-    match direction {
-        Direction::Earlier => merges::merge_earlier(
-            h,
-            timetable,
-            profiles,
-            constraints,
-            first,
-            second,
-            legs,
-            configurations,
-            profile_table,
-            samples,
-            constraint_table,
-            tracks,
-            choices,
-            second_choices,
-            text,
-        ),
-        Direction::Later => merges::merge_later(
-            h,
-            timetable,
-            profiles,
-            constraints,
-            first,
-            second,
-            legs,
-            configurations,
-            profile_table,
-            samples,
-            constraint_table,
-            tracks,
-            choices,
-            second_choices,
-            text,
-        ),
-    }
-}
-
-// Every table is lent full of a number that no field can have. The text has room for any merge: a merged row differs from the draft's in its nominal alone,
+// The merge of a direction, which is what both entries are. Every table is lent full of a number that no field can have. The text has room for any merge: a merged row differs from the draft's in its nominal alone,
 // which stands in its list too, so it is not twice as long.
 pub fn merge<'a>(
     direction: Direction,
@@ -136,7 +77,7 @@ pub fn merge<'a>(
     let mut choices = [Fill::UNSIGNED; Room::CHOICES];
     let mut second_choices = [Fill::UNSIGNED; Room::CHOICES];
     let mut text = io::large_buffer();
-    let merged = call(
+    let merged = merging::merge(
         direction,
         h,
         timetable,

@@ -6,6 +6,7 @@ use crate::checks;
 use checker::energies;
 use given::rooms::Room;
 use rules::answers::Answer;
+use rules::figures::Figures;
 use rules::sizes::Fill;
 
 // The one large array of this program. It comes out of a function that promises its length, since the prover does not write it out then; and it is zeros,
@@ -14,6 +15,13 @@ fn curves_room() -> [i32; Room::CURVES]
     ensures { λ r. ⌜ mostCurves ≡ length r ⌝ }
 {
     [0; Room::CURVES]
+}
+
+// Only an accepted solution has energies.
+fn show_figures(answer: Answer, h: u32, g: Figures) {
+    if let Answer::Accepted = answer {
+        told::energies::tell(h, g);
+    }
 }
 
 // Every table but the curves is lent full of a number that no field can have.
@@ -58,8 +66,6 @@ pub fn report<'a>(
         &tracks,
         &choices,
     );
-    if let Answer::Accepted = answer {
-        told::energies::tell(h, report.figures);
-    }
+    show_figures(answer, h, report.figures);
     told::close(answer);
 }

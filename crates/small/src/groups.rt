@@ -1,5 +1,7 @@
 // The groups: what a group's word asks for, its files read, and the entry called.
 ghost use Prim.Native.Nat.{_+_, _<_, _^_};
+ghost use Rattle.io.specs.Counts.{Counts};
+ghost use Rattle.small.specs.Words.{ofSolution, ofTwo};
 use given::arguments;
 use given::arguments::Given;
 use given::files;
@@ -39,91 +41,179 @@ pub fn entry_at(at: usize) -> Entry {
     Entry::Unknown
 }
 
-// The words of a group: its own, H and four files; for a merge one file more, and one to write.
+// The places of a group's words, counted from the group's own word, and how many words a group has.
 pub struct Words {}
 
 impl Words {
-    pub const OF_SOLUTION: usize = 6;
+    const HORIZON: usize = 1;
 
-    pub const OF_TWO: usize = 8;
+    const TIMETABLE: usize = 2;
+
+    const PROFILES: usize = 3;
+
+    const CONSTRAINTS: usize = 4;
+
+    const SOLUTION: usize = 5;
+
+    const SECOND_SOLUTION: usize = 6;
+
+    const OUT: usize = 7;
+
+    pub const OF_SOLUTION: usize = Self::SOLUTION + 1;
+
+    pub const OF_TWO: usize = Self::OUT + 1;
+}
+
+// What every group gives beside its solutions: H, and how long each of the three texts is.
+struct Draft {
+    h: Given,
+    // All three files were read whole.
+    whole: bool,
+    timetable: usize,
+    profiles: usize,
+    constraints: usize,
+}
+
+fn are_whole(t: Loaded, p: Loaded, c: Loaded) -> bool {
+    t.whole && p.whole && c.whole
+}
+
+// The draft of the group whose word is argument `at`.
+fn read_draft(at: usize, timetable: &mut [u8], profiles: &mut [u8], constraints: &mut [u8]) -> Draft
+    requires { ⌜ at + ofSolution < 2 ^ 64 ⌝ }
+    ensures { λ r. ⌜ Counts (r .timetable) (now (timetable .exit)) ⌝ }
+    ensures { λ r. ⌜ Counts (r .profiles) (now (profiles .exit)) ⌝ }
+    ensures { λ r. ⌜ Counts (r .constraints) (now (constraints .exit)) ⌝ }
+{
+    let h = arguments::horizon(at + Words::HORIZON);
+    let t = files::load(at + Words::TIMETABLE, File::TIMETABLE, timetable);
+    let p = files::load(at + Words::PROFILES, File::PROFILES, profiles);
+    let c = files::load(at + Words::CONSTRAINTS, File::CONSTRAINTS, constraints);
+    Draft {
+        h,
+        whole: are_whole(t, p, c),
+        timetable: t.length,
+        profiles: p.length,
+        constraints: c.length,
+    }
+}
+
+// H, where an entry can be called.
+enum Ready {
+    At(u32),
+    No,
+}
+
+// Where there is no H, or a file was not read whole, there is no answer.
+fn ready_at(given: Given, whole: bool) -> Ready {
+    let Given::Seconds(h) = given else {
+        say::no_answer(b"H is no whole number");
+        return Ready::No;
+    };
+    if whole {
+        return Ready::At(h);
+    }
+    say::answer(b"none");
+    Ready::No
 }
 
 // The verdict on a solution, or its energies.
 fn show_solution<'a>(
     asked: Asked,
-    h: u32,
+    ready: Ready,
     timetable: &'a [u8],
     profiles: &[u8],
     constraints: &[u8],
     solution: &'a [u8],
 ) {
+    let Ready::At(h) = ready else {
+        return;
+    };
     match asked {
         Asked::Verdict => checks::judge(h, timetable, profiles, constraints, solution),
         Asked::Energies => energies::report(h, timetable, profiles, constraints, solution),
     }
 }
 
-// Whether the files that every group has were read whole.
-fn are_whole(t: Loaded, p: Loaded, c: Loaded, s: Loaded) -> bool {
-    files::is_whole(t) && files::is_whole(p) && files::is_whole(c) && files::is_whole(s)
+// A merge, which goes to the file that argument `out` names.
+fn merge_two<'a>(
+    direction: Direction,
+    ready: Ready,
+    timetable: &'a [u8],
+    profiles: &[u8],
+    constraints: &[u8],
+    first: &'a [u8],
+    second: &'a [u8],
+    out: usize,
+) {
+    if let Ready::At(h) = ready {
+        handed::merge(
+            direction,
+            h,
+            timetable,
+            profiles,
+            constraints,
+            first,
+            second,
+            out,
+        );
+    }
+}
+
+fn solution_ready(d: Draft, s: Loaded) -> Ready {
+    let h = d.h;
+    ready_at(h, d.whole && s.whole)
+}
+
+fn two_ready(d: Draft, first: Loaded, second: Loaded) -> Ready {
+    let h = d.h;
+    ready_at(h, d.whole && first.whole && second.whole)
 }
 
 // The group whose word is argument `at`.
 pub fn answer_solution(at: usize, asked: Asked)
-    requires { ⌜ at + 6 < 2 ^ 64 ⌝ }
+    requires { ⌜ at + ofSolution < 2 ^ 64 ⌝ }
 {
     let mut timetable = [0u8; Room::TEXT];
     let mut profiles = [0u8; Room::TEXT];
     let mut constraints = [0u8; Room::TEXT];
     let mut solution = [0u8; Room::TEXT];
-    let given = arguments::horizon(at + 1);
-    let t = files::load(at + 2, File::TIMETABLE, &mut timetable);
-    let draft = &timetable[..t.length];
-    let p = files::load(at + 3, File::PROFILES, &mut profiles);
-    let samples = &profiles[..p.length];
-    let c = files::load(at + 4, File::CONSTRAINTS, &mut constraints);
-    let records = &constraints[..c.length];
-    let s = files::load(at + 5, File::SOLUTION, &mut solution);
-    let chosen = &solution[..s.length];
-    let Given::Seconds(h) = given else {
-        say::no_answer(b"H is no whole number");
-        return;
-    };
-    if !are_whole(t, p, c, s) {
-        say::answer(b"none");
-        return;
-    }
-    show_solution(asked, h, draft, samples, records, chosen);
+    let d = read_draft(at, &mut timetable, &mut profiles, &mut constraints);
+    let s = files::load(at + Words::SOLUTION, File::SOLUTION, &mut solution);
+    show_solution(
+        asked,
+        solution_ready(d, s),
+        &timetable[..d.timetable],
+        &profiles[..d.profiles],
+        &constraints[..d.constraints],
+        &solution[..s.length],
+    );
 }
 
 // The same for the group of a merge.
 pub fn answer_two(at: usize, direction: Direction)
-    requires { ⌜ at + 8 < 2 ^ 64 ⌝ }
+    requires { ⌜ at + ofTwo < 2 ^ 64 ⌝ }
 {
     let mut timetable = [0u8; Room::TEXT];
     let mut profiles = [0u8; Room::TEXT];
     let mut constraints = [0u8; Room::TEXT];
-    let mut solution = [0u8; Room::TEXT];
-    let mut second_solution = [0u8; Room::TEXT];
-    let out = at + 7;
-    let given = arguments::horizon(at + 1);
-    let t = files::load(at + 2, File::TIMETABLE, &mut timetable);
-    let draft = &timetable[..t.length];
-    let p = files::load(at + 3, File::PROFILES, &mut profiles);
-    let samples = &profiles[..p.length];
-    let c = files::load(at + 4, File::CONSTRAINTS, &mut constraints);
-    let records = &constraints[..c.length];
-    let a = files::load(at + 5, File::SOLUTION, &mut solution);
-    let first = &solution[..a.length];
-    let b = files::load(at + 6, File::SECOND_SOLUTION, &mut second_solution);
-    let second = &second_solution[..b.length];
-    let Given::Seconds(h) = given else {
-        say::no_answer(b"H is no whole number");
-        return;
-    };
-    if !are_whole(t, p, c, a) || !files::is_whole(b) {
-        say::answer(b"none");
-        return;
-    }
-    handed::merge(direction, h, draft, samples, records, first, second, out);
+    let mut first = [0u8; Room::TEXT];
+    let mut second = [0u8; Room::TEXT];
+    let d = read_draft(at, &mut timetable, &mut profiles, &mut constraints);
+    let a = files::load(at + Words::SOLUTION, File::SOLUTION, &mut first);
+    let b = files::load(
+        at + Words::SECOND_SOLUTION,
+        File::SECOND_SOLUTION,
+        &mut second,
+    );
+    merge_two(
+        direction,
+        two_ready(d, a, b),
+        &timetable[..d.timetable],
+        &profiles[..d.profiles],
+        &constraints[..d.constraints],
+        &first[..a.length],
+        &second[..b.length],
+        at + Words::OUT,
+    );
 }

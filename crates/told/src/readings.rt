@@ -27,7 +27,7 @@ fn nothing_seen(legs: usize, constraints: usize) {
     }
 }
 
-// The tables as `check` left them.
+// The tables as the checker left them.
 pub fn accepted(
     legs: &[u32],
     configurations: &[u32],

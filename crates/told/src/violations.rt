@@ -70,7 +70,7 @@ fn unkept(v: Violation, legs: &[u32], constraints: &[u32], choices: &[u32]) {
     asked(leg.id, bound, v.shortfall);
 }
 
-// The tables as `check` left them.
+// The tables as the checker left them.
 pub fn violated(v: Violation, legs: &[u32], constraints: &[u32], choices: &[u32]) {
     say::text(b"violated: ");
     say::kind(v.kind);

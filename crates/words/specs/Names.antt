@@ -1,7 +1,7 @@
 -- Names by number, in document 01's words. What has no name is empty.
-use Prim.Native.Nat.{ℕ}
+use Prim.Native.Nat.{ℕ, _+_, _*_}
 use mathlib.Core.List.{List, [], _∷_}
-use lib.ListN.{take}
+use lib.ListN.{getD, take}
 use Rattle.rules.specs.Bytes.{bytes}
 use Rattle.rules.specs.Kinds as kinds
 
@@ -37,6 +37,9 @@ formulas =
     ∷ bytes "x+a <= d2"
     ∷ bytes "d2 <= x+b"
     ∷ []
+
+abbrev pub formulaOf : (kind inequality : ℕ) → List ℕ
+formulaOf kind inequality = getD formulas (2 * kind + inequality) []
 
 -- "Refusal numbers": what each is given for, from 1 on
 abbrev pub meanings : List (List ℕ)

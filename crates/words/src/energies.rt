@@ -9,6 +9,9 @@ use rules::figures::Peak;
 use rules::sizes::Horizon;
 use writer::bytes;
 
+// Three decimals count in thousandths.
+const THOUSANDTHS: u64 = 1_000;
+
 // `n` in units of `unit`.
 fn put_decimals(buffer: &mut [u8], at: usize, unit: u64, n: u64) -> usize
     requires { ⌜ 0 < unit ⌝ }
@@ -17,7 +20,7 @@ fn put_decimals(buffer: &mut [u8], at: usize, unit: u64, n: u64) -> usize
 {
     let point = numbers::put_whole(buffer, at, n / unit);
     let decimals = bytes::put_byte(buffer, point, b'.');
-    numbers::put_three(buffer, decimals, n % unit * 1_000 / unit)
+    numbers::put_three(buffer, decimals, n % unit * THOUSANDTHS / unit)
 }
 
 // Kilojoules in megawatt hours.

@@ -1,15 +1,17 @@
 // Names, in document 01's words. Those of one sort stand in one text, a line each, and are found by their number.
 ghost use mathlib.Core.Path.{_≡_};
-ghost use Prim.Native.Nat.{_+_, _*_};
 ghost use lib.ListN.{getD};
 ghost use mathlib.Core.List.{[]};
 ghost use Rattle.rules.specs.Bytes.{splitOn, lineFeed};
 ghost use Rattle.writer.specs.Written.{Written};
-ghost use Rattle.words.specs.Names.{kindNames, listNames, formulas, meanings, fileNames};
+ghost use Rattle.words.specs.Names.{kindNames, listNames, formulaOf, meanings, fileNames};
 use text::pieces;
 use writer::bytes;
 
 const LINE_FEED: u8 = b'\n';
+
+// A kind has two inequalities at most.
+const INEQUALITIES: usize = 2;
 
 // Line `k` of a text, counted from 0; empty where there is none.
 pub fn line<'a>(s: &'a [u8], k: usize) -> &'a [u8]
@@ -71,7 +73,7 @@ pub fn put_list(buffer: &mut [u8], at: usize, kind: u8) -> usize
 
 // An inequality, 1 or 2, of a kind.
 pub fn put_formula(buffer: &mut [u8], at: usize, kind: u8, inequality: u8) -> usize
-    ensures { λ r. ⌜ Written (now (buffer .entry)) at (getD formulas (2 * kind + inequality) []) (now (buffer .exit)) r ⌝ }
+    ensures { λ r. ⌜ Written (now (buffer .entry)) at (formulaOf kind inequality) (now (buffer .exit)) r ⌝ }
 {
     put_line(
         buffer,
@@ -87,7 +89,7 @@ pub fn put_formula(buffer: &mut [u8], at: usize, kind: u8, inequality: u8) -> us
           \n\
           x+a <= d2\n\
           d2 <= x+b",
-        2 * kind as usize + inequality as usize,
+        INEQUALITIES * kind as usize + inequality as usize,
     )
 }
 

@@ -19,7 +19,7 @@ use Rattle.rules.specs.Reading.{sameLeg, differsFrom, matched}
 use Rattle.rules.proofs.Truth.{and-true}
 use Rattle.rules.proofs.Lists.{tabulate-at}
 use Rattle.text.proofs.Names.{start-same, start-other, start-all}
-use Rattle.timetable.specs.RowOver.{heldIds}
+use Rattle.legs.specs.Slots.{heldIds}
 use Rattle.timetable.proofs.Words.{length-snoc}
 use Rattle.solution.specs.declared.compare.Compared.{Compared}
 use Rattle.solution.specs.declared.reader.Choices.{Choices}

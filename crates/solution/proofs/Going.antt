@@ -15,11 +15,13 @@ use Rattle.rules.specs.Bytes.{lineFeed, splitOn, startOf}
 use Rattle.rules.specs.Rows.{onRow, rowsFrom}
 use Rattle.rules.specs.Timetable.{Row, rowOf, solutionFits, timetableHeader}
 use Rattle.rules.proofs.Pieces.{split-not-empty, split-free}
+use Rattle.rules.proofs.Lists.{over-length}
+use Rattle.rules.proofs.Truth.{and-first, and-second}
 use Rattle.text.specs.Places.{upTo}
 use Rattle.text.proofs.Laws.{pieces-next, pieces-last}
-use Rattle.timetable.specs.declared.line.Line.{Line}
+use Rattle.legs.specs.declared.line.Line.{Line}
 use Rattle.timetable.specs.Text.{firstLine}
-use Rattle.timetable.proofs.Words.{length-snoc, over-length, and-left, and-right}
+use Rattle.timetable.proofs.Words.{length-snoc}
 use Rattle.solution.specs.declared.compare.Compared.{Compared}
 use Rattle.solution.specs.declared.reader.Choices.{Choices}
 use Rattle.solution.specs.declared.reader.Choices.the-variants.{Fault}
@@ -38,14 +40,14 @@ starts-front : (name s : List ℕ) → startsWith name s ≡ true → s ≡ name
 starts-front [] s e = refl
 starts-front (n ∷ name) [] e = let z : _≡_ {A = ℕ} 0 1 = cc in absurd (omega arith)
 starts-front (n ∷ name) (b ∷ s) e =
-    let same : b ≡ n = eqb-true b n (and-left (eqb b n) (startsWith name s) e) in
-    let rest : s ≡ name ++ drop (length name) s = starts-front name s (and-right (eqb b n) (startsWith name s) e) in
+    let same : b ≡ n = eqb-true b n (and-first (eqb b n) (startsWith name s) e) in
+    let rest : s ≡ name ++ drop (length name) s = starts-front name s (and-second (eqb b n) (startsWith name s) e) in
     ap (λ (x : ℕ). x ∷ s) same ∙ ap (λ (t : List ℕ). n ∷ t) rest
 
 starts-long : (name s : List ℕ) → startsWith name s ≡ true → length name ≤ length s
 starts-long [] s e = omega arith
 starts-long (n ∷ name) [] e = let z : _≡_ {A = ℕ} 0 1 = cc in absurd (omega arith)
-starts-long (n ∷ name) (b ∷ s) e = let k : length name ≤ length s = starts-long name s (and-right (eqb b n) (startsWith name s) e) in omega arith
+starts-long (n ∷ name) (b ∷ s) e = let k : length name ≤ length s = starts-long name s (and-second (eqb b n) (startsWith name s) e) in omega arith
 
 -- the header is the text's first line
 header-line : (text : List ℕ) → startsWith timetableHeader text ≡ true → (k : ℕ)

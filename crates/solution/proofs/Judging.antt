@@ -17,31 +17,25 @@ use Rattle.rules.specs.Lists.{every, any, flat, over}
 use Rattle.rules.specs.Answers.{outOfRange, tooMany, alreadySeen, nominalNotListed, noRoom, _needs_, Test, judge}
 use Rattle.rules.specs.Timetable.{Row, formOf, idsOf, inRange, offers, listed, rowTests, judgeForm, solutionFits}
 use Rattle.rules.specs.declared.sizes.Configuration.{Configuration}
-use Rattle.rules.proofs.Truth.{all-append, all-map}
+use Rattle.rules.proofs.Truth.{all-append, all-map, and-first, and-second}
+use Rattle.rules.proofs.Lists.{flat-append, flat-length, over-more, over-length}
 use Rattle.ids.specs.declared.Found.{Found}
 use Rattle.ids.specs.declared.Found.the-variants.{At, Nothing}
 use Rattle.ids.specs.Column.{Records, column, placeOf, isNew}
 use Rattle.ids.proofs.Places.{some-there, none-there}
 use Rattle.ids.proofs.Written.{column-written, new-among}
-use Rattle.timetable.specs.declared.line.Line.{Line}
-use Rattle.timetable.specs.Held.{stoppedWith, storedAt, nominalOf}
-use Rattle.timetable.specs.RowOver.{heldIds, rangeHolds, countsHold, lowest, Bounded, nextLine}
-use Rattle.timetable.proofs.Words.{length-snoc, flat-append, flat-length, over-more, over-length, stored-fits, and-left, and-right}
+use Rattle.legs.specs.declared.line.Line.{Line}
+use Rattle.legs.specs.RowOver.{stoppedWith, storedAt, rangeHolds, countsHold, lowest, Bounded, nextLine}
+use Rattle.legs.specs.Slots.{nominalOf, heldIds}
+use Rattle.timetable.proofs.Words.{length-snoc, stored-fits}
 use Rattle.timetable.proofs.Judge.{outcome, judge-lowest, lowest-zero, any-below}
-use Rattle.timetable.proofs.Accept.{listed-more}
+use Rattle.timetable.proofs.Accept.{listed-more, above-grows}
 use Rattle.solution.specs.Said.{Alone, rangeOf, Said, SaidOf}
 use Rattle.solution.specs.Before.{travels, packed, packedRow, countedAs, newAfter, choiceTests, Counted, AfterRow, Turned, Roomy}
 
 -- how long the table's written part is
 pub packed-length : (rows : List Row) → length (flat packedRow rows) ≡ length rows * configurationWidth
 packed-length rows = flat-length packedRow configurationWidth (λ r. refl) rows
-
-above-grows : (above id : ℕ) → (above ≤ cond (leb above id) (id + 1) above) × (id < cond (leb above id) (id + 1) above)
-above-grows above id = go (leb above id) refl
-  where
-    go : (t : Bool) → leb above id ≡ t → (above ≤ cond t (id + 1) above) × (id < cond t (id + 1) above)
-    go true e = let k : above ≤ id = leb-true above id e in (omega arith, omega arith)
-    go false e = let k : id < above = leb-false above id e in (omega arith, omega arith)
 
 -- the counts do not change what a line says
 said-counted : (H : ℕ) (r : Row) (line before : Line) → Said H r line → Said H r (countedAs line before)
@@ -81,8 +75,8 @@ module _ (H : ℕ) (lent : List ℕ) (line : Line) (choices : List ℕ) (before 
   few-of : counted ≡ true → length (r .list) ≤ mostListed
   few-of e =
       leb-true (length (r .list)) mostListed
-      (and-left (leb (length (r .list)) mostListed) (leb (listed before + length (r .list)) mostConfigurations)
-      (and-right (ltb (length before) mostLegs) (leb (length (r .list)) mostListed && leb (listed before + length (r .list)) mostConfigurations) e))
+      (and-first (leb (length (r .list)) mostListed) (leb (listed before + length (r .list)) mostConfigurations)
+      (and-second (ltb (length before) mostLegs) (leb (length (r .list)) mostListed && leb (listed before + length (r .list)) mostConfigurations) e))
 
   few-is : length (r .list) ≤ mostListed → line .entries ≡ length (r .list)
   few-is h = s .entries-are ∙ omega arith
@@ -141,14 +135,14 @@ module _ (H : ℕ) (lent : List ℕ) (line : Line) (choices : List ℕ) (before 
     counts = sym counts-same ∙ holds .1
 
     legs-few : length before < mostLegs
-    legs-few = ltb-true (length before) mostLegs (and-left (ltb (length before) mostLegs) _ counts)
+    legs-few = ltb-true (length before) mostLegs (and-first (ltb (length before) mostLegs) _ counts)
 
     all-few : listed before + length (r .list) ≤ mostConfigurations
     all-few =
-        leb-true (listed before + length (r .list)) mostConfigurations (and-right (leb (length (r .list)) mostListed) _ (and-right (ltb (length before) mostLegs) _ counts))
+        leb-true (listed before + length (r .list)) mostConfigurations (and-second (leb (length (r .list)) mostListed) _ (and-second (ltb (length before) mostLegs) _ counts))
 
     nominal-right : inRange H (r .nominal) ≡ true
-    nominal-right = and-left (inRange H (r .nominal)) (every (inRange H) (r .list)) (and-right (every (λ id. leb id mostId) (idsOf r)) _ ranged)
+    nominal-right = and-first (inRange H (r .nominal)) (every (inRange H) (r .list)) (and-second (every (λ id. leb id mostId) (idsOf r)) _ ranged)
 
     room : length before < length lent / configurationWidth
     room = ltb-true (length before) (length lent / configurationWidth) (sym room-same ∙ holds .4)
@@ -166,7 +160,7 @@ module _ (H : ℕ) (lent : List ℕ) (line : Line) (choices : List ℕ) (before 
         ∙ ap (λ (x : Configuration). sets choices (line .rows * configurationWidth) (packed (r .leg) x)) (s .nominal-is ranged)
         ∙ ap (λ (k : ℕ). sets choices k one) at
         ∙ ap (λ (l : List ℕ). sets l (length written) one) (c .choices-are)
-        ∙ over-more written one lent inside
+        ∙ over-more written lent one inside
         ∙ ap (λ (l : List ℕ). over l lent) (sym (flat-append packedRow before (r ∷ [])))
 
     accepted : (choices′ : List ℕ) (at : ℕ) → choices′ ≡ storedAt configurationWidth (line .rows) (packed (getD (line .numbers) 0 0) (nominalOf (line .numbers))) choices
@@ -253,25 +247,25 @@ module _ (H : ℕ) (line : Line) (choices : List ℕ) (k : ℕ) (lowest-is : k �
       lowest-zero (rangeHolds H line) (countsHold line) (newAfter (line .rows) (line .above) (getD (line .numbers) 0 0) choices) (ltb (line .nominal) (line .entries)) (ltb (line .rows) (length choices / configurationWidth)) (sym lowest-is ∙ z)
 
   ids-low : every (λ id. leb id mostId) (heldIds (line .numbers)) ≡ true
-  ids-low = and-left (every (λ id. leb id mostId) (heldIds (line .numbers))) (inRange H (nominalOf (line .numbers)) && not (line .wide)) (passes .0)
+  ids-low = and-first (every (λ id. leb id mostId) (heldIds (line .numbers))) (inRange H (nominalOf (line .numbers)) && not (line .wide)) (passes .0)
 
   pub row-bounds : Bounded line 0
   row-bounds =
       record {
         at-low = omega arith;
-        rows-low = ltb-true (line .rows) mostLegs (and-left (ltb (line .rows) mostLegs) _ (passes .1));
+        rows-low = ltb-true (line .rows) mostLegs (and-first (ltb (line .rows) mostLegs) _ (passes .1));
         configurations-low =
-            leb-true (line .configurations + line .entries) mostConfigurations (and-right (leb (line .entries) mostListed) _ (and-right (ltb (line .rows) mostLegs) _ (passes .1)));
-        id-low = leb-true (getD (line .numbers) 0 0) mostId (and-left (leb (getD (line .numbers) 0 0) mostId) (every (λ id. leb id mostId) (drop 1 (heldIds (line .numbers)))) ids-low);
+            leb-true (line .configurations + line .entries) mostConfigurations (and-second (leb (line .entries) mostListed) _ (and-second (ltb (line .rows) mostLegs) _ (passes .1)));
+        id-low = leb-true (getD (line .numbers) 0 0) mostId (and-first (leb (getD (line .numbers) 0 0) mostId) (every (λ id. leb id mostId) (drop 1 (heldIds (line .numbers)))) ids-low);
       }
 
   -- departure plus travel is at most the horizon
   pub ends-by : nominalOf (line .numbers) .departure + nominalOf (line .numbers) .travel ≤ H
   ends-by =
       let n : Configuration = nominalOf (line .numbers) in
-      let i = and-left (inRange H n) (not (line .wide)) (and-right (every (λ id. leb id mostId) (heldIds (line .numbers))) _ (passes .0)) in
-      let j = and-right (leb (n .travel) mostTravel) _ (and-right (leb leastTravel (n .travel)) _ i) in
-      leb-true (n .departure + n .travel) H (and-left (leb (n .departure + n .travel) H) _ j)
+      let i = and-first (inRange H n) (not (line .wide)) (and-second (every (λ id. leb id mostId) (heldIds (line .numbers))) _ (passes .0)) in
+      let j = and-second (leb (n .travel) mostTravel) _ (and-second (leb leastTravel (n .travel)) _ i) in
+      leb-true (n .departure + n .travel) H (and-first (leb (n .departure + n .travel) H) _ j)
 
   -- so it can be packed
   module _ {bytes : List ℕ} (alone : Alone H bytes) where

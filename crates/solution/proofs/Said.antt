@@ -17,21 +17,24 @@ use Rattle.rules.specs.Bytes.{lineFeed}
 use Rattle.rules.specs.Timetable.{Row, formOf, configuration, idsOf, judgeForm, timetableHeader}
 use Rattle.rules.specs.Verdict.{All}
 use Rattle.rules.specs.declared.sizes.Configuration.{Configuration}
+use Rattle.rules.proofs.Truth.{and-first, and-second}
 use Rattle.lines.specs.Fold.{fold, run}
 use Rattle.lines.specs.Number as Row
 use Rattle.lines.specs.Machine.{Progress, inRow, stopped}
 use Rattle.lines.proofs.Lines.{Unbroken}
 use Rattle.lines.proofs.Machine.{in-line, opened}
-use Rattle.timetable.specs.declared.line.Line.{Line}
-use Rattle.timetable.specs.declared.number.Number.{Number}
-use Rattle.timetable.specs.declared.number.Number.the-variants.{Empty}
+use Rattle.legs.specs.declared.line.Line.{Line}
+use Rattle.legs.specs.declared.number.Number.{Number}
+use Rattle.legs.specs.declared.number.Number.the-variants.{Empty}
 use Rattle.timetable.specs.declared.reader.Reader.{Reader}
-use Rattle.timetable.specs.Digits.{numberHeld, isEmpty, valueOf}
+use Rattle.timetable.specs.Held.{numberHeld, Shaped, inHead, inFirst, inSecond, inThird, Tables, tables, InLine, Entered}
+use Rattle.legs.specs.Digits.{isEmpty, valueOf}
 use Rattle.timetable.specs.Open.{Open, partly, start, openStep, openEnd, reach}
-use Rattle.timetable.specs.Held.{lastSlot, entrySlot, Shaped, inHead, inFirst, inSecond, inThird, stoppedWith, nominalOf, Tables, tables, InLine, Entered}
-use Rattle.timetable.specs.RowOver.{heldIds, draftRoom}
+use Rattle.legs.specs.Slots.{lastSlot, entrySlot, nominalOf, heldIds}
+use Rattle.legs.specs.RowOver.{stoppedWith}
+use Rattle.timetable.specs.Ended.{draftRoom}
 use Rattle.timetable.specs.Text.{firstLine, Holds, drafted, Placed, Ran}
-use Rattle.timetable.proofs.Words.{and-left, and-right, exact}
+use Rattle.timetable.proofs.Words.{exact}
 use Rattle.timetable.proofs.Close.{entry-slot}
 use Rattle.timetable.proofs.Form.{form-run}
 use Rattle.timetable.proofs.Feed.{first-row}
@@ -52,16 +55,16 @@ module _ (H : ℕ) (lent : Tables) (line : Line) (now : Tables) (place : ℕ) (c
   ids-held : rangeOf H r ≡ true → heldIds (line .numbers) ≡ idsOf r
   ids-held a =
       let i1 = ids-right H lent line now place [] closed list g eight a in
-      let i2 = and-right (leb (getD closed 0 0) mostId) _ i1 in
-      let i3 = and-right (leb (getD closed 1 0) mostId) _ i2 in
-      let i4 = and-right (leb (getD closed 2 0) mostId) _ i3 in
-      let i5 = and-right (leb (getD closed 3 0) mostId) _ i4 in
+      let i2 = and-second (leb (getD closed 0 0) mostId) _ i1 in
+      let i3 = and-second (leb (getD closed 1 0) mostId) _ i2 in
+      let i4 = and-second (leb (getD closed 2 0) mostId) _ i3 in
+      let i5 = and-second (leb (getD closed 3 0) mostId) _ i4 in
       rw (
-        id-right 0 (omega arith) a (leb-true (getD closed 0 0) mostId (and-left (leb (getD closed 0 0) mostId) _ i1)),
-        id-right 1 (omega arith) a (leb-true (getD closed 1 0) mostId (and-left (leb (getD closed 1 0) mostId) _ i2)),
-        id-right 2 (omega arith) a (leb-true (getD closed 2 0) mostId (and-left (leb (getD closed 2 0) mostId) _ i3)),
-        id-right 3 (omega arith) a (leb-true (getD closed 3 0) mostId (and-left (leb (getD closed 3 0) mostId) _ i4)),
-        id-right 4 (omega arith) a (leb-true (getD closed 4 0) mostId (and-left (leb (getD closed 4 0) mostId) _ i5)),
+        id-right 0 (omega arith) a (leb-true (getD closed 0 0) mostId (and-first (leb (getD closed 0 0) mostId) _ i1)),
+        id-right 1 (omega arith) a (leb-true (getD closed 1 0) mostId (and-first (leb (getD closed 1 0) mostId) _ i2)),
+        id-right 2 (omega arith) a (leb-true (getD closed 2 0) mostId (and-first (leb (getD closed 2 0) mostId) _ i3)),
+        id-right 3 (omega arith) a (leb-true (getD closed 3 0) mostId (and-first (leb (getD closed 3 0) mostId) _ i4)),
+        id-right 4 (omega arith) a (leb-true (getD closed 4 0) mostId (and-first (leb (getD closed 4 0) mostId) _ i5)),
       )
 
   nominal-held : rangeOf H r ≡ true → nominalOf (line .numbers) ≡ nominalOf closed

@@ -15,9 +15,10 @@ use Rattle.rules.specs.Timetable.{Row, inRange, choicesOf, configurationNumbers
 use Rattle.rules.specs.Energy.{tabulate}
 use Rattle.rules.specs.Verdict.{All}
 use Rattle.rules.specs.declared.sizes.Configuration.{Configuration}
-use Rattle.rules.proofs.Lists.{tabulate-length, tabulate-ext, tabulate-more}
-use Rattle.timetable.specs.Held.{storedAt}
-use Rattle.timetable.proofs.Words.{flat-append, flat-length, over-more, over-length, stored-fits, and-left, and-right}
+use Rattle.rules.proofs.Lists.{tabulate-length, tabulate-ext, tabulate-more, flat-append, flat-length, over-more, over-length}
+use Rattle.rules.proofs.Truth.{and-first, and-second}
+use Rattle.legs.specs.RowOver.{storedAt}
+use Rattle.timetable.proofs.Words.{stored-fits}
 use Rattle.solution.specs.Before.{travels, timesAt, profileAt, packedRow}
 use Rattle.solution.specs.Whole.{unpackedAt, unpacked}
 use Rattle.solution.proofs.Judging.{packed-length}
@@ -86,7 +87,7 @@ module _ (n : ℕ) (table : List ℕ) (fits : n * configurationWidth ≤ length 
             ∙ ap (λ (x : List ℕ). sets now (i * configurationWidth) x) read
             ∙ ap (λ (x : List ℕ). sets x (i * configurationWidth) one) (u .now-is)
             ∙ ap (λ (x : ℕ). sets (unpacked i table) x one) (sym (written-length i))
-            ∙ over-more (written i) one table (omega (arith, written-length i))
+            ∙ over-more (written i) table one (omega (arith, written-length i))
             ∙ ap (λ (x : List ℕ). over x table) (sym more)
 
     pub unpack-end : n ≤ i → now ≡ unpacked n table
@@ -105,7 +106,7 @@ entry-past r t i =
 entry-first : (H : ℕ) (r : Row) (t : List ℕ) → inRange H (r .nominal) ≡ true → unpackedAt (packedRow r ++ t) 0 ≡ r .nominal
 entry-first H r t e =
     let c : Configuration = r .nominal in
-    let low : c .travel ≤ mostTravel = leb-true (c .travel) mostTravel (and-left (leb (c .travel) mostTravel) _ (and-right (leb leastTravel (c .travel)) _ e)) in
+    let low : c .travel ≤ mostTravel = leb-true (c .travel) mostTravel (and-first (leb (c .travel) mostTravel) _ (and-second (leb leastTravel (c .travel)) _ e)) in
     let d : (c .departure * travels + c .travel) / travels ≡ c .departure = omega arith in
     let m : (c .departure * travels + c .travel) % travels ≡ c .travel = omega arith in
     rw (d, m)

@@ -6,7 +6,7 @@ use lib.Dec.{ltb}
 use lib.ListN.{length, drop}
 use Rattle.rules.specs.Limits.{legWidth}
 use Rattle.rules.specs.Lists.{startsWith}
-use Rattle.timetable.specs.RowOver.{heldIds}
+use Rattle.legs.specs.Slots.{heldIds}
 use Rattle.solution.specs.declared.compare.Compared.{Compared}
 
 -- the table has a whole row there

@@ -13,8 +13,9 @@ use Rattle.rules.specs.Timetable.{Row, idsOf, inRange, listed, rowOf, solutionF
 use Rattle.rules.specs.Verdict.{All}
 use Rattle.rules.specs.declared.sizes.Configuration.{Configuration}
 use Rattle.ids.specs.Column.{column, isNew}
-use Rattle.timetable.specs.declared.line.Line.{Line}
-use Rattle.timetable.specs.RowOver.{heldIds, rangeHolds, countsHold}
+use Rattle.legs.specs.declared.line.Line.{Line}
+use Rattle.legs.specs.Slots.{heldIds}
+use Rattle.legs.specs.RowOver.{rangeHolds, countsHold}
 
 -- more than any travel time
 abbrev pub travels : ℕ

@@ -3,17 +3,17 @@ ghost use mathlib.Core.Path.{_≡_};
 ghost use Prim.Native.Nat.{_*_, _≤_};
 ghost use lib.ListN.{length};
 ghost use Rattle.rules.specs.Limits.{configurationWidth};
-ghost use Rattle.timetable.specs.RowOver.{lowest};
+ghost use Rattle.legs.specs.RowOver.{lowest};
 ghost use Rattle.solution.specs.Said.{Alone};
 ghost use Rattle.solution.specs.Before.{countedAs, newAfter, choiceTests, Roomy, Turned};
 use crate::row;
 use ids::Found;
+use legs::line;
+use legs::line::Line;
 use rules::answers::Refusal;
 use rules::sizes::Choice;
 use rules::sizes::Configuration;
 use rules::sizes::Leg;
-use timetable::line;
-use timetable::line::Line;
 
 // More than any travel time.
 pub const TRAVELS: u32 = Configuration::MOST_TRAVEL + 1;

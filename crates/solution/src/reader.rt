@@ -9,13 +9,13 @@ use crate::after;
 use crate::compare;
 use crate::compare::Compared;
 use crate::ends;
+use legs::line;
 use rules::answers::Refusal;
 use rules::sizes::Choice;
 use rules::sizes::Configuration;
 use rules::sizes::Leg;
 use rules::sizes::Text;
 use text::words;
-use timetable::line;
 use timetable::reader;
 
 // The first fault's number and place, or how many choices there are.

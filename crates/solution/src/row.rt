@@ -1,13 +1,13 @@
 // A line by itself: the timetable's machine reads it, after no rows and into no tables.
 ghost use Rattle.rules.specs.Timetable.{formOf};
 ghost use Rattle.solution.specs.Said.{Alone, SaidOf, RowClosed};
+use legs::line;
+use legs::line::Line;
+use legs::number;
+use legs::number::Number;
 use rules::answers::Refusal;
 use rules::sizes::Configuration;
 use rules::sizes::Leg;
-use timetable::line;
-use timetable::line::Line;
-use timetable::number;
-use timetable::number::Number;
 use timetable::reader;
 
 // The numbers of a row that are held: its ids, its nominal, and those of an entry but the third, at whose place a row may end.
@@ -23,7 +23,7 @@ fn close_row(row: Line, unclosed: Number, h: u32, entries: &mut [u32]) -> Line
     if row.slot != HELD {
         return line::stopped(row, Refusal::ROW_FORM);
     }
-    line::entry(row, number::value(unclosed), h, entries)
+    timetable::row::entry(row, number::value(unclosed), h, entries)
 }
 
 pub fn read_row(bytes: &[u8], h: u32) -> Line

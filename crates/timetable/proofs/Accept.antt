@@ -14,12 +14,15 @@ use Rattle.rules.specs.Lists.{flat, over}
 use Rattle.rules.specs.Timetable.{Row, offers, listed, legOf, legsFrom, legsOf, legNumbers, configurationsOf, configurationNumbers}
 use Rattle.rules.specs.declared.sizes.Leg.{Leg}
 use Rattle.rules.specs.declared.sizes.Configuration.{Configuration}
-use Rattle.rules.proofs.Truth.{all-append, all-map}
-use Rattle.timetable.specs.declared.line.Line.{Line}
-use Rattle.timetable.specs.Held.{entrySlot, inHead, nominalOf, Rowed, Tables, tables, InLine, storedAt}
-use Rattle.timetable.specs.RowOver.{lineTests, lowest, heldLeg, nextLine, draftRoom}
-use Rattle.timetable.proofs.Words.{length-snoc, flat-append, over-more, over-length, stored-fits, and-left, and-right}
-use Rattle.timetable.proofs.Judge.{rowFrom, legs-written, faultless, leg-held, leg-is, list-right, ranged, counted}
+use Rattle.rules.proofs.Truth.{all-append, all-map, and-first, and-second}
+use Rattle.rules.proofs.Lists.{flat-append, over-more}
+use Rattle.legs.specs.declared.line.Line.{Line}
+use Rattle.legs.specs.Slots.{entrySlot, nominalOf}
+use Rattle.timetable.specs.Held.{inHead, Rowed, Tables, tables, InLine}
+use Rattle.legs.specs.RowOver.{storedAt, lineTests, lowest, heldLeg, nextLine}
+use Rattle.timetable.specs.Ended.{draftRoom}
+use Rattle.timetable.proofs.Words.{length-snoc, stored-fits}
+use Rattle.timetable.proofs.Judge.{rowFrom, legs-written, legs-long, faultless, leg-held, leg-is, list-right, ranged, counted}
 
 -- ---- one row more
 
@@ -37,7 +40,7 @@ configurations-more : (rows : List Row) (r : Row) → configurationsOf (rows ++ 
 configurations-more rows r =
     append-nil (configurationsOf (rows ++ r ∷ [])) ∙ flat-append (λ (x : Row). x .list) rows (r ∷ []) ∙ ap (λ (l : List Configuration). configurationsOf rows ++ l) (append-nil (r .list))
 
-above-grows : (above id : ℕ) → (above ≤ cond (leb above id) (id + 1) above) × (id < cond (leb above id) (id + 1) above)
+pub above-grows : (above id : ℕ) → (above ≤ cond (leb above id) (id + 1) above) × (id < cond (leb above id) (id + 1) above)
 above-grows above id = go (leb above id) refl
   where
     go : (t : Bool) → leb above id ≡ t → (above ≤ cond t (id + 1) above) × (id < cond t (id + 1) above)
@@ -60,27 +63,24 @@ module _ (H : ℕ) (lent : Tables) (line : Line) (now : Tables) (place : ℕ) (b
   passes = faultless H lent line now place before closed list g eight room room-is none
 
   legs-few : length before < mostLegs
-  legs-few = ltb-true (length before) mostLegs (and-left (ltb (length before) mostLegs) _ (passes .1))
+  legs-few = ltb-true (length before) mostLegs (and-first (ltb (length before) mostLegs) _ (passes .1))
 
   listed-few : length list ≤ mostListed
-  listed-few = leb-true (length list) mostListed (and-left (leb (length list) mostListed) _ (and-right (ltb (length before) mostLegs) _ (passes .1)))
+  listed-few = leb-true (length list) mostListed (and-first (leb (length list) mostListed) _ (and-second (ltb (length before) mostLegs) _ (passes .1)))
 
   all-few : listed before + length list ≤ mostConfigurations
   all-few =
-      leb-true (listed before + length list) mostConfigurations (and-right (leb (length list) mostListed) _ (and-right (ltb (length before) mostLegs) _ (passes .1)))
+      leb-true (listed before + length list) mostConfigurations (and-second (leb (length list) mostListed) _ (and-second (ltb (length before) mostLegs) _ (passes .1)))
 
   leg-room : length before < length (lent .legs) / legWidth
-  leg-room = ltb-true (length before) (length (lent .legs) / legWidth) (and-left (ltb (length before) (length (lent .legs) / legWidth)) _ (passes .3))
+  leg-room = ltb-true (length before) (length (lent .legs) / legWidth) (and-first (ltb (length before) (length (lent .legs) / legWidth)) _ (passes .3))
 
   all-room : listed before + length list ≤ length (lent .configurations) / configurationWidth
   all-room =
-      leb-true (listed before + length list) (length (lent .configurations) / configurationWidth) (and-right (ltb (length before) (length (lent .legs) / legWidth)) _ (passes .3))
+      leb-true (listed before + length list) (length (lent .configurations) / configurationWidth) (and-second (ltb (length before) (length (lent .legs) / legWidth)) _ (passes .3))
 
   entries-is : line .entries ≡ length list
   entries-is = g .opened .entries-are ∙ (let k : length list ≤ mostListed = listed-few in omega arith)
-
-  long : length (now .legs) ≡ length (lent .legs)
-  long = ap length (w .legs-are) ∙ over-length (flat legNumbers (legsOf before)) (lent .legs) (omega (arith, legs-written before, w .legs-fit))
 
   legs-now : (legs : List ℕ) → legs ≡ storedAt legWidth (line .rows) (heldLeg line) (now .legs) → legs ≡ over (flat legNumbers (legsOf (before ++ r ∷ []))) (lent .legs)
   legs-now legs e =
@@ -92,11 +92,11 @@ module _ (H : ℕ) (lent : Tables) (line : Line) (now : Tables) (place : ℕ) (b
       ap (flat legNumbers) (legs-more 0 before r ∙ (let z : 0 + listed before ≡ listed before = omega arith in ap (λ (n : ℕ). legsOf before ++ legOf n r ∷ []) z))
       ∙ flat-append legNumbers (legsOf before) (legOf (listed before) r ∷ []) in
       e
-      ∙ stored-fits legWidth (line .rows) (heldLeg line) (now .legs) (omega (arith, w .rows-are, long, leg-room))
+      ∙ stored-fits legWidth (line .rows) (heldLeg line) (now .legs) (omega (arith, w .rows-are, legs-long w, leg-room))
       ∙ ap (λ (l : List ℕ). sets (now .legs) (line .rows * legWidth) l) (leg-held H lent line now place before closed list g eight (passes .0) (passes .1) (passes .2))
       ∙ ap (λ (k : ℕ). sets (now .legs) k one) at
       ∙ ap (λ (l : List ℕ). sets l (length written) one) (w .legs-are)
-      ∙ over-more written one (lent .legs) inside
+      ∙ over-more written (lent .legs) one inside
       ∙ ap (λ (l : List ℕ). over l (lent .legs)) (sym more)
 
   pub accepted : (legs : List ℕ) (at : ℕ) → legs ≡ storedAt legWidth (line .rows) (heldLeg line) (now .legs)

@@ -2,12 +2,12 @@
 use Prim.Native.Nat.{ℕ, zero, suc, _+_, _≤_, _<_}
 use mathlib.Core.Path.{_≡_, refl, ap, sym, _∙_}
 use mathlib.Core.Bool.{Bool, true, false, cond}
-use mathlib.Core.List.{List, [], _∷_, _++_, append-assoc, append-nil}
+use mathlib.Core.List.{List, [], _∷_, _++_, append-assoc, append-nil, map-append}
 use mathlib.Core.Option.{none, some}
 use native.Mathlib.Omega.{arith}
 use native.Mathlib.Numerals.{add-one}
 use lib.Dec.{ltb}
-use lib.ListN.{length, getD, take, set, length-append, length-set, List·getD-append}
+use lib.ListN.{length, getD, set, length-append, length-set, List·getD-append}
 use lib.Seq.{take-suc-set}
 use borrow.Author.Tests.{ltb-true, ltb-false, lt-ltb, le-ltb, eq-eqb, ne-eqb}
 use Rattle.rules.specs.Limits.{mostListed}
@@ -18,12 +18,14 @@ use Rattle.rules.specs.Timetable.{Row, configuration}
 use Rattle.rules.specs.Verdict.{All}
 use Rattle.rules.specs.declared.sizes.Configuration.{Configuration}
 use Rattle.lines.specs.Number.{Number, empty, numberStep, numberEnd}
-use Rattle.timetable.specs.declared.line.Line.{Line}
-use Rattle.timetable.specs.Digits.{held}
-use Rattle.timetable.specs.Open.{Open, partly, separators, separate, openStep}
-use Rattle.timetable.specs.Held.{lastSlot, entrySlot, separatorOf, Shaped, inHead, inFirst, inSecond, inThird, lineWith, stoppedWith, leading, nominalOf, sameHeld, Opened, Tables, tables, InLine, AfterByte, Entered, Closed}
-use Rattle.timetable.proofs.Leaves.{getD-inside}
-use Rattle.timetable.proofs.Words.{length-snoc, held-append}
+use Rattle.legs.specs.declared.line.Line.{Line}
+use Rattle.legs.specs.Digits.{held}
+use Rattle.timetable.specs.Open.{Open, partly, separate, openStep}
+use Rattle.legs.specs.Slots.{separators, lastSlot, entrySlot, separatorOf, nominalOf}
+use Rattle.timetable.specs.Held.{Shaped, inHead, inFirst, inSecond, inThird, lineWith, leading, sameHeld, Opened, Tables, tables, InLine, AfterByte, Entered, Closed}
+use Rattle.legs.specs.RowOver.{stoppedWith}
+use Rattle.legs.proofs.Leaves.{getD-inside}
+use Rattle.timetable.proofs.Words.{length-snoc}
 
 -- ---- which byte closes a number
 
@@ -97,7 +99,7 @@ more-opened {slot = slot} {numbers = numbers} {closed = closed} {entry = entry} 
       slot-is = rw (e, length-snoc (closed ++ entry) v) (add-one slot ∙ ap suc (o .slot-is));
       ten = length-set numbers slot (held v) ∙ o .ten;
       numbers-are =
-          rw (add-one slot, e, held-append (closed ++ entry) (v ∷ []))
+          rw (add-one slot, e, map-append held (closed ++ entry) (v ∷ []))
           (take-suc-set numbers slot (held v) (omega (arith, o .ten)) ∙ ap (λ (l : List ℕ). l ++ held v ∷ []) (o .numbers-are));
       entries-are = o .entries-are;
       wide-is = o .wide-is;

@@ -1,32 +1,36 @@
 -- A byte that the open number does not take: LF ends the row and has it judged, another byte closes the number or breaks the row's form. Assumes nothing.
 use Prim.Native.Nat.{ℕ, zero, suc, _+_, _≤_, _<_}
 use mathlib.Core.Path.{_≡_, refl, ap, sym, _∙_}
-use mathlib.Core.Bool.{Bool, true, false, not, cond, _&&_}
+use mathlib.Core.Bool.{Bool, true, false, not, cond, _&&_, true≢false, false≢true}
 use mathlib.Core.List.{List, [], _∷_, _++_, append-nil}
 use mathlib.Core.Option.{Option, none, some}
 use native.Mathlib.Omega.{arith}
 use lib.Dec.{leb, ltb, eqb}
-use lib.ListN.{length, getD, drop}
+use lib.ListN.{length, getD}
 use borrow.Author.Tests.{leb-true, ltb-true, le-ltb, lt-leb, eq-eqb, ne-eqb}
 use Rattle.rules.specs.Limits.{mostText, mostId, mostLegs, leastListed, mostListed, mostConfigurations, legWidth}
 use Rattle.rules.specs.Lists.{_>>=_, every}
 use Rattle.rules.specs.Answers.{badRow, timetableFile, Judged, wrong, right}
 use Rattle.rules.specs.Bytes.{lineFeed, isDigit}
 use Rattle.rules.specs.Timetable.{Row, configuration, inRange, judgeForm, timetableHeader}
+use Rattle.rules.specs.Verdict.{All}
 use Rattle.rules.specs.declared.sizes.Configuration.{Configuration}
 use Rattle.rules.specs.declared.sizes.LegMade.{LegMade}
 use Rattle.rules.specs.declared.sizes.LegMade.the-variants.{Within}
+use Rattle.rules.proofs.Truth.{and-first, and-second}
 use Rattle.lines.specs.Number as Row
 use Rattle.lines.specs.Machine.{onByte, onLine}
-use Rattle.timetable.specs.declared.line.Line.{Line}
-use Rattle.timetable.specs.declared.number.Number.{Number}
-use Rattle.timetable.specs.declared.number.Number.the-variants.{Empty}
-use Rattle.timetable.specs.Digits.{held, numberHeld, isEmpty, valueOf}
+use Rattle.legs.specs.declared.line.Line.{Line}
+use Rattle.legs.specs.declared.number.Number.{Number}
+use Rattle.legs.specs.declared.number.Number.the-variants.{Empty}
+use Rattle.legs.specs.Digits.{held, isEmpty, valueOf}
+use Rattle.timetable.specs.Held.{numberHeld, Shaped, inHead, inFirst, inSecond, inThird, Tables, tables, InLine, AfterByte, Entered, Closed}
 use Rattle.timetable.specs.Open.{Open, partly, start, openStep, openEnd, reach}
-use Rattle.timetable.specs.Held.{lastSlot, entrySlot, Shaped, inHead, inFirst, inSecond, inThird, stoppedWith, Tables, tables, InLine, AfterByte, Entered, Closed, nominalOf, storedAt}
-use Rattle.timetable.specs.RowOver.{heldIds, rangeHolds, countsHold, isNew, roomHolds, lineTests, lowest, heldLeg, legHeld, storedLeg, legOf, Bounded, nextLine, draftRoom, AfterLine, Ended}
+use Rattle.legs.specs.Slots.{lastSlot, entrySlot, nominalOf, heldIds}
+use Rattle.legs.specs.RowOver.{stoppedWith, storedAt, rangeHolds, countsHold, isNew, roomHolds, lineTests, lowest, heldLeg, legHeld, storedLeg, legOf, Bounded, nextLine}
+use Rattle.timetable.specs.Ended.{draftRoom, AfterLine, Ended}
 use Rattle.timetable.specs.Text.{Holds, Signed}
-use Rattle.timetable.proofs.Words.{and-left, and-right}
+use Rattle.timetable.proofs.Words.{ids-low}
 use Rattle.timetable.proofs.Close.{entry-slot}
 use Rattle.timetable.proofs.Judge.{rowFrom, eight-make, outcome, judged, lowest-zero}
 use Rattle.timetable.proofs.Accept.{accepted}
@@ -54,13 +58,13 @@ row-bounds H line legs room k at e z a =
     let holds = lowest-zero (rangeHolds H line) (countsHold line) (isNew (line .rows) (line .above) (getD (line .numbers) 0 0) legs) (ltb (line .nominal) (line .entries)) (roomHolds line (length legs) room) (sym e ∙ z) in
     let counts = holds .1 in
     let ids : every (λ id. leb id mostId) (heldIds (line .numbers)) ≡ true =
-    and-left (every (λ id. leb id mostId) (heldIds (line .numbers))) (inRange H (nominalOf (line .numbers)) && not (line .wide)) (holds .0) in
+    and-first (every (λ id. leb id mostId) (heldIds (line .numbers))) (inRange H (nominalOf (line .numbers)) && not (line .wide)) (holds .0) in
     record {
       at-low = a;
-      rows-low = ltb-true (line .rows) mostLegs (and-left (ltb (line .rows) mostLegs) _ counts);
+      rows-low = ltb-true (line .rows) mostLegs (and-first (ltb (line .rows) mostLegs) _ counts);
       configurations-low =
-          leb-true (line .configurations + line .entries) mostConfigurations (and-right (leb (line .entries) mostListed) _ (and-right (ltb (line .rows) mostLegs) _ counts));
-      id-low = leb-true (getD (line .numbers) 0 0) mostId (and-left (leb (getD (line .numbers) 0 0) mostId) (every (λ id. leb id mostId) (drop 1 (heldIds (line .numbers)))) ids);
+          leb-true (line .configurations + line .entries) mostConfigurations (and-second (leb (line .entries) mostListed) _ (and-second (ltb (line .rows) mostLegs) _ counts));
+      id-low = ids-low (heldIds (line .numbers)) ids .0;
     }
 
 -- the constructor makes its leg
@@ -69,26 +73,19 @@ pub leg-made : (H : ℕ) (line : Line) (legs : List ℕ) (room : ℕ) → lowest
 leg-made H line legs room z =
     let holds = lowest-zero (rangeHolds H line) (countsHold line) (isNew (line .rows) (line .above) (getD (line .numbers) 0 0) legs) (ltb (line .nominal) (line .entries)) (roomHolds line (length legs) room) z in
     let n = line .numbers in
-    let one : every (λ id. leb id mostId) (heldIds n) ≡ true = and-left (every (λ id. leb id mostId) (heldIds n)) _ (holds .0) in
-    let two = and-right (leb (getD n 0 0) mostId) _ one in
-    let three = and-right (leb (getD n 1 0) mostId) _ two in
-    let four = and-right (leb (getD n 2 0) mostId) _ three in
-    let five = and-right (leb (getD n 3 0) mostId) _ four in
-    let listed-low : line .entries ≤ mostListed = leb-true (line .entries) mostListed (and-left (leb (line .entries) mostListed) _ (and-right (ltb (line .rows) mostLegs) _ (holds .1))) in
+    let low : All (λ id. id ≤ mostId) (heldIds n) = ids-low (heldIds n) (and-first (every (λ id. leb id mostId) (heldIds n)) _ (holds .0)) in
+    let listed-low : line .entries ≤ mostListed = leb-true (line .entries) mostListed (and-first (leb (line .entries) mostListed) _ (and-second (ltb (line .rows) mostLegs) _ (holds .1))) in
     let nominal-low : line .nominal < line .entries = ltb-true (line .nominal) (line .entries) (holds .3) in
     rw (
-      id-low (getD n 0 0) (and-left (leb (getD n 0 0) mostId) _ one),
-      id-low (getD n 1 0) (and-left (leb (getD n 1 0) mostId) _ two),
-      id-low (getD n 2 0) (and-left (leb (getD n 2 0) mostId) _ three),
-      id-low (getD n 3 0) (and-left (leb (getD n 3 0) mostId) _ four),
-      id-low (getD n 4 0) (and-left (leb (getD n 4 0) mostId) _ five),
+      le-ltb mostId (getD n 0 0) (low .0),
+      le-ltb mostId (getD n 1 0) (low .1 .0),
+      le-ltb mostId (getD n 2 0) (low .1 .1 .0),
+      le-ltb mostId (getD n 3 0) (low .1 .1 .1 .0),
+      le-ltb mostId (getD n 4 0) (low .1 .1 .1 .1 .0),
       le-ltb (line .entries) leastListed (omega (arith, nominal-low)),
       le-ltb mostListed (line .entries) listed-low,
       lt-leb (line .entries) (line .nominal) nominal-low,
     )
-  where
-    id-low : (id : ℕ) → leb id mostId ≡ true → ltb mostId id ≡ false
-    id-low id e = le-ltb mostId id (leb-true id mostId e)
 
 -- ---- the three ways of an LF
 
@@ -148,23 +145,14 @@ module _ (H : ℕ) (line whole line′ : Line) (n at k : ℕ) (legs legs′ tabl
 -- ---- a byte that the open number does not take
 
 pub not-empty : (m : Row.Number) (x : Number) → x ≡ numberHeld m → isEmpty x ≡ false → (v : ℕ) × (Row.numberEnd m ≡ some v) × (valueOf x ≡ held v)
-not-empty Row.empty x e q = let z : true ≡ false = sym (ap isEmpty e) ∙ q in absurd (never z)
-  where
-    never : true ≡ false → ⊥
-    never z = let k : _≡_ {A = ℕ} 0 1 = cc in omega arith
+not-empty Row.empty x e q = absurd (true≢false (sym (ap isEmpty e) ∙ q))
 not-empty Row.zero x e q = (0, refl, ap valueOf e)
 not-empty (Row.digits n) x e q = (n, refl, ap valueOf e)
 
 pub is-empty : (m : Row.Number) (x : Number) → x ≡ numberHeld m → isEmpty x ≡ true → m ≡ Row.empty
 is-empty Row.empty x e q = refl
-is-empty Row.zero x e q = absurd (never (sym (ap isEmpty e) ∙ q))
-  where
-    never : false ≡ true → ⊥
-    never z = let k : _≡_ {A = ℕ} 0 1 = cc in omega arith
-is-empty (Row.digits n) x e q = absurd (never (sym (ap isEmpty e) ∙ q))
-  where
-    never : false ≡ true → ⊥
-    never z = let k : _≡_ {A = ℕ} 0 1 = cc in omega arith
+is-empty Row.zero x e q = absurd (false≢true (sym (ap isEmpty e) ∙ q))
+is-empty (Row.digits n) x e q = absurd (false≢true (sym (ap isEmpty e) ∙ q))
 
 module _ (H : ℕ) (line line′ : Line) (number : Number) (b at : ℕ) where
   -- no digit before it

@@ -2,7 +2,7 @@
 use Prim.Native.Nat.{ℕ, suc, _+_, _*_, _≤_, _<_}
 use mathlib.Core.Path.{_≡_, refl, ap, sym, _∙_}
 use mathlib.Core.Bool.{Bool, true, false, not, cond, _&&_}
-use mathlib.Core.List.{List, [], _∷_, _++_, map, append-assoc, append-nil}
+use mathlib.Core.List.{List, [], _∷_, _++_, map, append-assoc, append-nil, map-append}
 use native.Mathlib.Omega.{arith}
 use lib.Dec.{ltb}
 use lib.ListN.{length, getD, take, length-append, length-map, List·getD-append}
@@ -11,10 +11,13 @@ use Rattle.rules.specs.Limits.{mostListed, configurationWidth}
 use Rattle.rules.specs.Lists.{every, flat, over}
 use Rattle.rules.specs.Timetable.{Row, configuration, inRange, same, listed, configurationsOf, configurationNumbers}
 use Rattle.rules.specs.declared.sizes.Configuration.{Configuration}
-use Rattle.timetable.specs.declared.line.Line.{Line}
-use Rattle.timetable.specs.Digits.{mostHeld, held}
-use Rattle.timetable.specs.Held.{lastSlot, entrySlot, Shaped, inFirst, inThird, lineWith, storedAt, nominalOf, sameHeld, Opened, Kept, Entered}
-use Rattle.timetable.proofs.Words.{length-snoc, every-snoc, every-front, every-last, leading-snoc, flat-append, flat-length, configurations-length, over-more, stored-fits, held-all, held-append, range-held, exact}
+use Rattle.rules.proofs.Lists.{every-more, flat-append, flat-length, over-more}
+use Rattle.legs.specs.declared.line.Line.{Line}
+use Rattle.legs.specs.Digits.{mostHeld, held}
+use Rattle.legs.specs.Slots.{nominalSlot, nominalTravelSlot, nominalProfileSlot, entrySlot, entryTravelSlot, lastSlot, nominalOf, entryOf}
+use Rattle.timetable.specs.Held.{Shaped, inFirst, inThird, lineWith, sameHeld, Opened, Kept, Entered}
+use Rattle.legs.specs.RowOver.{storedAt}
+use Rattle.timetable.proofs.Words.{length-snoc, every-front, every-last, leading-snoc, configurations-length, stored-fits, held-all, range-held, exact}
 
 -- ---- the numbers of a row whose entry lacks its third number
 
@@ -26,13 +29,13 @@ module _ (numbers closed : List ℕ) (d t : ℕ) (eight : length closed ≡ entr
   all-held : numbers ≡ map held (closed ++ d ∷ t ∷ [])
   all-held = sym (take-all slot numbers (omega (arith, slot-is ∙ length-append closed (d ∷ t ∷ [])))) ∙ are
 
-  pub departure-held : getD numbers 8 0 ≡ held d
-  departure-held = ap (λ (l : List ℕ). getD l 8 0) all-held ∙ held-all (closed ++ d ∷ t ∷ []) 8 ∙ ap held (getD-at closed d (t ∷ []) 0 8 eight)
+  pub departure-held : getD numbers entrySlot 0 ≡ held d
+  departure-held = ap (λ (l : List ℕ). getD l entrySlot 0) all-held ∙ held-all (closed ++ d ∷ t ∷ []) entrySlot ∙ ap held (getD-at closed d (t ∷ []) 0 entrySlot eight)
 
-  pub travel-held : getD numbers 9 0 ≡ held t
+  pub travel-held : getD numbers entryTravelSlot 0 ≡ held t
   travel-held =
-      ap (λ (l : List ℕ). getD l 9 0) all-held
-      ∙ held-all (closed ++ d ∷ t ∷ []) 9
+      ap (λ (l : List ℕ). getD l entryTravelSlot 0) all-held
+      ∙ held-all (closed ++ d ∷ t ∷ []) entryTravelSlot
       ∙ ap held (rw eight at (getD-append-add closed (d ∷ t ∷ []) 1 0))
 
   pub before-held : (k : ℕ) → k < entrySlot → getD numbers k 0 ≡ held (getD closed k 0)
@@ -43,7 +46,7 @@ module _ (numbers closed : List ℕ) (d t : ℕ) (eight : length closed ≡ entr
 
   pub eight-held : take entrySlot numbers ≡ map held (closed ++ [])
   eight-held =
-      ap (take entrySlot) (all-held ∙ held-append closed (d ∷ t ∷ []))
+      ap (take entrySlot) (all-held ∙ map-append held closed (d ∷ t ∷ []))
       ∙ take-at (map held closed) (map held (d ∷ t ∷ [])) entrySlot (length-map closed held ∙ eight)
       ∙ ap (map held) (sym (append-nil closed))
 
@@ -66,22 +69,22 @@ module _ (H : ℕ) (line : Line) (p : ℕ) (horizon : H ≤ mostHeld) (closed : 
   eight : length closed ≡ entrySlot
   eight = third-closed (o .shaped)
 
-  at-8 : getD numbers 8 0 ≡ held d
-  at-8 = departure-held numbers closed d t eight (o .ten) (line .slot) (o .slot-is) (o .numbers-are)
+  at-entry : getD numbers entrySlot 0 ≡ held d
+  at-entry = departure-held numbers closed d t eight (o .ten) (line .slot) (o .slot-is) (o .numbers-are)
 
-  at-9 : getD numbers 9 0 ≡ held t
-  at-9 = travel-held numbers closed d t eight (o .ten) (line .slot) (o .slot-is) (o .numbers-are)
+  at-travel : getD numbers entryTravelSlot 0 ≡ held t
+  at-travel = travel-held numbers closed d t eight (o .ten) (line .slot) (o .slot-is) (o .numbers-are)
 
   at-before : (k : ℕ) → k < entrySlot → getD numbers k 0 ≡ held (getD closed k 0)
   at-before = before-held numbers closed d t eight (o .ten) (line .slot) (o .slot-is) (o .numbers-are)
 
-  wide-is′ : cond (inRange H (configuration (getD numbers 8 0) (getD numbers 9 0) p)) (line .wide) true ≡ not (every (inRange H) (list ++ c ∷ []))
+  wide-is′ : cond (inRange H (entryOf numbers p)) (line .wide) true ≡ not (every (inRange H) (list ++ c ∷ []))
   wide-is′ =
-      rw (at-8, at-9, pv, every-snoc (inRange H) list c)
+      rw (at-entry, at-travel, pv, every-more (inRange H) list c)
       (ap (λ (y : Bool). cond y (line .wide) true) (range-held H c horizon) ∙ wide-more (every (inRange H) list) (inRange H c) (line .wide) (o .wide-is))
 
-  hit-is : same (configuration (getD numbers 5 0) (getD numbers 6 0) (getD numbers 7 0)) (configuration (getD numbers 8 0) (getD numbers 9 0) p) ≡ sameHeld (nominalOf closed) c
-  hit-is = rw (at-before 5 (omega arith), at-before 6 (omega arith), at-before 7 (omega arith), at-8, at-9, pv)
+  hit-is : same (nominalOf numbers) (entryOf numbers p) ≡ sameHeld (nominalOf closed) c
+  hit-is = rw (at-before nominalSlot (omega arith), at-before nominalTravelSlot (omega arith), at-before nominalProfileSlot (omega arith), at-entry, at-travel, pv)
 
   few : length list ≤ mostListed → line .entries ≡ length list
   few h = o .entries-are ∙ omega arith
@@ -142,13 +145,13 @@ module _ (H : ℕ) (lent table : List ℕ) (before : List Row) (list : List Conf
       let at : k * configurationWidth ≡ length (written list) = ap (λ (n : ℕ). n * configurationWidth) e ∙ sym (written-length list) in
       let inside : length (written list) + 3 ≤ length lent = omega (arith, written-length list) in
       stored-fits configurationWidth k (held d ∷ held t ∷ held v ∷ []) table (omega arith)
-      ∙ rw (right .0, right .1, right .2, at, same, written-more) (over-more (written list) (d ∷ t ∷ v ∷ []) lent inside)
+      ∙ rw (right .0, right .1, right .2, at, same, written-more) (over-more (written list) lent (d ∷ t ∷ v ∷ []) inside)
 
 -- ---- both ways through the code
 
 -- entries past the limit are only tested for range
 pub entry-over : (H : ℕ) (line : Line) (p : ℕ) (table : List ℕ) (wide : Bool) → mostListed < line .entries
-    → wide ≡ cond (inRange H (configuration (getD (line .numbers) 8 0) (getD (line .numbers) 9 0) p)) (line .wide) true
+    → wide ≡ cond (inRange H (entryOf (line .numbers) p)) (line .wide) true
     → Entered H line p (lineWith line entrySlot (line .numbers) (line .entries) (line .nominal) wide) table table
 entry-over H line p table wide h w =
     record {
@@ -168,10 +171,10 @@ entry-over H line p table wide h w =
     }
 
 pub entry-in : (H : ℕ) (line : Line) (p : ℕ) (table table′ : List ℕ) (wide hit : Bool) (nominal : ℕ) → line .entries ≤ mostListed
-    → wide ≡ cond (inRange H (configuration (getD (line .numbers) 8 0) (getD (line .numbers) 9 0) p)) (line .wide) true
-    → hit ≡ same (configuration (getD (line .numbers) 5 0) (getD (line .numbers) 6 0) (getD (line .numbers) 7 0)) (configuration (getD (line .numbers) 8 0) (getD (line .numbers) 9 0) p)
+    → wide ≡ cond (inRange H (entryOf (line .numbers) p)) (line .wide) true
+    → hit ≡ same (nominalOf (line .numbers)) (entryOf (line .numbers) p)
     → nominal ≡ cond (ltb (line .nominal) (line .entries)) (line .nominal) (cond hit (line .nominal) (line .entries + 1))
-    → table′ ≡ storedAt configurationWidth (line .configurations + line .entries) (getD (line .numbers) 8 0 ∷ getD (line .numbers) 9 0 ∷ p ∷ []) table
+    → table′ ≡ storedAt configurationWidth (line .configurations + line .entries) (configurationNumbers (entryOf (line .numbers) p)) table
     → length table′ ≡ length table
     → Entered H line p (lineWith line entrySlot (line .numbers) (line .entries + 1) nominal wide) table table′
 entry-in H line p table table′ wide hit nominal h w i n s l =
@@ -181,7 +184,7 @@ entry-in H line p table table′ wide hit nominal h w i n s l =
           let less : length list ≤ mostListed = omega (arith, o .entries-are) in
           let k : line .configurations + line .entries ≡ listed before + length list = omega (arith, g .rowed .configurations-are, o .entries-are) in
           let q : table′ ≡ storedAt configurationWidth (line .configurations + line .entries) (held d ∷ held t ∷ held v ∷ []) table =
-          s ∙ rw (at-8 H line p (g .horizon) closed list d t v o pv, at-9 H line p (g .horizon) closed list d t v o pv, pv) in
+          s ∙ rw (at-entry H line p (g .horizon) closed list d t v o pv, at-travel H line p (g .horizon) closed list d t v o pv, pv) in
           record {
             horizon = g .horizon;
             going = g .going;

@@ -1,7 +1,7 @@
 -- A part of a text, and its end: the reader holds what the machine of the text reaches, and answers what that says. Assumes nothing.
 use Prim.Native.Nat.{ℕ, _+_, _≤_, _<_}
 use mathlib.Core.Path.{_≡_, refl, ap, sym, subst, _∙_}
-use mathlib.Core.Bool.{Bool, true, false, cond}
+use mathlib.Core.Bool.{Bool, true, false, cond, false≢true}
 use mathlib.Core.List.{List, [], _∷_}
 use native.Mathlib.Omega.{arith}
 use lib.Dec.{ltb}
@@ -13,16 +13,16 @@ use Rattle.rules.specs.Answers.{badHeader, badRow, timetableFile}
 use Rattle.rules.specs.Timetable.{Row, timetableHeader}
 use Rattle.lines.specs.Fold.{fold}
 use Rattle.lines.specs.Machine.{Progress, inHeader, inRow, stopped}
-use Rattle.timetable.specs.declared.line.Line.{Line}
-use Rattle.timetable.specs.declared.number.Number.{Number}
-use Rattle.timetable.specs.declared.number.Number.the-variants.{Empty}
+use Rattle.legs.specs.declared.line.Line.{Line}
+use Rattle.legs.specs.declared.number.Number.{Number}
+use Rattle.legs.specs.declared.number.Number.the-variants.{Empty}
 use Rattle.timetable.specs.declared.reader.Reader.{Reader}
 use Rattle.timetable.specs.declared.reader.Headed.{Headed}
 use Rattle.timetable.specs.declared.reader.Rows.the-variants.{Fault, Read}
-use Rattle.timetable.specs.Digits.{mostHeld}
+use Rattle.legs.specs.Digits.{mostHeld}
 use Rattle.timetable.specs.Open.{Open, start, reachedEnd}
 use Rattle.timetable.specs.Held.{inHead, Tables, InLine}
-use Rattle.timetable.specs.RowOver.{draftRoom}
+use Rattle.timetable.specs.Ended.{draftRoom}
 use Rattle.timetable.specs.Promise.{answerOf}
 use Rattle.timetable.specs.Text.{firstLine, Holds, drafted, Ran, Fed, headedFrom, Finished}
 use Rattle.timetable.proofs.Header.{arrived, wrong-header, right-header}
@@ -116,10 +116,7 @@ module _ (H : ℕ) (reader : Reader) (part : List ℕ) (now : Tables) where
             ∙ wrong-header H lent part (reader .read) 0 (ap (λ (x : Headed). x .right) (sym head-is) ∙ e) in
             rw q (f, p, omega arith)
         go lent (stopped k place) h = absurd (omega (arith, h .0, h .2))
-        go lent (inRow place n before o) h = absurd (never (sym e ∙ past-right lent n (h .0) (h .3) .1))
-          where
-            never : false ≡ true → ⊥
-            never z = let k : _≡_ {A = ℕ} 0 1 = cc in omega arith
+        go lent (inRow place n before o) h = absurd (false≢true (sym e ∙ past-right lent n (h .0) (h .3) .1))
 
     -- the header is right so far, and the rows are read
     pub fed-ran : (reader′ : Reader) (now′ : Tables) → head .right ≡ true → Ran H (reader .line) (reader .number) (reader .read) part (head .next) reader′ now now′

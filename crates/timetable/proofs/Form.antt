@@ -2,14 +2,14 @@
 -- Assumes nothing.
 use Prim.Native.Nat.{ℕ, _+_, _-_}
 use mathlib.Core.Path.{_≡_, refl, ap, sym, _∙_}
-use mathlib.Core.Bool.{Bool, true, false, not, cond}
+use mathlib.Core.Bool.{Bool, true, false, cond}
 use mathlib.Core.List.{List, [], _∷_, _++_, append-assoc, append-nil}
 use mathlib.Core.Option.{Option, none, some}
 use native.Mathlib.Omega.{arith}
 use lib.Dec.{eqb, ltb}
 use lib.ListN.{length, getD}
 use borrow.Author.Tests.{ne-eqb}
-use Rattle.rules.specs.Lists.{_>>=_, each, every}
+use Rattle.rules.specs.Lists.{_>>=_, each}
 use Rattle.rules.specs.Bytes.{isDigit, wholeOf, comma, space, underscore, onto, splitOn, joined}
 use Rattle.rules.specs.Timetable.{Row, row, configuration, threeOf, configurationOf, listOf, sevenOf, formOf}
 use Rattle.rules.specs.Verdict.{All}
@@ -18,7 +18,8 @@ use Rattle.rules.proofs.Pieces.{Free, split-cons, split-free, joined-split}
 use Rattle.lines.specs.Fold.{run}
 use Rattle.lines.specs.Number.{Number, empty, numberStep, numberEnd}
 use Rattle.lines.proofs.Number.{no-step, number-is-whole}
-use Rattle.timetable.specs.Open.{Open, partly, start, separators, separate, openStep, closeLast, openEnd}
+use Rattle.timetable.specs.Open.{Open, partly, start, separate, openStep, closeLast, openEnd}
+use Rattle.legs.specs.Slots.{separators}
 
 -- ---- what may be missing
 
@@ -198,8 +199,6 @@ module _ (sep : ℕ) (apart : underscore ≡ sep → ⊥) (o : Three sep) (tail 
   configuration-run s f =
       ap (λ (x : List ℕ). rest (o .one) (x ++ tail)) (sym (joined-split underscore s))
       ∙ parts (splitOn underscore s) (split-free underscore s) (split-within (λ b. b ≡ sep → ⊥) underscore s f)
-
--- ---- a list of configurations, after the numbers before it
 
 -- ---- a list of configurations, after the eight numbers before it
 

@@ -1,7 +1,7 @@
 -- The header is compared byte by byte: a law for each way through the loop, and what that says of how far the text is read. Assumes nothing.
 use Prim.Native.Nat.{ℕ, suc, _+_, _≤_, _<_}
 use mathlib.Core.Path.{_≡_, refl, ap, sym, _∙_}
-use mathlib.Core.Bool.{Bool, true, false, cond}
+use mathlib.Core.Bool.{Bool, true, false, cond, false≢true}
 use mathlib.Core.List.{List, [], _∷_}
 use native.Mathlib.Omega.{arith}
 use native.Mathlib.Nat.{add-zero}
@@ -15,11 +15,11 @@ use Rattle.rules.specs.Answers.{badHeader, timetableFile}
 use Rattle.rules.specs.Timetable.{Row, timetableHeader, judgeForm}
 use Rattle.lines.specs.Fold.{fold}
 use Rattle.lines.specs.Machine.{Progress, stopped, begun}
-use Rattle.timetable.specs.declared.line.Line.{Line}
+use Rattle.legs.specs.declared.line.Line.{Line}
 use Rattle.timetable.specs.declared.reader.Headed.{Headed}
 use Rattle.timetable.specs.Open.{Open, start, openStep, openEnd, reach}
 use Rattle.timetable.specs.Held.{Tables}
-use Rattle.timetable.specs.RowOver.{draftRoom}
+use Rattle.timetable.specs.Ended.{draftRoom}
 use Rattle.timetable.specs.Text.{drafted, Placed, headed, headedFrom}
 
 pub head-begins : (part : List ℕ) (read : ℕ) → headedFrom (read + 0) 0 (drop 0 part) ≡ headedFrom read 0 part
@@ -46,9 +46,6 @@ module _ (part : List ℕ) (read i : ℕ) (r : Headed) (e : headedFrom (read + i
 
 -- ---- where the header's bytes lead
 
-never : false ≡ true → ⊥
-never z = let k : _≡_ {A = ℕ} 0 1 = cc in omega arith
-
 -- the place is in the part, and where the part goes on the header is whole
 headed-within : (s : List ℕ) (k i : ℕ) → (headedFrom k i s .next ≤ i + length s) × (headedFrom k i s .right ≡ true → headedFrom k i s .next < i + length s → length timetableHeader + i ≤ k + headedFrom k i s .next)
 headed-within [] k i = (omega arith, λ e h. absurd (omega arith))
@@ -62,7 +59,7 @@ headed-within (b ∷ s) k i = go (ltb k (length timetableHeader)) refl (eqb b (g
         → cond t (cond q (headedFrom (k + 1) (i + 1) s) (headed i false)) (headed i true) .next < i + suc (length s)
         → length timetableHeader + i ≤ k + cond t (cond q (headedFrom (k + 1) (i + 1) s) (headed i false)) (headed i true) .next)
     go true e true w = (omega (arith, w .0), λ r h. let j : length timetableHeader + (i + 1) ≤ k + 1 + headedFrom (k + 1) (i + 1) s .next = w .1 r (omega arith) in omega arith)
-    go true e false w = (omega arith, λ r h. absurd (never r))
+    go true e false w = (omega arith, λ r h. absurd (false≢true r))
     go false e q w = (omega arith, λ r h. let j : length timetableHeader ≤ k = ltb-false k (length timetableHeader) e in omega arith)
 
 header-within : (part : List ℕ) (read : ℕ) (r : Headed) → r ≡ headedFrom read 0 part → r .next ≤ length part
@@ -104,7 +101,7 @@ module _ (H : ℕ) (lent : Tables) where
 
   -- a byte that differs stops the reading
   pub wrong-header : (s : List ℕ) (k i : ℕ) → headedFrom k i s .right ≡ false → fold step (arrived k) s ≡ stopped badHeader 0
-  wrong-header [] k i e = absurd (never (sym e))
+  wrong-header [] k i e = absurd (false≢true (sym e))
   wrong-header (b ∷ s) k i e = go (ltb k (length timetableHeader)) refl (eqb b (getD timetableHeader k 0)) refl (wrong-header s (k + 1) (i + 1)) e
     where
       go : (t : Bool) → ltb k (length timetableHeader) ≡ t → (q : Bool) → eqb b (getD timetableHeader k 0) ≡ q
@@ -113,7 +110,7 @@ module _ (H : ℕ) (lent : Tables) where
       go true f true q ih e =
           ap (λ (x : Progress Row Open). fold step x s) (header-right k b f q) ∙ ih e
       go true f false q ih e = ap (λ (x : Progress Row Open). fold step x s) (header-wrong k b f q) ∙ header-stays s
-      go false f q r ih e = absurd (never (sym e))
+      go false f q r ih e = absurd (false≢true (sym e))
 
   -- bytes that agree lead on
   pub right-header : (s : List ℕ) (k i : ℕ) → k ≤ length timetableHeader → headedFrom k i s .right ≡ true
@@ -138,5 +135,5 @@ module _ (H : ℕ) (lent : Tables) where
                 ∙ w .3
                 ∙ ap (λ (x : Progress Row Open). fold step x s) (sym (header-right k b f q)),
           )
-      go true f false q ih e = absurd (never e)
+      go true f false q ih e = absurd (false≢true e)
       go false f q r ih e = (0, sym (add-zero i), omega arith, ap (λ (x : ℕ). fold step (arrived x) (b ∷ s)) (add-zero k))

@@ -15,12 +15,16 @@ use Rattle.rules.specs.Answers.{Judged, wrong, right, judge, outOfRange, tooMan
 use Rattle.rules.specs.Timetable.{Row, row, inRange, same, idsOf, offers, listed, rowTests, legOf, legsFrom, legsOf, legNumbers, nominalPlace}
 use Rattle.rules.specs.Verdict.{All}
 use Rattle.rules.specs.declared.sizes.Configuration.{Configuration}
-use Rattle.timetable.specs.declared.line.Line.{Line}
-use Rattle.timetable.specs.Digits.{held}
+use Rattle.rules.proofs.Lists.{over-length, flat-length}
+use Rattle.rules.proofs.Truth.{and-first, and-second}
+use Rattle.legs.specs.declared.line.Line.{Line}
+use Rattle.legs.specs.Digits.{held}
 use Rattle.timetable.specs.Open.{rowOf}
-use Rattle.timetable.specs.Held.{entrySlot, leading, nominalOf, sameHeld, Opened, Rowed, Tables, InLine}
-use Rattle.timetable.specs.RowOver.{idsIn, rangeHolds, countsHold, isNew, roomHolds, lineTests, lowest, heldLeg, draftRoom}
-use Rattle.timetable.proofs.Words.{held-all, range-held, exact, leb-alike, and-left, and-right, over-length, flat-length}
+use Rattle.legs.specs.Slots.{nominalSlot, nominalTravelSlot, nominalProfileSlot, entrySlot, nominalOf}
+use Rattle.timetable.specs.Held.{leading, sameHeld, Opened, Rowed, Tables, InLine}
+use Rattle.legs.specs.RowOver.{idsIn, rangeHolds, countsHold, isNew, roomHolds, lineTests, lowest, heldLeg}
+use Rattle.timetable.specs.Ended.{draftRoom}
+use Rattle.timetable.proofs.Words.{held-all, range-held, exact, leb-alike, ids-low}
 
 -- ---- the row that eight numbers and a list make
 
@@ -63,7 +67,7 @@ module _ {A : Type 0} (keeps p q : A → Bool) (agree : (x : A) → keeps x ≡ 
   pub leading-alike : (xs : List A) → every keeps xs ≡ true → leading p xs ≡ leading q xs
   leading-alike [] e = refl
   leading-alike (x ∷ xs) e =
-      rw (agree x (and-left (keeps x) (every keeps xs) e), leading-alike xs (and-right (keeps x) (every keeps xs) e))
+      rw (agree x (and-first (keeps x) (every keeps xs) e), leading-alike xs (and-second (keeps x) (every keeps xs) e))
 
 -- ---- new ids
 
@@ -83,6 +87,11 @@ legs-length (r ∷ rows) first = ap suc (legs-length rows (first + length (r .li
 -- how long the leg table's written part is
 pub legs-written : (rows : List Row) → length (flat legNumbers (legsOf rows)) ≡ length rows * legWidth
 legs-written rows = flat-length legNumbers legWidth (λ l. refl) (legsOf rows) ∙ ap (λ (n : ℕ). n * legWidth) (legs-length rows 0)
+
+-- what is written leaves the leg table as long as it was lent
+pub legs-long : {lent legs : List ℕ} {room rows configurations above : ℕ} {before : List Row} → Rowed lent legs room rows configurations above before → length legs ≡ length lent
+legs-long {lent = lent} {before = before} w =
+    ap length (w .legs-are) ∙ over-length (flat legNumbers (legsOf before)) lent (omega (arith, legs-written before, w .legs-fit))
 
 -- ---- the lowest number
 
@@ -149,9 +158,9 @@ module _ (H : ℕ) (lent : Tables) (line : Line) (now : Tables) (place : ℕ) (b
         number-held 2 (omega arith),
         number-held 3 (omega arith),
         number-held 4 (omega arith),
-        number-held 5 (omega arith),
-        number-held 6 (omega arith),
-        number-held 7 (omega arith),
+        number-held nominalSlot (omega arith),
+        number-held nominalTravelSlot (omega arith),
+        number-held nominalProfileSlot (omega arith),
         id-held (getD closed 0 0),
         id-held (getD closed 1 0),
         id-held (getD closed 2 0),
@@ -177,15 +186,15 @@ module _ (H : ℕ) (lent : Tables) (line : Line) (now : Tables) (place : ℕ) (b
 
   -- what good range says of each number
   pub ids-right : ranged ≡ true → every (λ id. leb id mostId) (idsOf r) ≡ true
-  ids-right e = and-left (every (λ id. leb id mostId) (idsOf r)) (inRange H (nominalOf closed) && every (inRange H) list) e
+  ids-right e = and-first (every (λ id. leb id mostId) (idsOf r)) (inRange H (nominalOf closed) && every (inRange H) list) e
 
   pub nominal-right : ranged ≡ true → inRange H (nominalOf closed) ≡ true
   nominal-right e =
-      and-left (inRange H (nominalOf closed)) (every (inRange H) list) (and-right (every (λ id. leb id mostId) (idsOf r)) (inRange H (nominalOf closed) && every (inRange H) list) e)
+      and-first (inRange H (nominalOf closed)) (every (inRange H) list) (and-second (every (λ id. leb id mostId) (idsOf r)) (inRange H (nominalOf closed) && every (inRange H) list) e)
 
   pub list-right : ranged ≡ true → every (inRange H) list ≡ true
   list-right e =
-      and-right (inRange H (nominalOf closed)) (every (inRange H) list) (and-right (every (λ id. leb id mostId) (idsOf r)) (inRange H (nominalOf closed) && every (inRange H) list) e)
+      and-second (inRange H (nominalOf closed)) (every (inRange H) list) (and-second (every (λ id. leb id mostId) (idsOf r)) (inRange H (nominalOf closed) && every (inRange H) list) e)
 
   -- an id in range is held as it is
   pub number-exact : (k : ℕ) → k < entrySlot → getD closed k 0 ≤ mostId → getD (line .numbers) k 0 ≡ getD closed k 0
@@ -201,14 +210,11 @@ module _ (H : ℕ) (lent : Tables) (line : Line) (now : Tables) (place : ℕ) (b
       written : any (λ x. eqb x (getD closed 0 0)) (idsIn (length before) (now .legs)) ≡ any (λ b. eqb (b .leg) (r .leg)) before
       written = rw (w .legs-are) (table-ids (getD closed 0 0) before 0 (drop (length (flat legNumbers (legsOf before))) (lent .legs)))
 
-      long : length (now .legs) ≡ length (lent .legs)
-      long = ap length (w .legs-are) ∙ over-length (flat legNumbers (legsOf before)) (lent .legs) (omega (arith, legs-written before, w .legs-fit))
-
       go : (t : Bool) → leb (line .above) (getD closed 0 0) ≡ t
           → cond t true (cond (ltb (length (now .legs) / legWidth) (length before)) true (not (any (λ x. eqb x (getD closed 0 0)) (idsIn (length before) (now .legs)))))
           ≡ not (any (λ b. eqb (b .leg) (r .leg)) before)
       go true e = rw (any-below (line .above) (getD closed 0 0) (leb-true (line .above) (getD closed 0 0) e) before (w .below))
-      go false e = rw (le-ltb (length (now .legs) / legWidth) (length before) (omega (arith, w .legs-fit, long)), written)
+      go false e = rw (le-ltb (length (now .legs) / legWidth) (length before) (omega (arith, w .legs-fit, legs-long w)), written)
 
   -- configurations in range are the same where they are held as the same
   held-same : inRange H (nominalOf closed) ≡ true → (c : Configuration) → inRange H c ≡ true → sameHeld (nominalOf closed) c ≡ same (nominalOf closed) c
@@ -228,18 +234,16 @@ module _ (H : ℕ) (lent : Tables) (line : Line) (now : Tables) (place : ℕ) (b
       → roomHolds line (length (now .legs)) room ≡ draftRoom lent before r
   room-same room q h =
       let w : Rowed (lent .legs) (now .legs) (length (lent .configurations)) (line .rows) (line .configurations) (line .above) before = g .rowed in
-      let long : length (now .legs) ≡ length (lent .legs) =
-      ap length (w .legs-are) ∙ over-length (flat legNumbers (legsOf before)) (lent .legs) (omega (arith, legs-written before, w .legs-fit)) in
-      rw (w .rows-are, w .configurations-are, few-is h, q, long)
+      rw (w .rows-are, w .configurations-are, few-is h, q, legs-long w)
 
   few-of : counted ≡ true → length list ≤ mostListed
   few-of e =
       leb-true (length list) mostListed
-      (and-left (leb (length list) mostListed) (leb (listed before + length list) mostConfigurations)
-      (and-right (ltb (length before) mostLegs) (leb (length list) mostListed && leb (listed before + length list) mostConfigurations) e))
+      (and-first (leb (length list) mostListed) (leb (listed before + length list) mostConfigurations)
+      (and-second (ltb (length before) mostLegs) (leb (length list) mostListed && leb (listed before + length list) mostConfigurations) e))
 
   pub leg-in-range : ranged ≡ true → getD closed 0 0 ≤ mostId
-  leg-in-range e = leb-true (getD closed 0 0) mostId (and-left (leb (getD closed 0 0) mostId) _ (ids-right e))
+  leg-in-range e = ids-low (idsOf r) (ids-right e) .0
 
   -- the row is judged by the lowest number of the reader's tests
   pub judged : (room : ℕ) → room ≡ length (lent .configurations)
@@ -262,18 +266,18 @@ module _ (H : ℕ) (lent : Tables) (line : Line) (now : Tables) (place : ℕ) (b
   -- and the leg is held as it is
   pub leg-held : ranged ≡ true → counted ≡ true → offers list (nominalOf closed) ≡ true → heldLeg line ≡ legNumbers (legOf (listed before) r)
   leg-held a b c =
-      let i1 = ids-right a in
-      let i2 = and-right (leb (getD closed 0 0) mostId) _ i1 in
-      let i3 = and-right (leb (getD closed 1 0) mostId) _ i2 in
-      let i4 = and-right (leb (getD closed 2 0) mostId) _ i3 in
-      let i5 = and-right (leb (getD closed 3 0) mostId) _ i4 in
-      let n0 = number-exact 0 (omega arith) (leg-in-range a) in
-      let n1 = number-exact 1 (omega arith) (leb-true (getD closed 1 0) mostId (and-left (leb (getD closed 1 0) mostId) _ i2)) in
-      let n2 = number-exact 2 (omega arith) (leb-true (getD closed 2 0) mostId (and-left (leb (getD closed 2 0) mostId) _ i3)) in
-      let n3 = number-exact 3 (omega arith) (leb-true (getD closed 3 0) mostId (and-left (leb (getD closed 3 0) mostId) _ i4)) in
-      let n4 = number-exact 4 (omega arith) (leb-true (getD closed 4 0) mostId (and-left (leb (getD closed 4 0) mostId) _ i5)) in
+      let low : All (λ id. id ≤ mostId) (idsOf r) = ids-low (idsOf r) (ids-right a) in
       let at : line .nominal ≡ nominalPlace r = nominal-at a (few-of b) ∙ omega (arith, leading-place (same (nominalOf closed)) list 0 c) in
-      rw (n0, n1, n2, n3, n4, g .rowed .configurations-are, few-is (few-of b), at)
+      rw (
+        number-exact 0 (omega arith) (low .0),
+        number-exact 1 (omega arith) (low .1 .0),
+        number-exact 2 (omega arith) (low .1 .1 .0),
+        number-exact 3 (omega arith) (low .1 .1 .1 .0),
+        number-exact 4 (omega arith) (low .1 .1 .1 .1 .0),
+        g .rowed .configurations-are,
+        few-is (few-of b),
+        at,
+      )
 
   pub leg-is : ranged ≡ true → (getD (line .numbers) 0 0 ≡ r .leg) × (r .leg ≤ mostId)
   leg-is a = (number-exact 0 (omega arith) (leg-in-range a), leg-in-range a)

@@ -1,10 +1,7 @@
 pub mod Form
-pub mod Digits
-pub mod Leaves
 pub mod Words
 pub mod Entry
 pub mod Close
-pub mod RowTests
 pub mod Judge
 pub mod Accept
 pub mod Ended

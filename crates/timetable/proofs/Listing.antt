@@ -1,21 +1,22 @@
 -- Whole entries at once lead where their bytes lead: three numbers, each closed by its byte. Assumes nothing.
 use Prim.Native.Nat.{ℕ, _+_, _-_, _≤_, _<_}
-use mathlib.Core.Path.{_≡_, refl, ap, sym, subst, _∙_}
+use mathlib.Core.Path.{_≡_, refl, ap, sym, _∙_}
 use mathlib.Core.Bool.{Bool, false}
 use mathlib.Core.List.{List}
 use native.Mathlib.Omega.{arith}
 use lib.ListN.{length, getD, set, drop}
 use Rattle.rules.specs.Bytes.{lineFeed, space, underscore}
 use Rattle.rules.specs.Timetable.{timetableHeader}
-use Rattle.timetable.specs.declared.line.Line.{Line}
-use Rattle.timetable.specs.declared.number.Number.the-variants.{Empty}
-use Rattle.timetable.specs.declared.number.Taken.{Taken}
+use Rattle.legs.specs.declared.line.Line.{Line}
+use Rattle.legs.specs.declared.number.Number.the-variants.{Empty}
+use Rattle.legs.specs.declared.number.Taken.{Taken}
 use Rattle.timetable.specs.declared.entries.Cut.{Cut}
 use Rattle.timetable.specs.declared.entries.Cut.the-variants.{At}
 use Rattle.timetable.specs.declared.entries.Spotted.{Spotted}
 use Rattle.timetable.specs.declared.entries.Spotted.the-variants.{Entry}
-use Rattle.timetable.specs.Digits.{takenFrom, isEmpty, valueOf}
-use Rattle.timetable.specs.Held.{lastSlot, entrySlot, separatorOf, lineWith, tables, Entered, Closed}
+use Rattle.legs.specs.Digits.{takenFrom, isEmpty, valueOf}
+use Rattle.legs.specs.Slots.{entrySlot, separatorOf}
+use Rattle.timetable.specs.Held.{lineWith, openEntry, tables, Entered, Closed}
 use Rattle.timetable.specs.Text.{Signed, Leads}
 use Rattle.timetable.specs.Entries.{NumberAt, Cuts, missed, cut, EntryAt, Spots, unspotted, spotted, Begun, Lists}
 use Rattle.timetable.proofs.Close.{close-slot, close-entry}
@@ -76,12 +77,12 @@ module _ {H read : ℕ} {part : List ℕ} {from : ℕ} {line₀ : Line} {legs₀
     (led : Leads H read part from Empty line₀ (tables legs₀ table₀) i Empty line (tables legs table)) (clear : line .fault ≡ 0) (past : length timetableHeader ≤ read + i)
     (slot : line .slot ≡ entrySlot) where
   led-entry : {d t p next : ℕ} (line′ : Line) (table′ : List ℕ) → EntryAt part i d t p next
-      → Entered H (lineWith line lastSlot (set (set (line .numbers) 8 d) 9 t) (line .entries) (line .nominal) (line .wide)) p line′ table table′
+      → Entered H (openEntry line d t) p line′ table table′
       → Leads H read part from Empty line₀ (tables legs₀ table₀) next Empty line′ (tables legs table′)
   led-entry {d} {t} {p} {next} line′ table′ e entered =
       let line₁ : Line = lineWith line (line .slot + 1) (set (line .numbers) (line .slot) d) (line .entries) (line .nominal) (line .wide) in
       let line₂ : Line = lineWith line₁ (line₁ .slot + 1) (set (line₁ .numbers) (line₁ .slot) t) (line .entries) (line .nominal) (line .wide) in
-      let same : line₂ ≡ lineWith line lastSlot (set (set (line .numbers) 8 d) 9 t) (line .entries) (line .nominal) (line .wide) =
+      let same : line₂ ≡ openEntry line d t =
       ap (λ (s : ℕ). lineWith line (s + 1 + 1) (set (set (line .numbers) s d) (s + 1) t) (line .entries) (line .nominal) (line .wide)) slot in
       let first : Closed H line d underscore line₁ table table = close-slot H line d underscore table underscore (ap separatorOf (sym slot)) refl (omega arith) in
       let second : Closed H line₁ t underscore line₂ table table =
@@ -116,7 +117,7 @@ listing H part from table line b s =
 
 module _ {H : ℕ} {part : List ℕ} {from : ℕ} {table₀ : List ℕ} {line₀ : Line} {table : List ℕ} {line : Line} {i : ℕ} (g : Listing H part from table₀ line₀ table line i) where
   pub listing-next : {r : Spotted} {d t p next : ℕ} (line′ : Line) (table′ : List ℕ) → Spots part i r → r ≡ Entry d t p next
-      → Entered H (lineWith line lastSlot (set (set (line .numbers) 8 d) 9 t) (line .entries) (line .nominal) (line .wide)) p line′ table table′
+      → Entered H (openEntry line d t) p line′ table table′
       → length table′ ≡ length table → Listing H part from table₀ line₀ table′ line′ next
   listing-next line′ table′ found e entered l =
       let x = entry-of found e in

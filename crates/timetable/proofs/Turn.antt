@@ -1,7 +1,7 @@
 -- One turn of the loop over rows: the digits that the open number takes, and the byte after them. Assumes nothing.
 use Prim.Native.Nat.{ℕ, zero, suc, _+_, _*_, _-_, _≤_, _<_}
 use mathlib.Core.Path.{_≡_, refl, ap, sym, subst, _∙_}
-use mathlib.Core.Bool.{Bool, true, false, cond}
+use mathlib.Core.Bool.{Bool, true, false, cond, true≢false}
 use mathlib.Core.List.{List, [], _∷_}
 use mathlib.Core.Option.{none, some}
 use native.Mathlib.Omega.{arith}
@@ -14,29 +14,26 @@ use borrow.Author.Tests.{leb-true, ne-eqb}
 use Rattle.rules.specs.Bytes.{isDigit, digitZero, digitNine, lineFeed}
 use Rattle.rules.specs.Timetable.{Row, timetableHeader}
 use Rattle.rules.specs.declared.sizes.Configuration.{Configuration}
+use Rattle.rules.proofs.Truth.{and-second}
 use Rattle.lines.specs.Fold.{fold}
 use Rattle.lines.specs.Number as Row
 use Rattle.lines.specs.Machine.{Progress, inHeader, inRow, stopped}
-use Rattle.timetable.specs.declared.line.Line.{Line}
-use Rattle.timetable.specs.declared.number.Number.{Number}
-use Rattle.timetable.specs.declared.number.Number.the-variants.{Empty, Zero, Digits}
-use Rattle.timetable.specs.declared.number.Taken.{Taken}
-use Rattle.timetable.specs.Digits.{held, numberHeld, taken, digitsFrom, firstFrom, takenFrom}
+use Rattle.legs.specs.declared.line.Line.{Line}
+use Rattle.legs.specs.declared.number.Number.{Number}
+use Rattle.legs.specs.declared.number.Number.the-variants.{Empty, Zero, Digits}
+use Rattle.legs.specs.declared.number.Taken.{Taken}
+use Rattle.legs.specs.Digits.{held, taken, digitsFrom, firstFrom, takenFrom}
+use Rattle.timetable.specs.Held.{numberHeld, Tables, InLine}
 use Rattle.timetable.specs.Open.{Open, partly, openStep, reach}
-use Rattle.timetable.specs.Held.{Tables, InLine}
 use Rattle.timetable.specs.Text.{Holds, drafted, Signed, Leads}
-use Rattle.timetable.proofs.Words.{and-right}
 
 -- ---- a digit
 
 no-line-feed : (b : ℕ) → isDigit b ≡ true → eqb b lineFeed ≡ false
-no-line-feed b d = ne-eqb b lineFeed (λ e. never (sym d ∙ ap isDigit e))
-  where
-    never : true ≡ false → ⊥
-    never z = let k : _≡_ {A = ℕ} 0 1 = cc in omega arith
+no-line-feed b d = ne-eqb b lineFeed (λ e. true≢false (sym d ∙ ap isDigit e))
 
 digit-held : (b : ℕ) → isDigit b ≡ true → held (b - digitZero) ≡ b - digitZero
-digit-held b d = let k : b ≤ digitNine = leb-true b digitNine (and-right (leb digitZero b) (leb b digitNine) d) in omega arith
+digit-held b d = let k : b ≤ digitNine = leb-true b digitNine (and-second (leb digitZero b) (leb b digitNine) d) in omega arith
 
 module _ (H : ℕ) (lent : Tables) where
   abbrev step : Progress Row Open → ℕ → Progress Row Open
@@ -123,37 +120,31 @@ module _ (H : ℕ) (lent : Tables) where
   took Row.zero s i = took-none Row.zero s i (λ h. refl)
   took (Row.digits v) s i = took-digits s v i
 
--- the place after the digits is not before their first, and not past the text
-digits-forward : (s : List ℕ) (v i : ℕ) → (i ≤ digitsFrom v i s .next) × (digitsFrom v i s .next ≤ i + length s)
-digits-forward [] v i = (omega arith, omega arith)
+-- the place after the digits is not before their first
+digits-forward : (s : List ℕ) (v i : ℕ) → i ≤ digitsFrom v i s .next
+digits-forward [] v i = omega arith
 digits-forward (b ∷ s) v i = go (isDigit b) (held (v * 10 + (b - digitZero))) (digits-forward s (held (v * 10 + (b - digitZero))) (i + 1))
   where
-    go : (d : Bool) (x : ℕ) → (i + 1 ≤ digitsFrom x (i + 1) s .next) × (digitsFrom x (i + 1) s .next ≤ i + 1 + length s)
-        → (i ≤ cond d (digitsFrom x (i + 1) s) (taken (Digits v) i) .next) × (cond d (digitsFrom x (i + 1) s) (taken (Digits v) i) .next ≤ i + suc (length s))
-    go true x w = (omega (arith, w .0), omega (arith, w .1))
-    go false x w = (omega arith, omega arith)
+    go : (d : Bool) (x : ℕ) → i + 1 ≤ digitsFrom x (i + 1) s .next → i ≤ cond d (digitsFrom x (i + 1) s) (taken (Digits v) i) .next
+    go true x w = omega arith
+    go false x w = omega arith
 
-first-forward : (s : List ℕ) (i : ℕ) → (i ≤ firstFrom i s .next) × (firstFrom i s .next ≤ i + length s)
-first-forward [] i = (omega arith, omega arith)
+first-forward : (s : List ℕ) (i : ℕ) → i ≤ firstFrom i s .next
+first-forward [] i = omega arith
 first-forward (b ∷ s) i = go (isDigit b) (eqb b digitZero) (b - digitZero) (digits-forward s (b - digitZero) (i + 1))
   where
-    go : (d z : Bool) (x : ℕ) → (i + 1 ≤ digitsFrom x (i + 1) s .next) × (digitsFrom x (i + 1) s .next ≤ i + 1 + length s)
-        → (i ≤ cond d (cond z (taken Zero (i + 1)) (digitsFrom x (i + 1) s)) (taken Empty i) .next)
-        × (cond d (cond z (taken Zero (i + 1)) (digitsFrom x (i + 1) s)) (taken Empty i) .next ≤ i + suc (length s))
-    go true true x w = (omega arith, omega arith)
-    go true false x w = (omega (arith, w .0), omega (arith, w .1))
-    go false z x w = (omega arith, omega arith)
+    go : (d z : Bool) (x : ℕ) → i + 1 ≤ digitsFrom x (i + 1) s .next → i ≤ cond d (cond z (taken Zero (i + 1)) (digitsFrom x (i + 1) s)) (taken Empty i) .next
+    go true true x w = omega arith
+    go true false x w = omega arith
+    go false z x w = omega arith
 
-forward : (m : Number) (s : List ℕ) (i : ℕ) → (i ≤ takenFrom m i s .next) × (takenFrom m i s .next ≤ i + length s)
+forward : (m : Number) (s : List ℕ) (i : ℕ) → i ≤ takenFrom m i s .next
 forward Empty s i = first-forward s i
-forward Zero s i = (omega arith, omega arith)
+forward Zero s i = omega arith
 forward (Digits v) s i = digits-forward s v i
 
 pub taken-forward : (m : Number) (part : List ℕ) (i : ℕ) (t : Taken) → t ≡ takenFrom m i (drop i part) → i ≤ t .next
-taken-forward m part i t e = rw e (forward m (drop i part) i .0)
-
-pub taken-within : (m : Number) (part : List ℕ) (i : ℕ) (t : Taken) → t ≡ takenFrom m i (drop i part) → i < length part → t .next ≤ length part
-taken-within m part i t e h = rw e (let k = forward m (drop i part) i .1 in omega (arith, k, length-drop i part))
+taken-forward m part i t e = rw e (forward m (drop i part) i)
 
 -- ---- from place to place
 

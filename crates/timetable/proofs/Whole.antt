@@ -18,14 +18,14 @@ use Rattle.rules.specs.declared.sizes.Configuration.{Configuration}
 use Rattle.lines.specs.Fold.{fold}
 use Rattle.lines.specs.Machine.{Progress, inHeader, inRow, stopped, onByte, onLine}
 use Rattle.lines.proofs.Machine.{csv-by-bytes}
-use Rattle.timetable.specs.declared.number.Number.the-variants.{Empty}
+use Rattle.legs.specs.declared.number.Number.the-variants.{Empty}
 use Rattle.timetable.specs.declared.reader.Reader.{Reader}
 use Rattle.timetable.specs.declared.reader.Rows.{Rows}
 use Rattle.timetable.specs.declared.reader.Rows.the-variants.{Fault}
-use Rattle.timetable.specs.Digits.{mostHeld}
+use Rattle.legs.specs.Digits.{mostHeld}
 use Rattle.timetable.specs.Open.{Open, start, openStep, openEnd, reach, reachedEnd}
-use Rattle.timetable.specs.Held.{Tables, tables, InLine}
-use Rattle.timetable.specs.RowOver.{draftRoom}
+use Rattle.timetable.specs.Held.{Tables, InLine}
+use Rattle.timetable.specs.Ended.{draftRoom}
 use Rattle.timetable.specs.Promise.{Filled, Tabled, ReadAs}
 use Rattle.timetable.specs.Text.{firstLine, Holds, drafted, Fed, Finished}
 use Rattle.timetable.proofs.Form.{form-run}

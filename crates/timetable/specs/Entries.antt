@@ -6,15 +6,15 @@ use mathlib.Core.List.{List}
 use lib.ListN.{length, getD, drop}
 use Rattle.rules.specs.Bytes.{space, underscore}
 use Rattle.rules.specs.Timetable.{timetableHeader}
-use Rattle.timetable.specs.declared.number.Number.the-variants.{Empty}
-use Rattle.timetable.specs.declared.number.Taken.{Taken}
-use Rattle.timetable.specs.declared.line.Line.{Line}
+use Rattle.legs.specs.declared.number.Number.the-variants.{Empty}
+use Rattle.legs.specs.declared.number.Taken.{Taken}
+use Rattle.legs.specs.declared.line.Line.{Line}
 use Rattle.timetable.specs.declared.entries.Cut.{Cut}
 use Rattle.timetable.specs.declared.entries.Cut.the-variants.{At, Miss}
 use Rattle.timetable.specs.declared.entries.Spotted.{Spotted}
 use Rattle.timetable.specs.declared.entries.Spotted.the-variants.{Entry, Miss as NoEntry}
 use Rattle.timetable.specs.declared.entries.Listed.{Listed}
-use Rattle.timetable.specs.Digits.{takenFrom, isEmpty, valueOf}
+use Rattle.legs.specs.Digits.{takenFrom, isEmpty, valueOf}
 use Rattle.timetable.specs.Held.{tables}
 use Rattle.timetable.specs.Text.{Leads}
 

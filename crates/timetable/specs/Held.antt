@@ -1,34 +1,24 @@
 -- What the reader holds of the rows before and of the open row, and what the tables hold of them.
-use Prim.Native.Nat.{ℕ, suc, _+_, _*_, _/_, _≤_, _<_, min}
+use Prim.Native.Nat.{ℕ, suc, _+_, _*_, _≤_, _<_, min}
 use mathlib.Core.Path.{_≡_}
 use mathlib.Core.Bool.{Bool, true, not, cond}
 use mathlib.Core.List.{List, [], _∷_, _++_, map}
 use mathlib.Core.Option.{Option, none, some}
-use lib.Dec.{ltb}
-use lib.ListN.{length, getD, take}
-use lib.Seq.{sets}
+use lib.ListN.{length, take, set}
 use Rattle.rules.specs.Limits.{mostLegs, mostListed, mostConfigurations, legWidth, configurationWidth}
 use Rattle.rules.specs.Lists.{every, flat, over}
 use Rattle.rules.specs.Answers.{badRow}
-use Rattle.rules.specs.Bytes.{space, underscore}
 use Rattle.rules.specs.Timetable.{Row, configuration, inRange, same, listed, legsOf, legNumbers, configurationsOf, configurationNumbers}
 use Rattle.rules.specs.Verdict.{All}
 use Rattle.rules.specs.declared.sizes.Configuration.{Configuration}
+use Rattle.lines.specs.Number as Row
 use Rattle.lines.specs.Number.{empty, numberStep, numberEnd}
-use Rattle.timetable.specs.declared.line.Line.{Line}
-use Rattle.timetable.specs.Open.{Open, separators, openStep}
-use Rattle.timetable.specs.Digits.{mostHeld, held}
-
--- ---- the slots of a row: eight numbers before the list, then the three of an entry
-
-abbrev pub entrySlot : ℕ
-entrySlot = 8
-
-abbrev pub lastSlot : ℕ
-lastSlot = 10
-
-abbrev pub separatorOf : (slot : ℕ) → ℕ
-separatorOf slot = getD (separators ++ underscore ∷ underscore ∷ []) slot space
+use Rattle.legs.specs.declared.number.Number.{Number}
+use Rattle.legs.specs.declared.number.Number.the-variants.{Empty, Zero, Digits}
+use Rattle.legs.specs.declared.line.Line.{Line}
+use Rattle.legs.specs.Digits.{mostHeld, held}
+use Rattle.legs.specs.Slots.{entrySlot, entryTravelSlot, lastSlot, nominalOf}
+use Rattle.timetable.specs.Open.{Open, openStep}
 
 -- the states of a row: numbers before the list, entries, numbers of the open entry
 pub data Shaped : List ℕ → List Configuration → List ℕ → Type 0 where
@@ -54,26 +44,16 @@ lineWith line slot numbers entries nominal wide =
       above = line .above;
     }
 
-abbrev pub stoppedWith : Line → (number : ℕ) → Line
-stoppedWith line number =
-    record {
-      fault = number;
-      place = line .place;
-      slot = line .slot;
-      numbers = line .numbers;
-      entries = line .entries;
-      nominal = line .nominal;
-      wide = line .wide;
-      rows = line .rows;
-      configurations = line .configurations;
-      above = line .above;
-    }
-
--- an entry at place k of a table, where the table has that place
-abbrev pub storedAt : (width k : ℕ) → List ℕ → List ℕ → List ℕ
-storedAt width k numbers table = cond (ltb k (length table / width)) (sets table (k * width) numbers) table
+-- with the first two numbers of an entry closed
+abbrev pub openEntry : Line → (d t : ℕ) → Line
+openEntry line d t = lineWith line lastSlot (set (set (line .numbers) entrySlot d) entryTravelSlot t) (line .entries) (line .nominal) (line .wide)
 
 -- ---- the open row
+
+abbrev pub numberHeld : Row.Number → Number
+numberHeld Row.empty = Empty
+numberHeld Row.zero = Zero
+numberHeld (Row.digits n) = Digits (held n)
 
 -- how many come before the first that passes a test
 abbrev pub leading : {A : Type 0} → (A → Bool) → List A → ℕ
@@ -82,9 +62,6 @@ leading p (x ∷ xs) = cond (p x) 0 (suc (leading p xs))
 
 abbrev pub heldConfiguration : Configuration → Configuration
 heldConfiguration c = configuration (held (c .departure)) (held (c .travel)) (held (c .profile))
-
-abbrev pub nominalOf : List ℕ → Configuration
-nominalOf closed = configuration (getD closed 5 0) (getD closed 6 0) (getD closed 7 0)
 
 abbrev pub sameHeld : Configuration → Configuration → Bool
 sameHeld a b = same (heldConfiguration a) (heldConfiguration b)

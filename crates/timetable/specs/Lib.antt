@@ -1,7 +1,6 @@
 pub mod Open
-pub mod Digits
 pub mod Held
-pub mod RowOver
+pub mod Ended
 pub mod Promise
 pub mod Text
 pub mod Entries

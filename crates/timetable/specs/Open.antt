@@ -1,17 +1,18 @@
 -- A row of a timetable byte by byte: eight numbers up to the list, then configurations, three numbers each.
 use Prim.Native.Nat.{ℕ}
-use mathlib.Core.Bool.{Bool, true, false, cond}
+use mathlib.Core.Bool.{Bool, cond}
 use mathlib.Core.List.{List, [], _∷_, _++_}
 use mathlib.Core.Option.{Option, none, some}
 use lib.Dec.{ltb, eqb}
 use lib.ListN.{length, getD}
 use Rattle.rules.specs.Lists.{_>>=_}
 use Rattle.rules.specs.Answers.{Reading}
-use Rattle.rules.specs.Bytes.{isDigit, comma, space, underscore}
+use Rattle.rules.specs.Bytes.{isDigit, space, underscore}
 use Rattle.rules.specs.Timetable.{Row, row, configuration, timetableHeader, judgeForm}
 use Rattle.rules.specs.declared.sizes.Configuration.{Configuration}
 use Rattle.lines.specs.Number.{Number, empty, numberStep, numberEnd}
-use Rattle.lines.specs.Machine.{Progress, progress, finished, formRun}
+use Rattle.lines.specs.Machine.{Progress, progress, finished}
+use Rattle.legs.specs.Slots.{separators}
 
 -- the numbers closed before the list; the configurations closed; the numbers closed of the one that is open; the open number
 pub record Open : Type 0 where
@@ -25,10 +26,6 @@ partly closed list entry number = record { closed = closed; list = list; entry =
 
 abbrev pub start : Open
 start = partly [] [] [] empty
-
--- what follows each number before the list: five ids, then the nominal's three numbers
-abbrev pub separators : List ℕ
-separators = comma ∷ comma ∷ comma ∷ comma ∷ comma ∷ underscore ∷ underscore ∷ comma ∷ []
 
 -- a number before the list, of value n, is closed by the byte b
 abbrev pub closeHead : Open → (b n : ℕ) → Option Open

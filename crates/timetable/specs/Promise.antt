@@ -9,8 +9,7 @@ use Rattle.rules.specs.Answers.{Reading, refused, good}
 use Rattle.rules.specs.Timetable.{Row, listed, legsOf, legNumbers, configurationsOf, configurationNumbers, timetableOf}
 use Rattle.timetable.specs.declared.reader.Rows.{Rows}
 use Rattle.timetable.specs.declared.reader.Rows.the-variants.{Fault, Read}
-use Rattle.timetable.specs.Digits.{held}
-use Rattle.timetable.specs.Held.{Tables, tables}
+use Rattle.timetable.specs.Held.{Tables}
 
 -- the rows and configurations, or the first fault
 abbrev pub answerOf : Reading (List Row) → Rows

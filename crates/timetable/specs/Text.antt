@@ -1,27 +1,28 @@
 -- How far a text is read: what the reader and the tables hold there, in the header, in a row, and after a fault.
 use Prim.Native.Nat.{ℕ, suc, _+_, _≤_, _<_}
 use mathlib.Core.Path.{_≡_}
-use mathlib.Core.Bool.{Bool, true, false, not, cond}
+use mathlib.Core.Bool.{Bool, true, false, cond}
 use mathlib.Core.List.{List, [], _∷_}
 use mathlib.Core.Option.{none}
 use lib.Dec.{ltb, eqb}
-use lib.ListN.{length, getD, take, drop}
+use lib.ListN.{length, getD, drop, replicate}
 use Rattle.rules.specs.Limits.{mostText}
 use Rattle.rules.specs.Answers.{right, timetableFile}
 use Rattle.rules.specs.Timetable.{Row, timetableHeader}
 use Rattle.lines.specs.Fold.{fold}
 use Rattle.lines.specs.Number.{numberStep}
 use Rattle.lines.specs.Machine.{Progress, inHeader, inRow, stopped}
-use Rattle.timetable.specs.declared.number.Number.{Number}
-use Rattle.timetable.specs.declared.number.Number.the-variants.{Empty}
-use Rattle.timetable.specs.declared.line.Line.{Line}
+use Rattle.legs.specs.Slots.{lastSlot}
+use Rattle.legs.specs.declared.number.Number.{Number}
+use Rattle.legs.specs.declared.number.Number.the-variants.{Empty}
+use Rattle.legs.specs.declared.line.Line.{Line}
 use Rattle.timetable.specs.declared.reader.Reader.{Reader}
 use Rattle.timetable.specs.declared.reader.Headed.{Headed}
 use Rattle.timetable.specs.declared.reader.Rows.{Rows}
 use Rattle.timetable.specs.Open.{Open, reach, reachedEnd}
-use Rattle.timetable.specs.Digits.{mostHeld, numberHeld}
-use Rattle.timetable.specs.Held.{Tables, tables, InLine}
-use Rattle.timetable.specs.RowOver.{draftRoom}
+use Rattle.legs.specs.Digits.{mostHeld}
+use Rattle.timetable.specs.Held.{numberHeld, Tables, InLine}
+use Rattle.timetable.specs.Ended.{draftRoom}
 use Rattle.timetable.specs.Promise.{answerOf}
 
 -- the line before the first row
@@ -31,7 +32,7 @@ firstLine =
       fault = 0;
       place = length timetableHeader;
       slot = 0;
-      numbers = 0 ∷ 0 ∷ 0 ∷ 0 ∷ 0 ∷ 0 ∷ 0 ∷ 0 ∷ 0 ∷ 0 ∷ [];
+      numbers = replicate lastSlot 0;
       entries = 0;
       nominal = 0;
       wide = false;

@@ -1,13 +1,12 @@
 // Whole entries of a list at once: numbers in registers, the row touched at the spaces alone. What is no whole entry is left for the loop over numbers.
 ghost use mathlib.Core.Path.{_≡_};
-ghost use Prim.Native.Nat.{_≤_};
-ghost use lib.ListN.{length};
-ghost use Rattle.timetable.specs.Held.{entrySlot};
+ghost use Rattle.legs.specs.Slots.{entrySlot};
 ghost use Rattle.timetable.specs.Entries.{Cuts, Spots, Lists, Begun};
-use crate::line;
-use crate::line::Line;
-use crate::number;
-use crate::number::Number;
+use crate::row;
+use legs::line;
+use legs::line::Line;
+use legs::number;
+use legs::number::Number;
 
 // A number and the place behind the byte that closes it.
 pub enum Cut {
@@ -73,7 +72,7 @@ fn run_entries(before: Line, part: &[u8], from: usize, h: u32, configurations: &
         let Spotted::Entry(d, t, p, next) = entry_at(part, i) else {
             return Listed { line, next: i };
         };
-        line = line::listed(line, d, t, p, h, configurations);
+        line = row::listed(line, d, t, p, h, configurations);
         i = next;
     }
     Listed { line, next: i }

@@ -3,15 +3,16 @@ ghost use mathlib.Core.Path.{_≡_};
 ghost use Prim.Native.Nat.{_+_, _≤_};
 ghost use lib.ListN.{length};
 ghost use Rattle.rules.specs.Limits.{mostText};
-ghost use Rattle.timetable.specs.declared.number.Number.the-variants.{Empty};
+ghost use Rattle.legs.specs.declared.number.Number.the-variants.{Empty};
 ghost use Rattle.timetable.specs.Held.{tables};
 ghost use Rattle.timetable.specs.Promise.{ReadAs};
 ghost use Rattle.timetable.specs.Text.{firstLine, headedFrom, Placed, Ran, Fed, Finished};
 use crate::entries;
-use crate::line;
-use crate::line::Line;
-use crate::number;
-use crate::number::Number;
+use crate::row;
+use legs::line;
+use legs::line::Line;
+use legs::number;
+use legs::number::Number;
 use rules::answers::Refusal;
 use rules::sizes::Leg;
 use rules::sizes::Text;
@@ -42,7 +43,7 @@ pub fn first_line() -> Line
         fault: 0,
         place: Leg::HEADER_LENGTH as u32,
         slot: 0,
-        numbers: [0; 10],
+        numbers: [0; line::LAST],
         entries: 0,
         nominal: 0,
         wide: false,
@@ -118,7 +119,7 @@ pub fn run_rows(
             };
         }
         let at = (read + next) as u32;
-        line = line::sign(line, number, part[next], at, h, legs, configurations);
+        line = row::sign(line, number, part[next], at, h, legs, configurations);
         number = Number::Empty;
         if line.fault != 0 {
             return Reader {

@@ -1,6 +1,6 @@
 -- The row's fault is the lowest number whose test fails. Assumes nothing.
 use borrow.Author.Needs.{needs}
-use Rattle.timetable.proofs.RowTests.{rowTests}
+use Rattle.legs.proofs.RowTests.{rowTests}
 use Rattle.solution.proofs.Judging.{room-lacks, none-lacks}
 use Rattle.solution.proofs.after.fault.Statement.{statement}
 use Rattle.solution.proofs.after.fault.Tie as tie

@@ -5,7 +5,7 @@ use lib.ListN.{length, drop}
 use borrow.Author.Needs.{needs}
 use Rattle.rules.specs.Limits.{legWidth}
 use Rattle.rules.specs.Lists.{startsWith}
-use Rattle.timetable.specs.RowOver.{heldIds}
+use Rattle.legs.specs.Slots.{heldIds}
 use Rattle.solution.specs.Against.{sameAt}
 use Rattle.solution.proofs.Differing.{same-next, other-id, all-same}
 use Rattle.solution.proofs.compare.same_ids.Statement.{statement}

@@ -2,7 +2,7 @@
 use Prim.Native.Nat.{_≤_}
 use native.Mathlib.Omega.{arith}
 use borrow.Author.Needs.{needs}
-use Rattle.timetable.specs.Digits.{mostHeld}
+use Rattle.legs.specs.Digits.{mostHeld}
 use Rattle.timetable.proofs.Whole.{read-long, read-fed}
 use Rattle.timetable.proofs.reader.read_timetable.Statement.{statement}
 use Rattle.timetable.proofs.reader.read_timetable.Tie as tie

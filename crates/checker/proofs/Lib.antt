@@ -1,4 +1,3 @@
-pub mod Shown
 pub mod CheckWays
 pub mod ReportWays
 pub mod Unique

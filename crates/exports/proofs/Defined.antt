@@ -3,21 +3,18 @@ use Prim.Native.Nat.{ℕ}
 use mathlib.Core.Path.{_≡_, ap, _∙_}
 use mathlib.Core.List.{List, [], _∷_}
 use lib.IntN.{ℤ}
-use mir.Syntax.{w64}
-use mir.Val.{ofZ}
 use Rattle.rules.specs.Reading.{Texts}
 use Rattle.rules.specs.Entries.{Tables, Reported, checked, reported, merged}
 use Rattle.rules.specs.declared.sizes.Configuration.{Configuration}
-use Rattle.energy.specs.Bits.{bitsOf}
 use Rattle.merging.specs.Promise.{Merges}
 use Rattle.checker.specs.Checks.{Checks}
 use Rattle.checker.specs.Reports.{Reports}
-use Rattle.exports.specs.Numbers.{acceptedNumbers, answerNumbers, energyNumbers, checkNumbers, reportNumbers, mergeNumbers}
+use Rattle.numbers.specs.Numbers.{acceptedNumbers, answerNumbers, checkNumbers, reportNumbers, mergeNumbers}
 use Rattle.exports.specs.Exported.{Exported}
 
 -- what the definition's report is in numbers
 abbrev pub reportedNumbers : Reported → List ℕ
-reportedNumbers r = answerNumbers (acceptedNumbers (energyNumbers (r .figures) (ofZ w64 (r .figures .fluctuation)) (bitsOf (r .desk)))) (r .answer)
+reportedNumbers r = reportNumbers (record { answer = r .answer; figures = r .figures; desk = r .desk })
 
 module _ (H : ℕ) (x : Texts) (s : List ℕ) (t : Tables) (c : List ℕ) where
   pub check-tells : {n : List ℕ} {t′ : Tables} {c′ : List ℕ} → Exported (λ r. Checks H x s t c r t′ c′) checkNumbers n

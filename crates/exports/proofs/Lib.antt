@@ -1,4 +1,2 @@
-pub mod Complement
-pub mod Told
 pub mod Defined
 pub mod Unique

@@ -1,26 +1,12 @@
 // The two merges for C.
-ghost use mathlib.Core.Path.{_≡_};
 ghost use Rattle.rules.specs.Merge.{earlier, later};
 ghost use Rattle.files.specs.Promise.{texts, tables};
 ghost use Rattle.merging.specs.Promise.{Merges};
-ghost use Rattle.exports.specs.Numbers.{mergeNumbers};
+ghost use Rattle.numbers.specs.Numbers.{mergeNumbers};
 ghost use Rattle.exports.specs.Exported.{Exported};
-use crate::numbers;
-use crate::numbers::Code;
-use crate::numbers::Numbers;
-use crate::numbers::UNUSED;
 use checker::merges;
-use checker::merges::Merged;
-
-fn of_merge(merged: Merged) -> Numbers
-    ensures { λ r. ⌜ r ≡ mergeNumbers merged ⌝ }
-{
-    let answer = merged.answer;
-    let mut accepted = UNUSED;
-    accepted[0] = Code::ACCEPTED;
-    accepted[1] = merged.length as u64;
-    numbers::of_answer(answer, accepted)
-}
+use numbers::Numbers;
+use numbers::answers;
 
 #[no_mangle]
 pub extern "C" fn wagontulip_merge_earlier(
@@ -60,7 +46,7 @@ pub extern "C" fn wagontulip_merge_earlier(
         second_choices,
         text,
     );
-    *answer = of_merge(merged);
+    *answer = answers::of_merge(merged);
 }
 
 #[no_mangle]
@@ -101,5 +87,5 @@ pub extern "C" fn wagontulip_merge_later(
         second_choices,
         text,
     );
-    *answer = of_merge(merged);
+    *answer = answers::of_merge(merged);
 }

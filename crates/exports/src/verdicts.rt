@@ -1,24 +1,11 @@
 // `check` for C.
-ghost use mathlib.Core.Path.{_≡_};
 ghost use Rattle.files.specs.Promise.{texts, tables};
 ghost use Rattle.checker.specs.Checks.{Checks};
-ghost use Rattle.exports.specs.Numbers.{checkNumbers};
+ghost use Rattle.numbers.specs.Numbers.{checkNumbers};
 ghost use Rattle.exports.specs.Exported.{Exported};
-use crate::numbers;
-use crate::numbers::Code;
-use crate::numbers::Numbers;
-use crate::numbers::UNUSED;
 use checker::verdicts;
-use checker::verdicts::Checked;
-
-fn of_check(checked: Checked) -> Numbers
-    ensures { λ r. ⌜ r ≡ checkNumbers checked ⌝ }
-{
-    let answer = checked.answer;
-    let mut accepted = UNUSED;
-    accepted[0] = Code::ACCEPTED;
-    numbers::of_answer(answer, accepted)
-}
+use numbers::Numbers;
+use numbers::answers;
 
 #[no_mangle]
 pub extern "C" fn wagontulip_check(
@@ -52,5 +39,5 @@ pub extern "C" fn wagontulip_check(
         tracks,
         choices,
     );
-    *answer = of_check(checked);
+    *answer = answers::of_check(checked);
 }

@@ -21,13 +21,6 @@ pub const TRAVELS: u32 = Configuration::MOST_TRAVEL + 1;
 // Where an entry holds both times of a choice in one number, beside the row's id.
 pub const TIMES_AT: usize = 1;
 
-// The nominal's numbers stand behind a row's ids.
-const DEPARTURE_AT: usize = Leg::IDS + Configuration::DEPARTURE_AT;
-
-const TRAVEL_AT: usize = Leg::IDS + Configuration::TRAVEL_AT;
-
-const PROFILE_AT: usize = Leg::IDS + Configuration::PROFILE_AT;
-
 fn counted_as(line: Line, before: Line) -> Line
     ensures { λ r. ⌜ r ≡ countedAs line before ⌝ }
 {
@@ -95,8 +88,8 @@ pub fn turn(bytes: &[u8], h: u32, before: Line, choices: &mut [u32]) -> Line
         choices,
         line.rows as usize,
         numbers[Leg::ID_AT],
-        numbers[DEPARTURE_AT] * TRAVELS + numbers[TRAVEL_AT],
-        numbers[PROFILE_AT],
+        numbers[line::NOMINAL] * TRAVELS + numbers[line::NOMINAL_TRAVEL],
+        numbers[line::NOMINAL_PROFILE],
     );
     line::next_row(line, 0)
 }

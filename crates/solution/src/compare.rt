@@ -4,7 +4,7 @@ ghost use Prim.Native.Nat.{_*_, _≤_, _<_};
 ghost use lib.ListN.{length};
 ghost use Rattle.rules.specs.Limits.{legWidth};
 ghost use Rattle.solution.specs.Against.{sameAt, InTable, noneDiffers, comparedWith};
-use crate::row::HELD;
+use legs::line::LAST;
 use rules::sizes::Leg;
 
 // Whether a row so far differs from the draft's, and where the first that does starts.
@@ -23,7 +23,7 @@ pub fn none_differs() -> Compared
 }
 
 // A row's five ids are those of a row of the leg table.
-fn same_ids(numbers: [u32; HELD], legs: &[u32], row: usize) -> bool
+fn same_ids(numbers: [u32; LAST], legs: &[u32], row: usize) -> bool
     requires { ⌜ InTable row (now legs) ⌝ }
     ensures { λ r. ⌜ r ≡ sameAt numbers (now (legs .entry)) row ⌝ }
 {
@@ -41,7 +41,7 @@ fn same_ids(numbers: [u32; HELD], legs: &[u32], row: usize) -> bool
 // With one row more: a row past the draft's last differs too.
 pub fn compared_with(
     before: Compared,
-    numbers: [u32; HELD],
+    numbers: [u32; LAST],
     legs: &[u32],
     n: usize,
     row: usize,

@@ -6,12 +6,8 @@ use legs::line::Line;
 use legs::number;
 use legs::number::Number;
 use rules::answers::Refusal;
-use rules::sizes::Configuration;
 use rules::sizes::Leg;
 use timetable::reader;
-
-// The numbers of a row that are held: its ids, its nominal, and those of an entry but the third, at whose place a row may end.
-pub const HELD: usize = Leg::IDS + Configuration::WIDTH + Configuration::PROFILE_AT;
 
 // The line is over: its last number is closed.
 fn close_row(row: Line, unclosed: Number, h: u32, entries: &mut [u32]) -> Line
@@ -20,7 +16,7 @@ fn close_row(row: Line, unclosed: Number, h: u32, entries: &mut [u32]) -> Line
     if number::is_empty(unclosed) {
         return line::stopped(row, Refusal::ROW_FORM);
     }
-    if row.slot != HELD {
+    if row.slot != line::LAST {
         return line::stopped(row, Refusal::ROW_FORM);
     }
     timetable::row::entry(row, number::value(unclosed), h, entries)

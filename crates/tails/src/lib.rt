@@ -11,7 +11,7 @@ use rules::answers::Refusal;
 use solution::reader;
 use solution::reader::Choices;
 
-pub mod refusals; // what is done after a refusal
+pub mod refusals; // what an answer leaves in each lent table
 
 pub enum Chosen {
     Whole,

@@ -1,0 +1,4 @@
+pub mod Front
+pub mod Complement
+pub mod Told
+pub mod Places

@@ -58,7 +58,7 @@ enum {
 enum {
     WAGONTULIP_NUMBER = 1,       /* 1 to 17, by document 01's table */
     WAGONTULIP_REFUSED_FILE = 2, /* 0 none, 1 timetable, 2 profiles, 3 constraints, 4 solution, 5 second solution */
-    WAGONTULIP_PLACE = 3         /* a byte of that file, from 0 */
+    WAGONTULIP_PLACE = 3         /* a byte of that file, from 0, or the file's length, which is no byte of it: then its end comes too soon */
 };
 
 /* The places of an accepted solution's energies. */

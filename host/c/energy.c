@@ -10,6 +10,7 @@
 #include <inttypes.h>
 #include <stdio.h>
 #include <stdlib.h>
+#include <string.h>
 
 enum { COULD_NOT_RUN = 3 };
 
@@ -18,36 +19,32 @@ struct text {
     size_t length;
 };
 
-/* A file, whole. */
-static struct text read_whole(const char *name) {
-    struct text text = {NULL, 0};
-    size_t room = 0;
+/* A file, whole, or one byte more than a text may have: that is refused for its length, whatever follows. */
+static struct text read_text(const char *name, uint64_t most) {
+    struct text text = {malloc(most + 1), 0};
     FILE *file = fopen(name, "rb");
-    if (file == NULL) {
+    if (text.bytes == NULL || file == NULL) {
         perror(name);
         exit(COULD_NOT_RUN);
     }
-    for (;;) {
-        if (text.length == room) {
-            room = room == 0 ? 65536 : 2 * room;
-            text.bytes = realloc(text.bytes, room);
-            if (text.bytes == NULL) {
-                perror(name);
-                exit(COULD_NOT_RUN);
-            }
-        }
-        size_t more = fread(text.bytes + text.length, 1, room - text.length, file);
-        text.length += more;
-        if (more == 0) {
-            break;
-        }
-    }
+    text.length = fread(text.bytes, 1, most + 1, file);
     if (ferror(file)) {
         perror(name);
         exit(COULD_NOT_RUN);
     }
     fclose(file);
     return text;
+}
+
+/* H, a whole number with no needless zero. One past 32 bits is out of range, as the greatest of 32 bits is. */
+static uint32_t horizon(const char *word) {
+    size_t digits = strspn(word, "0123456789");
+    if (digits == 0 || word[digits] != '\0' || (digits > 1 && word[0] == '0')) {
+        fprintf(stderr, "H is no whole number\n");
+        exit(COULD_NOT_RUN);
+    }
+    unsigned long long h = strtoull(word, NULL, 10);
+    return h > UINT32_MAX ? UINT32_MAX : (uint32_t)h;
 }
 
 /* Room for so many 32-bit numbers, at least one. */
@@ -65,15 +62,16 @@ int main(int count, char **words) {
         fprintf(stderr, "energy H TIMETABLE PROFILES CONSTRAINTS SOLUTION\n");
         return COULD_NOT_RUN;
     }
-    uint32_t h = (uint32_t)strtoul(words[1], NULL, 10);
-    struct text timetable = read_whole(words[2]);
-    struct text profiles = read_whole(words[3]);
-    struct text constraints = read_whole(words[4]);
-    struct text solution = read_whole(words[5]);
-
     uint64_t rooms[WAGONTULIP_NUMBERS];
     uint64_t answer[WAGONTULIP_NUMBERS];
     wagontulip_rooms(rooms);
+
+    uint32_t h = horizon(words[1]);
+    uint64_t most = rooms[WAGONTULIP_TEXT_ROOM];
+    struct text timetable = read_text(words[2], most);
+    struct text profiles = read_text(words[3], most);
+    struct text constraints = read_text(words[4], most);
+    struct text solution = read_text(words[5], most);
     wagontulip_energy(h, timetable.bytes, timetable.length, profiles.bytes, profiles.length, constraints.bytes, constraints.length, solution.bytes,
                       solution.length, lend(rooms[WAGONTULIP_LEGS_ROOM]), rooms[WAGONTULIP_LEGS_ROOM], lend(rooms[WAGONTULIP_CONFIGURATIONS_ROOM]),
                       rooms[WAGONTULIP_CONFIGURATIONS_ROOM], lend(rooms[WAGONTULIP_PROFILES_ROOM]), rooms[WAGONTULIP_PROFILES_ROOM],

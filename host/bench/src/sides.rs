@@ -124,7 +124,7 @@ mod proved {
 
     impl Proved {
         pub fn new() -> Proved {
-            Proved(Checker::new())
+            Proved(Checker::new().expect("memory for the tables"))
         }
     }
 

@@ -50,7 +50,7 @@ pub fn run(entry: &str, legs: usize, levels: usize) -> Result<(), String> {
     let plan = Plan::new(Shape::of(Style::Underground, legs));
     let second = plan.solution(&plan.choose(Choices::Moved(1))).into_bytes();
     let instance = Instance::of(Shape::of(Style::Underground, legs));
-    let mut checker = Checker::new();
+    let mut checker = Checker::new().map_err(|none| none.to_string())?;
     let entry = entry.to_string();
     let work = move || {
         let (h, draft) = (instance.h, &instance.timetable);

@@ -1,6 +1,6 @@
 //! The command in the place of `replay`, one process a call: its status, what it prints, and the files that it writes. The lent rooms stay inside it.
 
-use crate::coverage::ROOMS;
+use crate::coverage::{QUARTER, ROOMS};
 use crate::executor::Executor;
 use crate::expected::full_line;
 use crate::lines::{digest, LABEL};
@@ -9,16 +9,10 @@ use std::path::{Path, PathBuf};
 use std::process::Command as Process;
 use std::sync::atomic::{AtomicUsize, Ordering};
 
-/// Its own statuses are 0, 1, 2 for the three answers.
-const COULD_NOT_RUN: i32 = 3;
-
 /// Files of a call, in the order of a case's texts, and of its outputs.
 const TEXTS: [&str; 5] = ["timetable", "profiles", "constraints", "first", "second"];
 const CURVES: &str = "curves";
 const MERGED: [&str; 2] = ["earlier", "later"];
-
-/// A horizon of fewer seconds has no whole quarter, and so no peak has one.
-const QUARTER: u32 = 900;
 
 /// What follows the answer in the command's object is evidence about the files, and is not compared.
 const EVIDENCE: &[u8] = br#", "version": "#;
@@ -83,7 +77,7 @@ impl Drop for Folder {
     }
 }
 
-/// The words of a call. A row is shown as it is; an answer is given as an object.
+/// The words of a call. A row is shown; an answer is given as an object.
 fn words(call: &Call) -> Vec<String> {
     let [timetable, profiles, constraints, first, second] = TEXTS;
     let horizon = format!("--json --horizon {} {timetable} {profiles} {constraints} {first}", call.case.h);
@@ -137,7 +131,8 @@ fn reported(call: &Call) -> String {
     let peaks = format!(r#", "peak_before_kj": {peak_before}, "peak_drawn_kj": {peak_drawn}"#);
     let Desk { before, drawn, lost, peak } = report.desk;
     let doubles = format!(r#", "before_mwh": {before}, "drawn_mwh": {drawn}, "lost_mwh": {lost}, "peak_drawn_mw": {peak}"#);
-    let quarter = |quarter: usize| if call.case.h < QUARTER { String::from("null") } else { quarter.to_string() };
+    let whole = call.case.h as usize >= QUARTER;
+    let quarter = |quarter: usize| if whole { quarter.to_string() } else { String::from("null") };
     let [before, drawn] = report.quarters.map(quarter);
     let quarters = format!(r#", "peak_before_quarter": {before}, "peak_drawn_quarter": {drawn}"#);
     let told = object(call, report.answer, &[kilojoules, peaks, doubles, quarters].concat());
@@ -163,14 +158,18 @@ fn merged(call: &Call) -> String {
     told
 }
 
-/// A file past 8 bits is no word of the command.
 fn shown(call: &Call) -> String {
-    if u8::try_from(call.file).is_err() {
-        return line(COULD_NOT_RUN, b"");
-    }
     let row = match full_line(call).0 {
-        Said::Row(start, _) if start > 0 => call.row_bytes(),
-        _ => b"no row starts there",
+        Said::Row(start, _) if start > 0 => call.row_bytes().iter().map(|byte| printed(*byte)).collect(),
+        _ => String::from("no row starts there"),
     };
-    line(0, &[LABEL.as_bytes(), b"\n", row, b"\n"].concat())
+    line(0, format!("{LABEL}\n{row}\n").as_bytes())
+}
+
+/// A byte of a row on a terminal.
+fn printed(byte: u8) -> String {
+    match byte {
+        32..=126 => char::from(byte).to_string(),
+        other => format!("\\x{other:02x}"),
+    }
 }

@@ -42,7 +42,7 @@ const PEAKED: [(Peaked, &str); 5] = [
 ];
 
 /// The seconds of a quarter.
-const QUARTER: usize = 900;
+pub const QUARTER: usize = 900;
 
 /// The rooms in their order.
 pub const ROOMS: [&str; 10] =

@@ -1,5 +1,6 @@
-//! The command: runs the library on files.
+//! The command: runs the library on files. The status is 0 for every answer, and 1 where there is none.
 
+use independent::numbers::Whole;
 use independent::{check, energy, merge, Answer, Direction, Rooms};
 use std::io::Write;
 use std::process::ExitCode;
@@ -84,12 +85,14 @@ fn line(answer: &Answer) -> Vec<u8> {
     format!("{}\n", answer.line()).into_bytes()
 }
 
-/// H from the command's words.
+/// H from the command's words, a whole number. One past 32 bits is out of range, as the greatest
+/// of 32 bits is.
 fn number(word: &str) -> Result<u32, String> {
-    word.parse().map_err(|_| format!("H is no number of 32 bits: {word}"))
+    let whole = Whole::parse(word.as_bytes()).ok_or_else(|| format!("H is no whole number: {word:?}"))?;
+    Ok(whole.at_most(u32::MAX).unwrap_or(u32::MAX))
 }
 
 /// The contents of the files.
 fn texts(files: &[&str]) -> Result<Vec<Vec<u8>>, String> {
-    files.iter().map(|file| std::fs::read(file).map_err(|e| format!("{file}: {e}"))).collect()
+    files.iter().map(|file| std::fs::read(file).map_err(|e| format!("{file:?}: {e}"))).collect()
 }

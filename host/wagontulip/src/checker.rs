@@ -2,7 +2,7 @@
 
 use crate::answers::{self, Answer, Energies, File, Numbers, Unknown};
 use crate::exports;
-use crate::room::{Room, Rooms};
+use crate::room::{NoRoom, Room, Rooms};
 
 /// The texts that every entry takes beside the solution.
 #[derive(Clone, Copy, Debug)]
@@ -23,12 +23,12 @@ const NO_POWER: i32 = i32::MIN;
 
 impl Checker {
     /// With the room of each table at document 01's sizes.
-    pub fn new() -> Checker {
+    pub fn new() -> Result<Checker, NoRoom> {
         Checker::with_rooms(&Rooms::at_the_limits())
     }
 
-    pub fn with_rooms(rooms: &Rooms) -> Checker {
-        Checker { room: Room::new(rooms) }
+    pub fn with_rooms(rooms: &Rooms) -> Result<Checker, NoRoom> {
+        Ok(Checker { room: Room::new(rooms)? })
     }
 
     pub fn check(&mut self, h: u32, files: &Files, solution: &[u8]) -> Result<Answer<()>, Unknown> {
@@ -58,12 +58,6 @@ impl Checker {
     fn written(&self, numbers: Numbers) -> Result<Answer<&[u8]>, Unknown> {
         let said = answers::merged(numbers, self.room.text.len())?;
         Ok(said.map(|length| &self.room.text[..length]))
-    }
-}
-
-impl Default for Checker {
-    fn default() -> Checker {
-        Checker::new()
     }
 }
 

@@ -10,7 +10,7 @@ mod room;
 
 pub use answers::{Answer, Energies, Figures, File, Kind, Reason, Refusal, Unknown, Violation};
 pub use checker::{row_at, Checker, Files};
-pub use room::{Counts, Room, Rooms, Table, CONFIGURATION, CONSTRAINT, LEG};
+pub use room::{Counts, NoRoom, Room, Rooms, Table, CONFIGURATION, CONSTRAINT, LEG};
 
 /// Printed above every result.
 pub const LABEL: &str = "no violation shown is not no violation";

@@ -13,7 +13,8 @@ fn main() -> ExitCode {
     match ended {
         Ok(status) => ExitCode::from(status),
         Err(CouldNotRun(why)) => {
-            eprintln!("wagontulip: {why}");
+            // Where nothing can be said, the status alone says it.
+            let _ = writeln!(std::io::stderr(), "wagontulip: {why}");
             ExitCode::from(told::COULD_NOT_RUN)
         }
     }

@@ -1,6 +1,8 @@
 //! The room that is lent to the library.
 
 use crate::exports;
+use std::alloc::{alloc_zeroed, Layout};
+use std::fmt;
 use std::ops::{Index, IndexMut};
 
 /// The tables, and the merged text, in the order in which the library counts them.
@@ -82,6 +84,18 @@ impl IndexMut<Table> for Rooms {
     }
 }
 
+/// The machine has not the memory for a table.
+#[derive(Clone, Copy, Debug, PartialEq, Eq)]
+pub struct NoRoom(pub Table);
+
+impl fmt::Display for NoRoom {
+    fn fmt(&self, f: &mut fmt::Formatter) -> fmt::Result {
+        write!(f, "there is no memory for the room of {}", self.0.name())
+    }
+}
+
+impl std::error::Error for NoRoom {}
+
 /// What no field of an entry can be.
 const NO_NUMBER: u32 = u32::MAX;
 
@@ -102,19 +116,19 @@ pub struct Room {
 
 impl Room {
     /// The tables whose entries are counted hold no entry; the others hold zeros, which cost no memory until they are written over.
-    pub fn new(rooms: &Rooms) -> Room {
-        Room {
-            legs: vec![NO_NUMBER; rooms[Table::Legs]],
-            configurations: vec![0; rooms[Table::Configurations]],
-            profiles: vec![NO_NUMBER; rooms[Table::Profiles]],
-            samples: vec![0; rooms[Table::Samples]],
-            constraints: vec![NO_NUMBER; rooms[Table::Constraints]],
-            tracks: vec![NO_NUMBER; rooms[Table::Tracks]],
-            choices: vec![0; rooms[Table::Choices]],
-            second_choices: vec![0; rooms[Table::SecondChoices]],
-            curves: vec![0; rooms[Table::Curves]],
-            text: vec![0; rooms[Table::Text]],
-        }
+    pub fn new(rooms: &Rooms) -> Result<Room, NoRoom> {
+        Ok(Room {
+            legs: no_entries(rooms, Table::Legs)?,
+            configurations: zeros(rooms, Table::Configurations)?,
+            profiles: no_entries(rooms, Table::Profiles)?,
+            samples: zeros(rooms, Table::Samples)?,
+            constraints: no_entries(rooms, Table::Constraints)?,
+            tracks: no_entries(rooms, Table::Tracks)?,
+            choices: zeros(rooms, Table::Choices)?,
+            second_choices: zeros(rooms, Table::SecondChoices)?,
+            curves: zeros(rooms, Table::Curves)?,
+            text: zeros(rooms, Table::Text)?,
+        })
     }
 
     /// How much was read by a call that found the room new.
@@ -129,6 +143,36 @@ impl Room {
             constraints: entries::<CONSTRAINT>(&self.constraints).count(),
             tracks: entries::<TRACK>(&self.tracks).count(),
         }
+    }
+}
+
+fn no_entries(rooms: &Rooms, table: Table) -> Result<Vec<u32>, NoRoom> {
+    let mut numbers = Vec::new();
+    numbers.try_reserve_exact(rooms[table]).map_err(|_| NoRoom(table))?;
+    numbers.resize(rooms[table], NO_NUMBER);
+    Ok(numbers)
+}
+
+/// A number whose bits may all be 0.
+trait Number {}
+impl Number for u8 {}
+impl Number for u32 {}
+impl Number for i32 {}
+
+/// What `vec![0; room]` gives, which would end the process where there is no memory.
+fn zeros<N: Number>(rooms: &Rooms, table: Table) -> Result<Vec<N>, NoRoom> {
+    let room = rooms[table];
+    if room == 0 {
+        return Ok(Vec::new());
+    }
+    let layout = Layout::array::<N>(room).map_err(|_| NoRoom(table))?;
+    // Safe: the layout is not empty, and it is the one of a vector of `room` numbers, each of which is 0.
+    unsafe {
+        let numbers = alloc_zeroed(layout).cast::<N>();
+        if numbers.is_null() {
+            return Err(NoRoom(table));
+        }
+        Ok(Vec::from_raw_parts(numbers, room, room))
     }
 }
 

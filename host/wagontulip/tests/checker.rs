@@ -3,7 +3,7 @@
 mod common;
 
 use common::{constraints, draft, dwell, solution, H, PROFILES};
-use wagontulip::{row_at, Answer, Checker, Energies, File, Files, Kind, Reason, Refusal, Rooms, Table, Violation};
+use wagontulip::{row_at, Answer, Checker, Energies, File, Files, Kind, NoRoom, Reason, Refusal, Rooms, Table, Violation};
 
 struct Texts {
     timetable: String,
@@ -31,7 +31,7 @@ fn small() -> Checker {
     for (table, room) in rooms.into_iter().chain(more) {
         lent[table] = room;
     }
-    let mut checker = Checker::with_rooms(&lent);
+    let mut checker = Checker::with_rooms(&lent).unwrap();
     let room = &mut checker.room;
     for table in [&mut room.legs, &mut room.configurations, &mut room.profiles, &mut room.constraints, &mut room.tracks] {
         table.fill(7);
@@ -61,7 +61,7 @@ fn an_accepted_solution_leaves_its_tables() {
 #[test]
 fn a_violation_is_named() {
     let texts = Texts { constraints: dwell(22), ..Texts::new() };
-    let said = Checker::new().check(H, &texts.files(), solution("15_4_7", "40_3_8").as_bytes());
+    let said = Checker::new().unwrap().check(H, &texts.files(), solution("15_4_7", "40_3_8").as_bytes());
     let violation = Violation { kind: Kind::Dwell, position: 0, inequality: 1, shortfall: 1, file: File::Solution };
     assert_eq!(said, Ok(Answer::Violated(violation)));
 }
@@ -104,7 +104,7 @@ fn energies_come_with_a_curve_for_each_subnet() {
 fn empty_subnets_count() {
     let mut texts = Texts::new();
     texts.constraints = texts.constraints.replace("[1, 2]}]", "[1, 2]}, {\"subnet_id\": 2, \"track_ids\": []}]");
-    let mut checker = Checker::new();
+    let mut checker = Checker::new().unwrap();
     match checker.energy(H, &texts.files(), draft().as_bytes()) {
         Ok(Answer::Accepted(energies)) => assert_eq!(energies.curves.len(), 2),
         other => panic!("{other:?}"),
@@ -147,8 +147,20 @@ fn nothing_can_be_lent() {
         rooms[table] = 0;
     }
     let files = Files { timetable: b"", profiles: b"", constraints: b"" };
-    let said = Checker::with_rooms(&rooms).check(H, &files, b"");
+    let said = Checker::with_rooms(&rooms).unwrap().check(H, &files, b"");
     assert_eq!(said, Ok(Answer::Refused(Refusal { reason: Reason::Header, file: File::Timetable, place: 0 })));
+}
+
+/// More than the machine has, and more than a vector can be.
+#[test]
+fn room_that_cannot_be_had_is_an_error() {
+    for table in Table::ALL {
+        for room in [isize::MAX as usize / 8, isize::MAX as usize, usize::MAX] {
+            let mut rooms = Rooms::at_the_limits();
+            rooms[table] = room;
+            assert_eq!(Checker::with_rooms(&rooms).err(), Some(NoRoom(table)), "{room}");
+        }
+    }
 }
 
 /// The draft drives in the first quarter alone, and the peaks move with it to the third.
@@ -156,7 +168,7 @@ fn nothing_can_be_lent() {
 fn a_peak_has_its_quarter() {
     let quarters = |timetable: &str| {
         let texts = Texts { timetable: timetable.to_string(), constraints: constraints("", "") };
-        match Checker::new().energy(2_700, &texts.files(), timetable.as_bytes()) {
+        match Checker::new().unwrap().energy(2_700, &texts.files(), timetable.as_bytes()) {
             Ok(Answer::Accepted(Energies { figures: f, .. })) => (f.peak_before_kj, f.peak_before_quarter, f.peak_drawn_quarter),
             other => panic!("{other:?}"),
         }

@@ -4,8 +4,10 @@ mod common;
 
 use common::{constraints, draft, dwell, solution, HEADER, PROFILES};
 use std::fs;
+use std::io::Write;
 use std::path::PathBuf;
-use std::process::{Command, Output};
+use std::process::{Command, Output, Stdio};
+use wagontulip::{Rooms, Table};
 
 const LABEL: &str = "no violation shown is not no violation\n";
 
@@ -258,9 +260,9 @@ fn the_evidence_names_every_input() {
 fn energies_and_curves() {
     let folder = Folder::new("energies");
     let said = folder.told("energy --horizon 100 t p c t --curves out", 0);
-    let figures = "before recuperation: 2050 kJ, 0.000569 MWh
-drawn: 2050 kJ, 0.000569 MWh
-lost: 600 kJ, 0.000167 MWh
+    let figures = "before recuperation: 2050 kJ, 0.000 MWh
+drawn: 2050 kJ, 0.000 MWh
+lost: 600 kJ, 0.000 MWh
 fluctuation: 1400 kW
 peak quarter before recuperation: 0 kJ, no whole quarter hour within the horizon
 peak quarter drawn: 0 kJ, no whole quarter hour within the horizon
@@ -268,6 +270,8 @@ curves: out, bytes 215
 answer: accepted
 ";
     assert_eq!(said, format!("{LABEL}{ACCEPTED}{figures}"));
+    let said = folder.told("energy --horizon 900 t p c t", 0);
+    assert!(said.contains("\npeak quarter before recuperation: 2050 kJ, 0.002 MW, 00:00:00 to 00:15:00\n"), "{said}");
     let curves = folder.get("out").unwrap();
     let lines: Vec<&str> = curves.lines().collect();
     assert_eq!((lines.len(), &lines[9..15]), (100, &["0", "500", "1000", "250", "-400", "0"][..]));
@@ -337,6 +341,46 @@ fn what_cannot_be_read_is_not_judged() {
     folder.not_run("judge", "no such command");
 }
 
+/// What follows the length of a text is not kept: a file of any length is refused, and one without end is not judged.
+#[test]
+fn a_file_may_be_longer_than_a_text() {
+    let folder = Folder::new("long");
+    let most = Rooms::at_the_limits()[Table::Text] as u64;
+    let long = fs::File::create(folder.0.join("long")).unwrap();
+    long.set_len(1 << 40).unwrap();
+    let said = folder.told("check --horizon 100 t p c long", 2);
+    assert!(said.starts_with(&format!("{LABEL}refused 2: text too long\nfile: solution (long), place: 0, line: 1\n")), "{said}");
+    long.set_len(most + 100).unwrap();
+    let object = folder.told("check --json --horizon 100 t p c long", 2);
+    assert!(object.contains(r#""answer": "refused", "number": 2, "file": 4, "place": 0, "#), "{object}");
+    let hash = "7ede697aa203b3643d20e4c521c320bfa0e1ae7bfb854aa9e55409c3d0a486c4";
+    assert!(object.contains(&format!(r#"{{"name": "long", "bytes": {}, "sha256": "{hash}"}}"#, most + 100)), "{object}");
+    let why = format!("timetable /dev/zero: has more than {most} bytes and is no regular file");
+    folder.not_run("check --horizon 100 /dev/zero p c a", &why);
+    folder.not_run("row --file 4 --place 145 /dev/zero a", &why);
+}
+
+/// A row is shown whole or not at all.
+#[test]
+fn a_row_may_end_past_the_length_of_a_text() {
+    let folder = Folder::new("long-row");
+    folder.put("long", &format!("{HEADER}1\n2"));
+    fs::OpenOptions::new().write(true).open(folder.0.join("long")).unwrap().set_len(1 << 40).unwrap();
+    let place = HEADER.len();
+    assert_eq!(folder.told(&format!("row --file 4 --place {place} t long"), 0), format!("{LABEL}1\n"));
+    folder.not_run(&format!("row --file 4 --place {} t long", place + 2), "solution (long): the row goes on past the length of a text");
+    assert_eq!(folder.told("row --file 1 --place 145 t long", 0), format!("{LABEL}2,1,2,2,3,40_3_8,40_3_8 45_3_8\n"));
+}
+
+#[test]
+fn a_pipe_is_read_to_its_end() {
+    let folder = Folder::new("pipe");
+    let mut call = folder.call("check --horizon 100 /dev/stdin p c a").stdin(Stdio::piped()).stdout(Stdio::piped()).spawn().unwrap();
+    call.stdin.take().unwrap().write_all(draft().as_bytes()).unwrap();
+    let output = call.wait_with_output().unwrap();
+    assert_eq!(String::from_utf8(output.stdout).unwrap(), format!("{LABEL}{ACCEPTED}answer: accepted\n"));
+}
+
 /// No verdict by the status alone.
 #[test]
 fn a_result_that_cannot_be_printed_is_none() {
@@ -347,10 +391,23 @@ fn a_result_that_cannot_be_printed_is_none() {
 }
 
 #[test]
+fn a_reason_that_cannot_be_printed_is_still_a_status() {
+    let folder = Folder::new("reason");
+    let full = fs::OpenOptions::new().write(true).open("/dev/full").unwrap();
+    let status = folder.call("check --horizon 100 t p c missing").stderr(full).status().unwrap();
+    assert_eq!(status.code(), Some(3));
+}
+
+#[test]
 fn a_row_is_shown() {
     let folder = Folder::new("row");
     assert_eq!(folder.told("row --file 4 --place 145 t b", 0), format!("{LABEL}2,1,2,2,3,45_3_8,40_3_8 45_3_8\n"));
     assert_eq!(folder.told("row --file 1 --place 144 t b", 0), format!("{LABEL}no row starts there\n"));
+    for (file, place) in [("260", "145"), ("4", "4294967441"), ("18446744073709551617", "145"), ("0", "145")] {
+        assert_eq!(folder.told(&format!("row --file {file} --place {place} t b"), 0), format!("{LABEL}no row starts there\n"));
+    }
+    folder.not_run("row --file 04 --place 145 t b", "--file wants a whole number, not 04");
+    folder.not_run("row --file 4 --place 0145 t b", "--place wants a whole number, not 0145");
     let object = folder.told("row --file 1 --place 145 t b --json", 0);
     assert!(object.contains(r#""file": 1, "place": 145, "row": "2,1,2,2,3,40_3_8,40_3_8 45_3_8", "length": 30, "#), "{object}");
 }
@@ -362,10 +419,76 @@ fn less_room_is_refused() {
     assert!(said.contains("\nrefused 16: lent room too short\nfile: timetable (t), place: 145, line: 3\n"), "{said}");
 }
 
+/// Room of any size is lent or said not to be: the command never ends without a status of its own.
+#[test]
+fn more_room_than_the_limits_can_need_is_not_lent() {
+    let folder = Folder::new("more-room");
+    let limits = Rooms::at_the_limits();
+    let one_more = Table::ALL.map(|table| (table, (limits[table] + 1).to_string()));
+    let far_more = ["9999999999999", "18446744073709551615", "18446744073709551616"].map(|room| (Table::Text, String::from(room)));
+    for (table, room) in one_more.into_iter().chain(far_more) {
+        let output = folder.run(&format!("check --horizon 100 t p c a --room {}={room}", table.name()));
+        let said = format!("wagontulip: --room {}: at most {} can be lent\n", table.name(), limits[table]);
+        assert_eq!((output.status.code(), &output.stdout[..], &output.stderr[..]), (Some(3), &b""[..], said.as_bytes()), "{output:?}");
+    }
+    folder.told(&format!("check --horizon 100 t p c a --room text={}", limits[Table::Text]), 0);
+}
+
+/// H past 32 bits is out of range, as any past the limit is; what is no whole number is no horizon.
+#[test]
+fn a_horizon_is_a_whole_number() {
+    let folder = Folder::new("horizon");
+    for horizon in ["176401", "4294967295", "4294967296", "99999999999999999999999999"] {
+        let said = folder.told(&format!("check --horizon {horizon} t p c a"), 2);
+        assert_eq!(said, format!("{LABEL}refused 1: H out of range\nfile: no file, place: 0\nanswer: refused\n"));
+    }
+    for horizon in ["0100", "+100", "-1", "100s", "1e2"] {
+        folder.not_run(&format!("check --horizon {horizon} t p c a"), "--horizon wants a whole number, not ");
+    }
+    for horizon in ["", " 100", "100\n"] {
+        let output = folder.call("check t p c a --horizon").arg(horizon).output().unwrap();
+        assert_eq!((output.status.code(), &output.stdout[..]), (Some(3), &b""[..]), "{output:?}");
+    }
+}
+
 #[test]
 fn any_bytes_are_shown_as_words() {
     let folder = Folder::new("bytes");
-    fs::write(folder.0.join("t"), [HEADER.as_bytes(), b"\xff\x1b\n"].concat()).unwrap();
+    let row = b"\xff\x1b[2J\ranswer: accepted\x7f";
+    fs::write(folder.0.join("t"), [HEADER.as_bytes(), row, b"\n"].concat()).unwrap();
+    let shown = r"\xff\x1b[2J\x0danswer: accepted\x7f";
     let said = folder.told("check --horizon 100 t p c a", 2);
-    assert!(said.contains("\nrow: \\xff\\x1b\n"), "{said}");
+    assert!(said.contains(&format!("\nrow: {shown}\n")), "{said}");
+    let place = HEADER.len();
+    assert_eq!(folder.told(&format!("row --file 1 --place {place} t a"), 0), format!("{LABEL}{shown}\n"));
+    let object = folder.told(&format!("row --json --file 1 --place {place} t a"), 0);
+    let row = format!(r#""row": "\ufffd\u001b[2J\u000danswer: accepted\u007f", "length": {}, "#, row.len());
+    assert!(object.contains(&row), "{object}");
+}
+
+/// Names and words of a call reach the error stream, too.
+#[test]
+fn any_name_is_shown_on_its_line() {
+    let folder = Folder::new("names");
+    let name = "\x1b[2J\r\u{9b}\nanswer: accepted";
+    let shown = r"\x1b[2J\x0d\xc2\x9b\x0aanswer: accepted";
+    let said = |words: &str, last: &str| {
+        let output = folder.call(words).arg(last).output().unwrap();
+        assert_eq!((output.status.code(), &output.stdout[..]), (Some(3), &b""[..]), "{output:?}");
+        String::from_utf8(output.stderr).unwrap()
+    };
+    let option = format!("-{name}");
+    for (words, last) in [
+        ("check --horizon 100 t p c", name),
+        ("check t p c a --horizon", name),
+        ("check --horizon 100 t p c a", &option),
+        ("merge --horizon 100 t p c a b --earlier x --later", &format!("nowhere/{name}")),
+    ] {
+        let said = said(words, last);
+        assert!(said.contains(shown), "{words}: {said}");
+    }
+    fs::write(folder.0.join(name), "").unwrap();
+    let output = folder.call("check --json --horizon 100 t p c").arg(name).output().unwrap();
+    let object = String::from_utf8(output.stdout).unwrap();
+    assert!(object.contains(r#"{"name": "\u001b[2J\u000d\u009b\u000aanswer: accepted", "bytes": 0, "#), "{object}");
 }

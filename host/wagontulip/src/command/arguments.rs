@@ -1,8 +1,9 @@
 //! The words of a call.
 
-use super::CouldNotRun;
+use super::{printable, CouldNotRun};
 use std::ffi::OsString;
 use std::path::PathBuf;
+use std::str::FromStr;
 use wagontulip::Table;
 
 pub const USAGE: &str = "\
@@ -13,8 +14,8 @@ wagontulip row    --file N --place P TIMETABLE SOLUTION
 wagontulip --help | --version
 
   --json          the result as one object, with what a signature needs: version, horizon, and each file's name, bytes and SHA-256
-  --room TABLE=N  lend N numbers (bytes, for text) in the place of the room at the limits; TABLE is legs, configurations, profiles,
-                  samples, constraints, tracks, choices, second_choices, curves or text
+  --room TABLE=N  lend N numbers (bytes, for text) in the place of the room at the limits, which is the most; TABLE is legs,
+                  configurations, profiles, samples, constraints, tracks, choices, second_choices, curves or text
 
 Exit status: 0 accepted, 1 violated, 2 refused, 3 could not run.
 ";
@@ -54,16 +55,19 @@ pub fn read(words: Vec<OsString>) -> Result<Call, CouldNotRun> {
     let verb = words.next().ok_or_else(|| wrong("no command"))?;
     let mut sorted = sorted(words)?;
     let work = match verb.to_str() {
-        Some("check") => Work::Check { horizon: sorted.number("--horizon")?, files: sorted.files()? },
+        Some("check") => Work::Check { horizon: sorted.number("--horizon", u32::MAX)?, files: sorted.files()? },
         Some("energy") => {
             let curves = sorted.option("--curves").map(PathBuf::from);
-            Work::Energy { horizon: sorted.number("--horizon")?, files: sorted.files()?, curves }
+            Work::Energy { horizon: sorted.number("--horizon", u32::MAX)?, files: sorted.files()?, curves }
         }
         Some("merge") => {
             let (earlier, later) = (sorted.output("--earlier")?, sorted.output("--later")?);
-            Work::Merge { horizon: sorted.number("--horizon")?, files: sorted.files()?, earlier, later }
+            Work::Merge { horizon: sorted.number("--horizon", u32::MAX)?, files: sorted.files()?, earlier, later }
         }
-        Some("row") => Work::Row { file: sorted.number("--file")?, place: sorted.number("--place")?, files: sorted.files()? },
+        Some("row") => {
+            let (file, place) = (sorted.number("--file", u8::MAX)?, sorted.number("--place", u32::MAX)?);
+            Work::Row { file, place, files: sorted.files()? }
+        }
         Some("--help") => Work::Help,
         Some("--version") => Work::Version,
         _ => return Err(wrong("no such command")),
@@ -100,7 +104,7 @@ fn sorted(mut words: impl Iterator<Item = OsString>) -> Result<Words, CouldNotRu
         } else if known == "--" {
             sorted.rest.extend(words.by_ref());
         } else if known.starts_with('-') {
-            return Err(wrong(&format!("{known} is no option")));
+            return Err(wrong(&format!("{} is no option", printable(&word))));
         } else {
             sorted.rest.push(word);
         }
@@ -111,12 +115,15 @@ fn sorted(mut words: impl Iterator<Item = OsString>) -> Result<Words, CouldNotRu
 /// TABLE=N.
 fn room(value: &str) -> Option<(Table, usize)> {
     let (table, room) = value.split_once('=')?;
-    Some((Table::named(table)?, digits(room)?.parse().ok()?))
+    Some((Table::named(table)?, whole(room, usize::MAX)?))
 }
 
-/// A sign is no digit: `+5` is no number here.
-fn digits(value: &str) -> Option<&str> {
-    value.bytes().all(|byte| byte.is_ascii_digit()).then_some(value)
+/// "One or more digits with no needless leading zero". A number past its type is the greatest of the type, which is past every limit too: it is no wrong
+/// word, and what it is given to judges it.
+fn whole<N: FromStr>(word: &str, greatest: N) -> Option<N> {
+    let digits = !word.is_empty() && word.bytes().all(|byte| byte.is_ascii_digit());
+    let needless = word.len() > 1 && word.starts_with('0');
+    (digits && !needless).then(|| word.parse().unwrap_or(greatest))
 }
 
 impl Words {
@@ -126,10 +133,10 @@ impl Words {
         Some(self.options.remove(place).1)
     }
 
-    fn number<N: std::str::FromStr>(&mut self, name: &str) -> Result<N, CouldNotRun> {
+    fn number<N: FromStr>(&mut self, name: &str, greatest: N) -> Result<N, CouldNotRun> {
         let value = self.option(name).ok_or_else(|| wrong(&format!("{name} is wanted")))?;
-        let number = value.to_str().and_then(digits).and_then(|value| value.parse().ok());
-        number.ok_or_else(|| wrong(&format!("{name} wants a whole number, not {}", value.to_string_lossy())))
+        let number = value.to_str().and_then(|word| whole(word, greatest));
+        number.ok_or_else(|| wrong(&format!("{name} wants a whole number, not {}", printable(&value))))
     }
 
     fn output(&mut self, name: &str) -> Result<PathBuf, CouldNotRun> {
@@ -169,6 +176,28 @@ mod tests {
     }
 
     #[test]
+    fn a_number_past_its_type_is_the_greatest() {
+        let horizon = |word: &str| match call(&format!("check --room text={word} --horizon {word} t p c s")) {
+            Ok(Call { work: Work::Check { horizon, .. }, rooms, .. }) => (horizon, rooms[0].1),
+            other => panic!("{other:?}"),
+        };
+        assert_eq!(horizon("0"), (0, 0));
+        assert_eq!(horizon("4294967296"), (u32::MAX, 1 << 32));
+        assert_eq!(horizon("99999999999999999999999"), (u32::MAX, usize::MAX));
+        let row = Work::Row { file: u8::MAX, place: u32::MAX, files: paths(["t", "s"]) };
+        assert_eq!(call("row --file 260 --place 4294967441 t s").unwrap().work, row);
+    }
+
+    /// A blank in a word is no digit.
+    #[test]
+    fn a_whole_number_is_digits_alone() {
+        for word in ["", " 100", "100 ", "1 00", "+100", "-0", "1.0", "1_000", "\u{661}"] {
+            assert_eq!(whole(word, u32::MAX), None, "{word}");
+        }
+        assert_eq!((whole("0", u32::MAX), whole("100", u32::MAX)), (Some(0), Some(100)));
+    }
+
+    #[test]
     fn what_is_not_asked_for_rightly_is_not_run() {
         let wrong = [
             "",
@@ -180,14 +209,20 @@ mod tests {
             "check --horizon 1 --horizon 2 t p c s",
             "check --horizon -1 t p c s",
             "check --horizon +1 t p c s",
-            "check --horizon 4294967296 t p c s",
+            "check --horizon 0100 t p c s",
+            "check --horizon 00 t p c s",
+            "check --horizon 1e2 t p c s",
+            "check --horizon 99999999999x t p c s",
+            "row --file 01 --place 0 t s",
+            "row --file 1 --place -1 t s",
+            "check --horizon 1 --room legs= t p c s",
+            "check --horizon 1 --room legs=01 t p c s",
             "check --horizon 1 --curves o t p c s",
             "check --horizon 1 --room legs t p c s",
             "check --horizon 1 --room leg=1 t p c s",
             "check --horizon 1 --room legs=1 --room legs=1 t p c s",
             "check --horizon 1 --verbose t p c s",
             "merge --horizon 1 t p c a b --earlier o",
-            "row --file 256 --place 0 t s",
             "row --file 1 t s",
             "--help me",
         ];

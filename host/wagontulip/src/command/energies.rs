@@ -4,27 +4,41 @@ use super::clock;
 use super::json::Object;
 use wagontulip::Figures;
 
-/// The seconds of a quarter hour.
+/// The seconds of a quarter hour, which document 01 fixes. The library tells a peak by its quarter's number, and not how long a quarter is.
 const QUARTER: u32 = 900;
+
+const KJ_A_MWH: u64 = 3_600_000;
+
+/// The kJ of a quarter hour at one MW.
+const KJ_A_MW: u64 = 1_000 * QUARTER as u64;
+
+/// Kilojoules in a unit of so many, with three decimals. Rounded down: no more is shown than there is, and the exact kJ stand beside it.
+fn decimals(kj: u64, unit: u64) -> String {
+    format!("{}.{:03}", kj / unit, kj % unit * 1_000 / unit)
+}
 
 /// A peak's quarter, where the horizon has one.
 fn within(horizon: u32, quarter: u32) -> Option<u32> {
     (horizon >= QUARTER).then_some(quarter)
 }
 
+/// As the small program of document 01 words them.
 pub fn lines(f: &Figures, horizon: u32) -> String {
-    let peak = |kj: u64, power: &str, quarter: u32| match within(horizon, quarter) {
-        Some(quarter) => format!("{kj} kJ, {power}{} to {}", clock(QUARTER * quarter), clock(QUARTER * (quarter + 1))),
+    let energy = |kj: u64| format!("{kj} kJ, {} MWh", decimals(kj, KJ_A_MWH));
+    let peak = |kj: u64, quarter: u32| match within(horizon, quarter) {
+        Some(quarter) => {
+            let (start, end) = (clock(QUARTER * quarter), clock(QUARTER * (quarter + 1)));
+            format!("{kj} kJ, {} MW, {start} to {end}", decimals(kj, KJ_A_MW))
+        }
         None => format!("{kj} kJ, no whole quarter hour within the horizon"),
     };
-    let power = format!("{:.6} MW, ", f.peak_drawn_mw);
     [
-        format!("before recuperation: {} kJ, {:.6} MWh\n", f.before_kj, f.before_mwh),
-        format!("drawn: {} kJ, {:.6} MWh\n", f.drawn_kj, f.drawn_mwh),
-        format!("lost: {} kJ, {:.6} MWh\n", f.lost_kj, f.lost_mwh),
+        format!("before recuperation: {}\n", energy(f.before_kj)),
+        format!("drawn: {}\n", energy(f.drawn_kj)),
+        format!("lost: {}\n", energy(f.lost_kj)),
         format!("fluctuation: {} kW\n", f.fluctuation_kw),
-        format!("peak quarter before recuperation: {}\n", peak(f.peak_before_kj, "", f.peak_before_quarter)),
-        format!("peak quarter drawn: {}\n", peak(f.peak_drawn_kj, &power, f.peak_drawn_quarter)),
+        format!("peak quarter before recuperation: {}\n", peak(f.peak_before_kj, f.peak_before_quarter)),
+        format!("peak quarter drawn: {}\n", peak(f.peak_drawn_kj, f.peak_drawn_quarter)),
     ]
     .concat()
 }
@@ -78,18 +92,25 @@ mod tests {
 
     #[test]
     fn a_peak_has_its_time() {
-        let said = lines(&FIGURES, 176_400);
-        assert!(said.contains("peak quarter before recuperation: 1234567 kJ, 07:15:00 to 07:30:00\n"), "{said}");
-        assert!(said.ends_with("peak quarter drawn: 900000 kJ, 1.000000 MW, 24:00:00 to 24:15:00\n"), "{said}");
-        let object = values(Object::new(), &FIGURES, 900).close();
+        let said = lines(&FIGURES, 100_000);
+        assert!(said.contains("peak quarter before recuperation: 1234567 kJ, 1.371 MW, 07:15:00 to 07:30:00\n"), "{said}");
+        assert!(said.ends_with("peak quarter drawn: 900000 kJ, 1.000 MW, 24:00:00 to 24:15:00\n"), "{said}");
+        let object = values(Object::new(), &FIGURES, QUARTER).close();
         assert!(object.ends_with(r#""peak_before_quarter": 29, "peak_drawn_quarter": 96}"#), "{object}");
     }
 
     #[test]
+    fn energies_are_rounded_down() {
+        let said: Vec<String> = [0, 2_054, 3_599, 3_600, 3_599_999, 3_600_000, 5_399_999].map(|kj| decimals(kj, KJ_A_MWH)).into();
+        assert_eq!(said, ["0.000", "0.000", "0.000", "0.001", "0.999", "1.000", "1.499"]);
+        assert_eq!(decimals(u64::MAX, KJ_A_MWH), "5124095576030.431");
+    }
+
+    #[test]
     fn a_horizon_short_of_a_quarter_has_no_peak_time() {
-        let said = lines(&FIGURES, 899);
+        let said = lines(&FIGURES, QUARTER - 1);
         assert_eq!(said.matches("no whole quarter hour within the horizon\n").count(), 2, "{said}");
-        let object = values(Object::new(), &FIGURES, 899).close();
+        let object = values(Object::new(), &FIGURES, QUARTER - 1).close();
         assert!(object.ends_with(r#""peak_before_quarter": null, "peak_drawn_quarter": null}"#), "{object}");
     }
 }

@@ -31,16 +31,16 @@ pub fn array(values: impl Iterator<Item = String>) -> String {
     format!("[{}]", values.collect::<Vec<String>>().join(", "))
 }
 
+/// In printable ASCII alone, so that a terminal shows it as it is.
 fn string(text: &str) -> String {
     let mut spelled = String::from("\"");
-    for character in text.chars() {
-        match character {
-            '"' => spelled.push_str("\\\""),
-            '\\' => spelled.push_str("\\\\"),
-            control if u32::from(control) < 32 => {
-                let _ = write!(spelled, "\\u{:04x}", u32::from(control));
+    for unit in text.encode_utf16() {
+        match char::from_u32(unit.into()) {
+            Some(mark @ ('"' | '\\')) => spelled.extend(['\\', mark]),
+            Some(shown @ ' '..='~') => spelled.push(shown),
+            _ => {
+                let _ = write!(spelled, "\\u{unit:04x}");
             }
-            other => spelled.push(other),
         }
     }
     spelled.push('"');
@@ -57,5 +57,10 @@ mod tests {
             Object::new().text("a\"b", "c\\d\ne").value("n", -3).value("l", array([String::from("1"), String::from("2")].into_iter()));
         assert_eq!(object.close(), r#"{"a\"b": "c\\d\u000ae", "n": -3, "l": [1, 2]}"#);
         assert_eq!(Object::new().close(), "{}");
+    }
+
+    #[test]
+    fn a_string_is_printable() {
+        assert_eq!(string(" ~\x1b\x7f\u{9b}é\u{202e}\u{1f687}"), r#"" ~\u001b\u007f\u009b\u00e9\u202e\ud83d\ude87""#);
     }
 }

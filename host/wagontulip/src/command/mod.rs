@@ -12,7 +12,8 @@ mod refusal;
 mod sha256;
 mod violation;
 
-use std::path::Path;
+use std::ffi::OsStr;
+use std::os::unix::ffi::OsStrExt;
 
 /// Why there is no answer: status 3.
 #[derive(Debug, PartialEq, Eq)]
@@ -28,9 +29,14 @@ fn time(seconds: u32) -> String {
     format!("{seconds} s ({})", clock(seconds))
 }
 
-/// A file's name on one line, whatever it is.
-fn printable(path: &Path) -> String {
-    path.to_string_lossy().chars().map(|c| if c.is_control() { c.escape_default().to_string() } else { c.to_string() }).collect()
+/// Printable on any terminal, and on one line: a byte that is not becomes `\xNN`.
+fn escaped(bytes: &[u8]) -> String {
+    bytes.iter().map(|byte| if matches!(byte, b' '..=b'~') { char::from(*byte).to_string() } else { format!("\\x{byte:02x}") }).collect()
+}
+
+/// A file's name, or a word of the call, whatever it is.
+fn printable(name: impl AsRef<OsStr>) -> String {
+    escaped(name.as_ref().as_bytes())
 }
 
 #[cfg(test)]
@@ -45,6 +51,7 @@ mod tests {
 
     #[test]
     fn a_name_stays_on_its_line() {
-        assert_eq!(printable(Path::new("é\nanswer: accepted")), "é\\nanswer: accepted");
+        assert_eq!(printable("a b\nanswer: accepted"), "a b\\x0aanswer: accepted");
+        assert_eq!(printable(OsStr::from_bytes(b"\x1b[2J\x7f\x9b\xff")), "\\x1b[2J\\x7f\\x9b\\xff");
     }
 }

@@ -1,7 +1,8 @@
 //! Output files, written whole or not at all: to a temporary file beside the named one, then renamed.
 
 use super::input::{identity, Input};
-use super::{sha256, CouldNotRun};
+use super::sha256::Hash;
+use super::{printable, CouldNotRun};
 use std::ffi::OsString;
 use std::fs;
 use std::io::{self, Write};
@@ -10,7 +11,7 @@ use std::path::{Path, PathBuf};
 /// Before anything is judged: no output is an input, or another output, under whatever name, and none is a folder or a device.
 pub fn judge(outputs: &[&Path], inputs: &[Input]) -> Result<(), CouldNotRun> {
     for (place, output) in outputs.iter().enumerate() {
-        let wrong = |why: &str| Err(CouldNotRun(format!("output {}: {why}", output.display())));
+        let wrong = |why: &str| Err(CouldNotRun(format!("output {}: {why}", printable(output))));
         if matches!(fs::metadata(output), Ok(data) if !data.is_file()) {
             return wrong("is no regular file");
         }
@@ -55,8 +56,9 @@ impl Output<'_> {
         self.path.to_string_lossy().into_owned()
     }
 
-    pub fn sha256(&self) -> String {
-        sha256::hex(&self.text)
+    /// Bytes and SHA-256 of the text.
+    pub fn evidence(&self) -> (u64, String) {
+        Hash::new().with(&self.text).ended()
     }
 }
 
@@ -82,7 +84,7 @@ pub fn write(outputs: &[Output]) -> Result<(), CouldNotRun> {
 }
 
 fn failed(output: &Output, error: &io::Error) -> CouldNotRun {
-    CouldNotRun(format!("output {}: {error}", output.path.display()))
+    CouldNotRun(format!("output {}: {error}", printable(output.path)))
 }
 
 fn beside(path: &Path) -> PathBuf {

@@ -1,5 +1,6 @@
 //! A refusal in words: the file, the line with its number, the place, and the row.
 
+use super::escaped;
 use super::input::Input;
 use wagontulip::{row_at, File, Refusal, Unknown};
 
@@ -64,11 +65,6 @@ impl Line<'_> {
         let mark = head.len() + before.len();
         format!("{head}{before}{}\n{:mark$}^\n", escaped(&self.bytes[self.byte - 1..last]), "")
     }
-}
-
-/// Printable on any terminal: a byte that is not becomes `\xNN`.
-fn escaped(bytes: &[u8]) -> String {
-    bytes.iter().map(|byte| if matches!(byte, b' '..=b'~') { char::from(*byte).to_string() } else { format!("\\x{byte:02x}") }).collect()
 }
 
 #[cfg(test)]

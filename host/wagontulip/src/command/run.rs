@@ -5,13 +5,19 @@ use super::input::Input;
 use super::json::Object;
 use super::output::{self, Output};
 use super::told::{evidence, Judged, Told, ACCEPTED, VERSION};
-use super::{energies, CouldNotRun};
+use super::{energies, escaped, CouldNotRun};
 use std::path::{Path, PathBuf};
-use wagontulip::{row_at, Answer, Checker, Files, Rooms, Unknown, LABEL, LINKED};
+use wagontulip::{row_at, Answer, Checker, File, Files, NoRoom, Rooms, Table, Unknown, LABEL, LINKED};
 
 impl From<Unknown> for CouldNotRun {
     fn from(unknown: Unknown) -> CouldNotRun {
         CouldNotRun(unknown.to_string())
+    }
+}
+
+impl From<NoRoom> for CouldNotRun {
+    fn from(none: NoRoom) -> CouldNotRun {
+        CouldNotRun(none.to_string())
     }
 }
 
@@ -34,15 +40,21 @@ const ROLES: [&str; 4] = ["timetable", "profiles", "constraints", "solution"];
 const MERGE_ROLES: [&str; 5] = ["timetable", "profiles", "constraints", "first solution", "second solution"];
 
 fn inputs(roles: &[&'static str], files: &[PathBuf]) -> Result<Vec<Input>, CouldNotRun> {
-    roles.iter().zip(files).map(|(role, path)| Input::read(role, path)).collect()
+    let most = Rooms::at_the_limits()[Table::Text];
+    roles.iter().zip(files).map(|(role, path)| Input::read(role, path, most)).collect()
 }
 
-fn checker(call: &Call) -> Checker {
+/// No more is lent than the limits can need.
+fn checker(call: &Call) -> Result<Checker, CouldNotRun> {
     let mut rooms = Rooms::at_the_limits();
     for (table, room) in &call.rooms {
+        let most = rooms[*table];
+        if *room > most {
+            return Err(CouldNotRun(format!("--room {}: at most {most} can be lent", table.name())));
+        }
         rooms[*table] = *room;
     }
-    Checker::with_rooms(&rooms)
+    Ok(Checker::with_rooms(&rooms)?)
 }
 
 fn texts(inputs: &[Input]) -> Files<'_> {
@@ -51,7 +63,7 @@ fn texts(inputs: &[Input]) -> Files<'_> {
 
 fn check(call: &Call, horizon: u32, files: &[PathBuf]) -> Result<Told, CouldNotRun> {
     let inputs = inputs(&ROLES, files)?;
-    let mut checker = checker(call);
+    let mut checker = checker(call)?;
     let answer = checker.check(horizon, &texts(&inputs), &inputs[3].text)?;
     let result = Judged { horizon, answer, inputs: &inputs, outputs: &[], room: &checker.room };
     result.told(call.json, |()| String::new(), |object, ()| object)
@@ -60,7 +72,7 @@ fn check(call: &Call, horizon: u32, files: &[PathBuf]) -> Result<Told, CouldNotR
 fn energy(call: &Call, horizon: u32, files: &[PathBuf], curves: Option<&Path>) -> Result<Told, CouldNotRun> {
     let inputs = inputs(&ROLES, files)?;
     output::judge(&curves.into_iter().collect::<Vec<&Path>>(), &inputs)?;
-    let mut checker = checker(call);
+    let mut checker = checker(call)?;
     let mut outputs = Vec::new();
     let answer = checker.energy(horizon, &texts(&inputs), &inputs[3].text)?.map(|energies| {
         outputs.extend(curves.map(|path| Output { role: "curves", path, text: energies::curve_lines(&energies.curves, horizon) }));
@@ -76,7 +88,7 @@ fn merge(call: &Call, horizon: u32, files: &[PathBuf], [earlier, later]: [&Path;
     let inputs = inputs(&MERGE_ROLES, files)?;
     output::judge(&[earlier, later], &inputs)?;
     let (files, first, second) = (texts(&inputs), &inputs[3].text, &inputs[4].text);
-    let mut checker = checker(call);
+    let mut checker = checker(call)?;
     let mut outputs = Vec::new();
     let mut keep = |role, path, text: &[u8]| outputs.push(Output { role, path, text: text.to_vec() });
     let mut answer = checker.merge_earlier(horizon, &files, first, second)?.map(|text| keep("merged, earlier", earlier, text));
@@ -95,18 +107,15 @@ fn merge(call: &Call, horizon: u32, files: &[PathBuf], [earlier, later]: [&Path;
 fn row(call: &Call, file: u8, place: u32, files: &[PathBuf]) -> Result<Told, CouldNotRun> {
     let inputs = inputs(&["timetable", "solution"], files)?;
     let row = row_at(&inputs[0].text, &inputs[1].text, file, place)?;
+    let input = if file == File::Solution.number() { &inputs[1] } else { &inputs[0] };
+    if !input.is_whole() && row.map_or(false, |row| place as usize + row.len() == input.text.len()) {
+        return Err(CouldNotRun(format!("{}: the row goes on past the length of a text", input.told())));
+    }
     if call.json {
         let object = Object::new().text("label", LABEL).value("file", file).value("place", place);
         let object = object.text("row", &String::from_utf8_lossy(row.unwrap_or_default())).value("length", row.map_or(0, <[u8]>::len));
-        return Ok(plain(&format!("{}\n", evidence(object, &inputs).close())));
+        return Ok(plain(&format!("{}\n", evidence(object, &inputs)?.close())));
     }
-    let mut told = plain(&format!("{LABEL}\n"));
-    match row {
-        Some(row) => {
-            told.text.extend_from_slice(row);
-            told.text.push(b'\n');
-        }
-        None => told.text.extend_from_slice(b"no row starts there\n"),
-    }
-    Ok(told)
+    let shown = row.map_or(String::from("no row starts there"), escaped);
+    Ok(plain(&format!("{LABEL}\n{shown}\n")))
 }

@@ -1,5 +1,7 @@
 //! SHA-256 (FIPS 180-4), so that a signature can name the files that were judged.
 
+use std::io::{self, Write};
+
 /// The first 32 bits of the fractional parts of the square roots of the first eight primes.
 const START: [u32; 8] = [0x6a09e667, 0xbb67ae85, 0x3c6ef372, 0xa54ff53a, 0x510e527f, 0x9b05688c, 0x1f83d9ab, 0x5be0cd19];
 
@@ -18,28 +20,68 @@ const ROUND: [u32; 64] = [
 
 const BLOCK: usize = 64;
 
-/// The hash as 64 hexadecimal digits.
-pub fn hex(text: &[u8]) -> String {
-    let mut state = START;
-    let blocks = text.chunks_exact(BLOCK);
-    let last = blocks.remainder();
-    for block in blocks {
-        compress(&mut state, block);
+/// The hash of a text that comes in parts.
+pub struct Hash {
+    state: [u32; 8],
+    /// Of the text so far, what fills no block.
+    last: Vec<u8>,
+    bytes: u64,
+}
+
+impl Hash {
+    pub fn new() -> Hash {
+        Hash { state: START, last: Vec::new(), bytes: 0 }
     }
-    for block in padded(last, text.len()).chunks_exact(BLOCK) {
-        compress(&mut state, block);
+
+    pub fn with(mut self, part: &[u8]) -> Hash {
+        self.feed(part);
+        self
     }
-    state.iter().map(|word| format!("{word:08x}")).collect()
+
+    fn feed(&mut self, part: &[u8]) {
+        self.bytes += part.len() as u64;
+        let missing = (BLOCK - self.last.len()).min(part.len());
+        let (head, part) = part.split_at(missing);
+        self.last.extend_from_slice(head);
+        if self.last.len() < BLOCK {
+            return;
+        }
+        compress(&mut self.state, &self.last);
+        let blocks = part.chunks_exact(BLOCK);
+        self.last = blocks.remainder().to_vec();
+        for block in blocks {
+            compress(&mut self.state, block);
+        }
+    }
+
+    /// How long the text is, and its hash as 64 hexadecimal digits.
+    pub fn ended(mut self) -> (u64, String) {
+        for block in padded(self.last, self.bytes).chunks_exact(BLOCK) {
+            compress(&mut self.state, block);
+        }
+        (self.bytes, self.state.iter().map(|word| format!("{word:08x}")).collect())
+    }
+}
+
+impl Write for Hash {
+    fn write(&mut self, part: &[u8]) -> io::Result<usize> {
+        self.feed(part);
+        Ok(part.len())
+    }
+
+    fn flush(&mut self) -> io::Result<()> {
+        Ok(())
+    }
 }
 
 /// What is left of the text, a one bit, zeros, and the text's length in bits.
-fn padded(last: &[u8], length: usize) -> Vec<u8> {
-    let mut padded = last.to_vec();
+fn padded(last: Vec<u8>, bytes: u64) -> Vec<u8> {
+    let mut padded = last;
     padded.push(0x80);
     while padded.len() % BLOCK != BLOCK - 8 {
         padded.push(0);
     }
-    padded.extend((length as u64 * 8).to_be_bytes());
+    padded.extend((bytes * 8).to_be_bytes());
     padded
 }
 
@@ -71,7 +113,11 @@ fn compress(state: &mut [u32; 8], block: &[u8]) {
 
 #[cfg(test)]
 mod tests {
-    use super::hex;
+    use super::Hash;
+
+    fn hex(text: &[u8]) -> String {
+        Hash::new().with(text).ended().1
+    }
 
     /// The examples that NIST publishes for FIPS 180-4.
     #[test]
@@ -83,6 +129,18 @@ mod tests {
         let longer = b"abcdefghbcdefghicdefghijdefghijkefghijklfghijklmghijklmnhijklmnoijklmnopjklmnopqklmnopqrlmnopqrsmnopqrstnopqrstu";
         assert_eq!(hex(longer), "cf5b16a778af8380036ce59e7b0492370b249b11e8f07a51afac45037afee9d1");
         assert_eq!(hex(&vec![b'a'; 1_000_000]), "cdc76e5c9914fb9281a1c7e284d73e67f1809a48a497200e046d39ccc7112cd0");
+    }
+
+    /// However a text is cut, its hash is the same.
+    #[test]
+    fn parts_make_the_whole() {
+        let text: Vec<u8> = (0..=255).collect();
+        for first in [0, 1, 63, 64, 65, 128, 200, 256] {
+            for second in [first, (first + 1).min(256), (first + 63).min(256), (first + 64).min(256), 256] {
+                let hash = Hash::new().with(&text[..first]).with(&text[first..second]).with(&text[second..]);
+                assert_eq!(hash.ended(), (256, hex(&text)), "{first} {second}");
+            }
+        }
     }
 
     /// Lengths about the end of a block: the hash of so many bytes `a`.

@@ -36,7 +36,7 @@ impl<T: Copy> Judged<'_, T> {
             Answer::Violated(_) => (VIOLATED, "violated"),
             Answer::Refused(_) => (REFUSED, "refused"),
         };
-        let text = if json { self.object(word, values) } else { format!("{LABEL}\n{}answer: {word}\n", self.words(lines)?) };
+        let text = if json { self.object(word, values)? } else { format!("{LABEL}\n{}answer: {word}\n", self.words(lines)?) };
         Ok(Told { status, text: text.into_bytes() })
     }
 
@@ -56,7 +56,7 @@ impl<T: Copy> Judged<'_, T> {
         &self.inputs[usize::from(violation.file.number()) - 1]
     }
 
-    fn object(&self, word: &str, values: impl Fn(Object, T) -> Object) -> String {
+    fn object(&self, word: &str, values: impl Fn(Object, T) -> Object) -> Result<String, CouldNotRun> {
         let object = Object::new().text("label", LABEL).text("answer", word);
         let object = match self.answer {
             Answer::Accepted(given) => values(object, given),
@@ -70,20 +70,20 @@ impl<T: Copy> Judged<'_, T> {
                 object.value("number", refusal.reason.number()).value("file", refusal.file.number()).value("place", refusal.place)
             }
         };
-        let outputs = array(self.outputs.iter().map(|output| file_object(&output.name(), &output.text, output.sha256())));
-        let object = evidence(object.value("horizon", self.horizon), self.inputs).value("outputs", outputs);
-        format!("{}\n", object.close())
+        let outputs = array(self.outputs.iter().map(|output| file_object(&output.name(), output.evidence())));
+        let object = evidence(object.value("horizon", self.horizon), self.inputs)?.value("outputs", outputs);
+        Ok(format!("{}\n", object.close()))
     }
 }
 
 /// For the release engineer's signature.
-pub fn evidence(object: Object, inputs: &[Input]) -> Object {
-    let inputs = inputs.iter().map(|input| file_object(&input.name(), &input.text, input.sha256()));
-    object.text("version", &format!("{VERSION} ({LINKED})")).value("inputs", array(inputs))
+pub fn evidence(object: Object, inputs: &[Input]) -> Result<Object, CouldNotRun> {
+    let inputs: Result<Vec<String>, CouldNotRun> = inputs.iter().map(|input| Ok(file_object(&input.name(), input.evidence()?))).collect();
+    Ok(object.text("version", &format!("{VERSION} ({LINKED})")).value("inputs", array(inputs?.into_iter())))
 }
 
-fn file_object(name: &str, text: &[u8], sha256: String) -> String {
-    Object::new().text("name", name).value("bytes", text.len()).text("sha256", &sha256).close()
+fn file_object(name: &str, (bytes, sha256): (u64, String)) -> String {
+    Object::new().text("name", name).value("bytes", bytes).text("sha256", &sha256).close()
 }
 
 /// How much was read: an acceptance of nothing must not look like one of something.

@@ -1,0 +1,50 @@
+//! The program on document 01's worked example: a line for each answer, whose status is 0, and no line where there is none.
+
+use std::process::{Command, Output};
+
+fn run(words: &[&str]) -> Output {
+    let examples = concat!(env!("CARGO_MANIFEST_DIR"), "/../../examples");
+    Command::new(env!("CARGO_BIN_EXE_independent")).args(words).current_dir(examples).output().unwrap()
+}
+
+fn check(h: &str, constraints: &str, solution: &str) -> Output {
+    run(&["check", h, "timetable.csv", "profiles.csv", constraints, solution])
+}
+
+#[test]
+fn an_answer_is_a_line() {
+    for (h, constraints, solution, line) in [
+        ("100", "constraints.json", "solution-15-40.csv", "accepted"),
+        ("100", "dwell-22.json", "solution-15-40.csv", "violated 3 0 1 1 4"),
+        ("100", "constraints.json", "half-edited.csv", "refused 4 4 145"),
+        ("0", "constraints.json", "solution-15-40.csv", "refused 1 0 0"),
+        ("4294967296", "constraints.json", "solution-15-40.csv", "refused 1 0 0"),
+        ("99999999999999999999999", "constraints.json", "solution-15-40.csv", "refused 1 0 0"),
+    ] {
+        let output = check(h, constraints, solution);
+        assert_eq!((output.status.code(), output.stdout), (Some(0), format!("{line}\n").into_bytes()), "{h} {constraints} {solution}");
+    }
+}
+
+#[test]
+fn figures_and_texts_follow_the_answer() {
+    let energy = run(&["energy", "100", "timetable.csv", "profiles.csv", "constraints.json", "timetable.csv"]);
+    let figures = "accepted\nbefore 2050 drawn 2050 lost 600 fluctuation 1400 peak_before 0 peak_drawn 0\n";
+    assert_eq!((energy.status.code(), energy.stdout), (Some(0), figures.as_bytes().to_vec()));
+    let solutions = ["solution-15-40.csv", "solution-10-45.csv"];
+    let merged = run(&["merge", "later", "100", "timetable.csv", "profiles.csv", "constraints.json", solutions[0], solutions[1]]);
+    let text = [&b"accepted\n"[..], include_bytes!("../../../examples/solution-15-45.csv")].concat();
+    assert_eq!((merged.status.code(), merged.stdout), (Some(0), text));
+}
+
+#[test]
+fn what_cannot_be_asked_has_no_answer() {
+    for h in ["", "0100", "+100", "-1", " 100", "100s"] {
+        let output = check(h, "constraints.json", "solution-15-40.csv");
+        assert_eq!((output.status.code(), &output.stdout[..]), (Some(1), &b""[..]), "{h}");
+    }
+    for output in [check("100", "missing.json", "solution-15-40.csv"), run(&["check", "100"]), run(&[])] {
+        assert_eq!((output.status.code(), &output.stdout[..]), (Some(1), &b""[..]), "{output:?}");
+        assert!(!output.stderr.is_empty());
+    }
+}

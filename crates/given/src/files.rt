@@ -30,7 +30,7 @@ fn read_named(path: &[u8], room: &mut [u8]) -> Taken
 fn say_name(file: u8, path: &[u8]) {
     say::file(file);
     say::text(b": ");
-    say::text(path);
+    say::bytes(path);
 }
 
 fn too_long() {
@@ -70,9 +70,9 @@ pub fn load(at: usize, file: u8, room: &mut [u8]) -> Loaded
     }
 }
 
-// Whether the file has the whole text now. What stood there before is lost either way.
+// Whether the file is new and has the whole text. One that is there already, as an input may be, is left as it is.
 fn write_named(path: &[u8], text: &[u8]) -> bool {
-    let fd = os::open_overwrite(path);
+    let fd = os::create(path);
     if fd < 0 {
         return false;
     }
@@ -87,13 +87,13 @@ pub fn store(at: usize, text: &[u8]) -> bool {
     let length = os::arg(at, &mut path);
     let whole = write_named(&path[..length], text);
     say::text(b"merged timetable: ");
-    say::text(&path[..length]);
+    say::bytes(&path[..length]);
     if whole {
         say::text(b", bytes ");
         say::number(text.len() as u64);
         say::text(b"\n");
     } else {
-        say::text(b" could not be written\n");
+        say::text(b" could not be written, or is there already\n");
     }
     whole
 }

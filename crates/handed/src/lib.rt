@@ -1,10 +1,9 @@
 // `merge-earlier H TIMETABLE PROFILES CONSTRAINTS FIRST SECOND OUT`, and `merge-later`: the merged timetable goes to OUT and the report to standard output.
 use checker::display;
 use given::files;
-use given::rooms::Room;
+use given::rooms;
 use rules::answers::Answer;
 use rules::answers::File;
-use rules::sizes::Fill;
 use told::say;
 use writer::merge::Direction;
 
@@ -68,14 +67,14 @@ pub fn merge<'a>(
     second: &'a [u8],
     out: usize,
 ) {
-    let mut legs = [Fill::UNSIGNED; Room::LEGS];
-    let mut configurations = [Fill::UNSIGNED; Room::CONFIGURATIONS];
-    let mut profile_table = [Fill::UNSIGNED; Room::PROFILES];
-    let mut samples = [Fill::SIGNED; Room::SAMPLES];
-    let mut constraint_table = [Fill::UNSIGNED; Room::CONSTRAINTS];
-    let mut tracks = [Fill::UNSIGNED; Room::TRACKS];
-    let mut choices = [Fill::UNSIGNED; Room::CHOICES];
-    let mut second_choices = [Fill::UNSIGNED; Room::CHOICES];
+    let mut legs = rooms::table();
+    let mut configurations = rooms::table();
+    let mut profile_table = rooms::table();
+    let mut samples = rooms::samples();
+    let mut constraint_table = rooms::table();
+    let mut tracks = rooms::table();
+    let mut choices = rooms::table();
+    let mut second_choices = rooms::table();
     let mut text = io::large_buffer();
     let merged = merging::merge(
         direction,

@@ -1,9 +1,8 @@
 // `check H TIMETABLE PROFILES CONSTRAINTS SOLUTION`.
 use checker::display;
 use checker::verdicts;
-use given::rooms::Room;
+use given::rooms;
 use rules::answers::Answer;
-use rules::sizes::Fill;
 
 // The row that a refusal shows; empty for another answer.
 pub fn refused_row<'a>(answer: Answer, timetable: &'a [u8], solution: &'a [u8]) -> &'a [u8] {
@@ -22,13 +21,13 @@ pub fn judge<'a>(
     constraints: &[u8],
     solution: &'a [u8],
 ) {
-    let mut legs = [Fill::UNSIGNED; Room::LEGS];
-    let mut configurations = [Fill::UNSIGNED; Room::CONFIGURATIONS];
-    let mut profile_table = [Fill::UNSIGNED; Room::PROFILES];
-    let mut samples = [Fill::SIGNED; Room::SAMPLES];
-    let mut constraint_table = [Fill::UNSIGNED; Room::CONSTRAINTS];
-    let mut tracks = [Fill::UNSIGNED; Room::TRACKS];
-    let mut choices = [Fill::UNSIGNED; Room::CHOICES];
+    let mut legs = rooms::table();
+    let mut configurations = rooms::table();
+    let mut profile_table = rooms::table();
+    let mut samples = rooms::samples();
+    let mut constraint_table = rooms::table();
+    let mut tracks = rooms::table();
+    let mut choices = rooms::table();
     let checked = verdicts::check(
         h,
         timetable,

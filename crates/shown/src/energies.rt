@@ -1,21 +1,9 @@
 // `energy H TIMETABLE PROFILES CONSTRAINTS SOLUTION`.
-ghost use mathlib.Core.Path.{_≡_};
-ghost use lib.ListN.{length};
-ghost use Rattle.shown.specs.Rooms.{mostCurves};
 use crate::checks;
 use checker::energies;
-use given::rooms::Room;
+use given::rooms;
 use rules::answers::Answer;
 use rules::figures::Figures;
-use rules::sizes::Fill;
-
-// The one large array of this program. It comes out of a function that promises its length, since the prover does not write it out then; and it is zeros,
-// which are made in place: any other number would be made beside it, and two such arrays do not stand on a stack of 8 MB.
-fn curves_room() -> [i32; Room::CURVES]
-    ensures { λ r. ⌜ mostCurves ≡ length r ⌝ }
-{
-    [0; Room::CURVES]
-}
 
 // Only an accepted solution has energies.
 fn show_figures(answer: Answer, h: u32, g: Figures) {
@@ -32,14 +20,14 @@ pub fn report<'a>(
     constraints: &[u8],
     solution: &'a [u8],
 ) {
-    let mut legs = [Fill::UNSIGNED; Room::LEGS];
-    let mut configurations = [Fill::UNSIGNED; Room::CONFIGURATIONS];
-    let mut profile_table = [Fill::UNSIGNED; Room::PROFILES];
-    let mut samples = [Fill::SIGNED; Room::SAMPLES];
-    let mut constraint_table = [Fill::UNSIGNED; Room::CONSTRAINTS];
-    let mut tracks = [Fill::UNSIGNED; Room::TRACKS];
-    let mut choices = [Fill::UNSIGNED; Room::CHOICES];
-    let mut curves = curves_room();
+    let mut legs = rooms::table();
+    let mut configurations = rooms::table();
+    let mut profile_table = rooms::table();
+    let mut samples = rooms::samples();
+    let mut constraint_table = rooms::table();
+    let mut tracks = rooms::table();
+    let mut choices = rooms::table();
+    let mut curves = rooms::curves();
     let report = energies::energy(
         h,
         timetable,

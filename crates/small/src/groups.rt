@@ -6,7 +6,7 @@ use given::arguments;
 use given::arguments::Given;
 use given::files;
 use given::files::Loaded;
-use given::rooms::Room;
+use given::rooms;
 use rules::answers::File;
 use shown::checks;
 use shown::energies;
@@ -174,10 +174,10 @@ fn two_ready(d: Draft, first: Loaded, second: Loaded) -> Ready {
 pub fn answer_solution(at: usize, asked: Asked)
     requires { ⌜ at + ofSolution < 2 ^ 64 ⌝ }
 {
-    let mut timetable = [0u8; Room::TEXT];
-    let mut profiles = [0u8; Room::TEXT];
-    let mut constraints = [0u8; Room::TEXT];
-    let mut solution = [0u8; Room::TEXT];
+    let mut timetable = rooms::text();
+    let mut profiles = rooms::text();
+    let mut constraints = rooms::text();
+    let mut solution = rooms::text();
     let d = read_draft(at, &mut timetable, &mut profiles, &mut constraints);
     let s = files::load(at + Words::SOLUTION, File::SOLUTION, &mut solution);
     show_solution(
@@ -194,11 +194,12 @@ pub fn answer_solution(at: usize, asked: Asked)
 pub fn answer_two(at: usize, direction: Direction)
     requires { ⌜ at + ofTwo < 2 ^ 64 ⌝ }
 {
-    let mut timetable = [0u8; Room::TEXT];
-    let mut profiles = [0u8; Room::TEXT];
-    let mut constraints = [0u8; Room::TEXT];
-    let mut first = [0u8; Room::TEXT];
-    let mut second = [0u8; Room::TEXT];
+    let out = at + Words::OUT;
+    let mut timetable = rooms::text();
+    let mut profiles = rooms::text();
+    let mut constraints = rooms::text();
+    let mut first = rooms::text();
+    let mut second = rooms::text();
     let d = read_draft(at, &mut timetable, &mut profiles, &mut constraints);
     let a = files::load(at + Words::SOLUTION, File::SOLUTION, &mut first);
     let b = files::load(
@@ -214,6 +215,6 @@ pub fn answer_two(at: usize, direction: Direction)
         &constraints[..d.constraints],
         &first[..a.length],
         &second[..b.length],
-        at + Words::OUT,
+        out,
     );
 }

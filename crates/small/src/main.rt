@@ -63,6 +63,11 @@ fn answer_group(at: usize, left: usize) -> usize
 
 fn main() {
     let count = os::arg_count();
+    if count <= 1 {
+        say::label();
+        say::no_answer(b"no word is given: check, energy, merge-earlier or merge-later");
+        return;
+    }
     let mut at = 1;
     while at < count {
         let left = count - at;

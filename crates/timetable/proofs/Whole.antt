@@ -7,6 +7,8 @@ use mathlib.Core.Option.{Option, none, some}
 use native.Mathlib.Omega.{arith}
 use lib.Dec.{eqb}
 use lib.ListN.{length}
+use mir.Syntax.{w32}
+use mir.Val.{Fits}
 use borrow.Author.Tests.{lt-leb, eqb-true}
 use Rattle.rules.specs.Limits.{mostText, legWidth, configurationWidth}
 use Rattle.rules.specs.Lists.{flat, over}
@@ -119,10 +121,11 @@ module _ (H : ℕ) (lent : Tables) where
       go false e = tt
 
 -- a whole text is one part, from the start to the end
-pub read-fed : (H : ℕ) (lent now : Tables) (text : List ℕ) (reader reader′ : Reader) (answer : Rows) → H ≤ mostHeld → length text ≤ mostText
+pub read-fed : (H : ℕ) (lent now : Tables) (text : List ℕ) (reader reader′ : Reader) (answer : Rows) → Fits w32 H → length text ≤ mostText
     → (reader .read ≡ 0) × (reader .number ≡ Empty) × (reader .line ≡ firstLine) → Fed H reader text reader′ lent now → Finished reader′ answer
     → ReadAs H text lent answer now
-read-fed H lent now text reader reader′ answer horizon short begun fed finished =
+read-fed H lent now text reader reader′ answer fits short begun fed finished =
+    let horizon : H ≤ mostHeld = omega (arith, fits .fits) in
     let at : Progress Row Open = fold (drafted H lent) (arrived H lent 0) text in
     let first : Holds H lent (reader .read) (reader .number) (reader .line) lent (arrived H lent 0) =
     rw (begun .0, begun .1, begun .2) (arrived-held H lent 0 (omega arith) horizon) in

@@ -7,7 +7,7 @@ fn show_row(row: &[u8]) {
         return;
     }
     say::text(b"row: ");
-    say::text(row);
+    say::bytes(row);
     say::text(b"\n");
 }
 

@@ -4,6 +4,7 @@ use rules::figures::Peak;
 use words::energies;
 use words::names;
 use words::numbers;
+use words::shown;
 use words::times;
 
 // More bytes than any number, time or name has.
@@ -22,6 +23,7 @@ enum Word {
     Formula(u8, u8),
     Meaning(u8),
     File(u8),
+    Byte(u8),
 }
 
 pub fn text(s: &[u8]) {
@@ -40,6 +42,7 @@ fn put(line: &mut [u8], word: Word) -> usize {
         Word::Formula(kind, inequality) => names::put_formula(line, 0, kind, inequality),
         Word::Meaning(number) => names::put_meaning(line, 0, number),
         Word::File(file) => names::put_file(line, 0, file),
+        Word::Byte(b) => shown::put_shown(line, 0, b),
     }
 }
 
@@ -85,6 +88,15 @@ pub fn meaning(number: u8) {
 
 pub fn file(file: u8) {
     show(Word::File(file));
+}
+
+// Bytes of a file, or of a word that a person gave.
+pub fn bytes(s: &[u8]) {
+    let mut i = 0;
+    while i < s.len() {
+        show(Word::Byte(s[i]));
+        i += 1;
+    }
 }
 
 // Above every result.

@@ -26,10 +26,24 @@ fn leg_and_choice(legs: &[u32], choices: &[u32], row: usize) {
     say::text(b"\n");
 }
 
+// The choice as it stands in a file: times alone would not show another profile.
+fn chosen(choices: &[u32], row: usize) {
+    let choice = tables::configuration_at(choices, row);
+    say::text(b"chosen: ");
+    say::number(choice.departure as u64);
+    say::text(b"_");
+    say::number(choice.travel as u64);
+    say::text(b"_");
+    say::number(choice.profile as u64);
+    say::text(b"\n");
+}
+
 fn not_offered(v: Violation, legs: &[u32], choices: &[u32]) {
+    let row = v.position as usize;
     say::text(b", inequality 0");
     in_file(v.file);
-    leg_and_choice(legs, choices, v.position as usize);
+    leg_and_choice(legs, choices, row);
+    chosen(choices, row);
     say::text(b"needed: a configuration that the draft lists for this leg\n");
 }
 

@@ -1,5 +1,6 @@
 pub mod Spellings
 pub mod Texts
+pub mod Showing
 pub mod Decimals
 pub mod Lines
 pub mod Counting

@@ -3,6 +3,7 @@ pub mod Numbers
 pub mod Times
 pub mod Energies
 pub mod Names
+pub mod Shown
 pub mod Counts
 pub mod Needs
 -- Computed.

@@ -1,8 +1,5 @@
 -- A whole text is too long, or one part. Assumes nothing.
-use Prim.Native.Nat.{_≤_}
-use native.Mathlib.Omega.{arith}
 use borrow.Author.Needs.{needs}
-use Rattle.legs.specs.Digits.{mostHeld}
 use Rattle.timetable.proofs.Whole.{read-long, read-fed}
 use Rattle.timetable.proofs.reader.read_timetable.Statement.{statement}
 use Rattle.timetable.proofs.reader.read_timetable.Tie as tie
@@ -26,7 +23,7 @@ same-length-2 : tie.Need-same-length-2
 same-length-2 c = search needs
 
 returns-2 : tie.Need-returns-2
-returns-2 c = let horizon : c .before .before .before .before .before .before .before .before .before .before .before .before .before .args .h ≤ mostHeld = omega arith in search (read-fed, needs)
+returns-2 c = search (read-fed, needs)
 
 pub read-timetable-spec : {M : Type 1} → statement M
 read-timetable-spec =

@@ -1,6 +1,5 @@
 -- The rows of a part: each turn takes a number's digits, the byte after them, and the entries that follow whole. Assumes nothing.
 use Prim.Native.Nat.{_-_}
-use mathlib.Core.Path.{refl}
 use lib.ListN.{length}
 use borrow.Author.Needs.{needs}
 use Rattle.timetable.proofs.Listing.{begun}
@@ -67,16 +66,10 @@ loop-less c = search (less-left, needs)
 
 loop-again : tie.Need-loop-again Inv-loop μ-loop
 loop-again c =
-    goes-on (c .before .before .before .before .before .before .before .before .before .before .before .before .before .before .before .before .before .before .loop .inv) _ _ _ _ _ _ _
-    (c .before .before .before .before .before .before .before .before .before .before .before .before .before .before .before .before .before .loop-test .taken)
-    (c .before .before .before .before .before .before .before .before .before .before .before .before .before .before .before .before .take .ensures)
-    (c .before .before .before .before .before .before .before .before .before .before .before .before .before .before .before .if1 .left)
-    refl
-    (c .before .before .before .before .before .before .before .before .before .before .before .sign .ensures)
-    (search needs)
-    (search needs)
-    (c .before .before .before .run-list .ensures)
-    (search needs)
+    let held = c .before .before .before .before .before .before .before .before .before .before .before .before .before .before .before .before .before .before .loop .inv in
+    let inside = c .before .before .before .before .before .before .before .before .before .before .before .before .before .before .before .before .before .loop-test .taken in
+    let took = c .before .before .before .before .before .before .before .before .before .before .before .before .before .before .before .before .take .ensures in
+    search (goes-on, needs)
 
 add-t31 : tie.Need-add-t31 Inv-loop μ-loop
 add-t31 c = search needs

@@ -160,7 +160,7 @@ fn merged(call: &Call) -> String {
 
 fn shown(call: &Call) -> String {
     let row = match full_line(call).0 {
-        Said::Row(start, _) if start > 0 => call.row_bytes().iter().map(|byte| printed(*byte)).collect(),
+        Said::Row(start, _) if start > 0 => format!("row: {}", call.row_bytes().iter().map(|byte| printed(*byte)).collect::<String>()),
         _ => String::from("no row starts there"),
     };
     line(0, format!("{LABEL}\n{row}\n").as_bytes())

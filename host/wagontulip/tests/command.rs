@@ -367,9 +367,9 @@ fn a_row_may_end_past_the_length_of_a_text() {
     folder.put("long", &format!("{HEADER}1\n2"));
     fs::OpenOptions::new().write(true).open(folder.0.join("long")).unwrap().set_len(1 << 40).unwrap();
     let place = HEADER.len();
-    assert_eq!(folder.told(&format!("row --file 4 --place {place} t long"), 0), format!("{LABEL}1\n"));
+    assert_eq!(folder.told(&format!("row --file 4 --place {place} t long"), 0), format!("{LABEL}row: 1\n"));
     folder.not_run(&format!("row --file 4 --place {} t long", place + 2), "solution (long): the row goes on past the length of a text");
-    assert_eq!(folder.told("row --file 1 --place 145 t long", 0), format!("{LABEL}2,1,2,2,3,40_3_8,40_3_8 45_3_8\n"));
+    assert_eq!(folder.told("row --file 1 --place 145 t long", 0), format!("{LABEL}row: 2,1,2,2,3,40_3_8,40_3_8 45_3_8\n"));
 }
 
 #[test]
@@ -401,7 +401,7 @@ fn a_reason_that_cannot_be_printed_is_still_a_status() {
 #[test]
 fn a_row_is_shown() {
     let folder = Folder::new("row");
-    assert_eq!(folder.told("row --file 4 --place 145 t b", 0), format!("{LABEL}2,1,2,2,3,45_3_8,40_3_8 45_3_8\n"));
+    assert_eq!(folder.told("row --file 4 --place 145 t b", 0), format!("{LABEL}row: 2,1,2,2,3,45_3_8,40_3_8 45_3_8\n"));
     assert_eq!(folder.told("row --file 1 --place 144 t b", 0), format!("{LABEL}no row starts there\n"));
     for (file, place) in [("260", "145"), ("4", "4294967441"), ("18446744073709551617", "145"), ("0", "145")] {
         assert_eq!(folder.told(&format!("row --file {file} --place {place} t b"), 0), format!("{LABEL}no row starts there\n"));
@@ -460,10 +460,19 @@ fn any_bytes_are_shown_as_words() {
     let said = folder.told("check --horizon 100 t p c a", 2);
     assert!(said.contains(&format!("\nrow: {shown}\n")), "{said}");
     let place = HEADER.len();
-    assert_eq!(folder.told(&format!("row --file 1 --place {place} t a"), 0), format!("{LABEL}{shown}\n"));
+    assert_eq!(folder.told(&format!("row --file 1 --place {place} t a"), 0), format!("{LABEL}row: {shown}\n"));
     let object = folder.told(&format!("row --json --file 1 --place {place} t a"), 0);
     let row = format!(r#""row": "\ufffd\u001b[2J\u000danswer: accepted\u007f", "length": {}, "#, row.len());
     assert!(object.contains(&row), "{object}");
+}
+
+/// A row is no line of its own.
+#[test]
+fn a_row_cannot_look_like_an_answer() {
+    let folder = Folder::new("row-answer");
+    folder.put("t", &format!("{HEADER}answer: accepted\n"));
+    let said = folder.told(&format!("row --file 1 --place {} t a", HEADER.len()), 0);
+    assert_eq!(said, format!("{LABEL}row: answer: accepted\n"));
 }
 
 /// Names and words of a call reach the error stream, too.

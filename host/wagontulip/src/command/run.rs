@@ -116,6 +116,6 @@ fn row(call: &Call, file: u8, place: u32, files: &[PathBuf]) -> Result<Told, Cou
         let object = object.text("row", &String::from_utf8_lossy(row.unwrap_or_default())).value("length", row.map_or(0, <[u8]>::len));
         return Ok(plain(&format!("{}\n", evidence(object, &inputs)?.close())));
     }
-    let shown = row.map_or(String::from("no row starts there"), escaped);
+    let shown = row.map_or(String::from("no row starts there"), |row| format!("row: {}", escaped(row)));
     Ok(plain(&format!("{LABEL}\n{shown}\n")))
 }

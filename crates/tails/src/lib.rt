@@ -1,4 +1,4 @@
-// What follows the files, shared by the entries: a solution is chosen from, and judged; after a refusal everything is filled.
+// What follows the files, shared by the entries: a solution is chosen from, and judged; what an answer leaves in each lent table.
 ghost use mathlib.Core.Path.{_≡_};
 ghost use Rattle.files.specs.Promise.{texts, tables};
 ghost use Rattle.tails.specs.Left.{Choosable, Chooses, Ready, Judges};

@@ -13,6 +13,18 @@ abbrev μ-loop : tie.MeasureT-loop
 arg-count-requires : tie.Need-arg-count-requires Inv-loop μ-loop
 arg-count-requires c κs = search needs
 
+label-requires : tie.Need-label-requires Inv-loop μ-loop
+label-requires c κs = search needs
+
+slice-aggregate-no-answer : tie.Need-slice-aggregate-no-answer Inv-loop μ-loop
+slice-aggregate-no-answer c = search needs
+
+no-answer-requires : tie.Need-no-answer-requires Inv-loop μ-loop
+no-answer-requires c κs = search needs
+
+returns : tie.Need-returns Inv-loop μ-loop
+returns c = search needs
+
 loop-holds : tie.Need-loop-holds Inv-loop μ-loop
 loop-holds c = search needs
 
@@ -22,8 +34,8 @@ sub-left c = search needs
 answer-group-requires : tie.Need-answer-group-requires Inv-loop μ-loop
 answer-group-requires c κs = search needs
 
-returns : tie.Need-returns Inv-loop μ-loop
-returns c = search needs
+returns-2 : tie.Need-returns-2 Inv-loop μ-loop
+returns-2 c = search needs
 
 add-at : tie.Need-add-at Inv-loop μ-loop
 add-at c = search needs
@@ -34,8 +46,8 @@ loop-less c = search needs
 loop-again : tie.Need-loop-again Inv-loop μ-loop
 loop-again c = search needs
 
-returns-2 : tie.Need-returns-2 Inv-loop μ-loop
-returns-2 c = search needs
+returns-3 : tie.Need-returns-3 Inv-loop μ-loop
+returns-3 c = search needs
 
 pub main-spec : {M : Type 1} → statement M
 main-spec =
@@ -44,11 +56,15 @@ main-spec =
     Inv-loop
     μ-loop
     arg-count-requires
+    label-requires
+    slice-aggregate-no-answer
+    no-answer-requires
+    returns
     loop-holds
     sub-left
     answer-group-requires
-    returns
+    returns-2
     add-at
     loop-less
     loop-again
-    returns-2)
+    returns-3)

@@ -13,14 +13,13 @@ pub enum Said {
     Merge(Joined),
 }
 
-// The entry that the case names.
-fn named(
+// An entry of one solution: its verdict, or its energies.
+fn of_one(
     case: Case,
     timetable: &[u8],
     profiles: &[u8],
     constraints: &[u8],
     solution: &[u8],
-    second: &[u8],
     legs: &mut [u32],
     configurations: &mut [u32],
     profile_table: &mut [u32],
@@ -46,8 +45,45 @@ fn named(
         );
         return Said::Check(answer);
     }
-    if case.entry == Entry::ENERGY {
-        let reported = judged::energy(
+    let reported = judged::energy(
+        case,
+        timetable,
+        profiles,
+        constraints,
+        solution,
+        legs,
+        configurations,
+        profile_table,
+        samples,
+        constraint_table,
+        tracks,
+        choices,
+    );
+    Said::Energy(reported)
+}
+
+fn takes_one(entry: u32) -> bool {
+    entry == Entry::CHECK || entry == Entry::ENERGY
+}
+
+// The entry that the case names.
+fn named(
+    case: Case,
+    timetable: &[u8],
+    profiles: &[u8],
+    constraints: &[u8],
+    solution: &[u8],
+    second: &[u8],
+    legs: &mut [u32],
+    configurations: &mut [u32],
+    profile_table: &mut [u32],
+    samples: &mut [i32],
+    constraint_table: &mut [u32],
+    tracks: &mut [u32],
+    choices: &mut [u32],
+) -> Said {
+    if takes_one(case.entry) {
+        return of_one(
             case,
             timetable,
             profiles,
@@ -61,7 +97,6 @@ fn named(
             tracks,
             choices,
         );
-        return Said::Energy(reported);
     }
     let merged = joined::merge(
         case,

@@ -108,7 +108,7 @@ pub fn merge(
     );
     Joined {
         merged,
-        second: lent::numbers_digest(l.second, &second_choices),
-        text: lent::bytes_digest(l.text, &text),
+        second: lent::second_digest(l.second, &second_choices),
+        text: lent::text_digest(l.text, &text),
     }
 }

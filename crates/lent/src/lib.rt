@@ -57,26 +57,27 @@ fn unsigned_digest(n: usize, room: &[u32]) -> u64 {
     digest::unsigned(&room[..part]) as u64
 }
 
-fn signed_part_digest(n: usize, room: &[i32]) -> u64 {
+fn signed_digest(n: usize, room: &[i32]) -> u64 {
     let part = signed(n, room);
     digest::signed(&room[..part]) as u64
 }
 
-fn bytes_part_digest(n: usize, room: &[u8]) -> u64 {
+fn bytes_digest(n: usize, room: &[u8]) -> u64 {
     let part = bytes(n, room);
     digest::bytes(&room[..part]) as u64
 }
 
-pub fn numbers_digest(n: u32, room: &[u32; Room::NUMBERS]) -> u64 {
+// That of the room for second choices, for curves, for a merged text.
+pub fn second_digest(n: u32, room: &[u32; Room::NUMBERS]) -> u64 {
     unsigned_digest(n as usize, room)
 }
 
 pub fn curves_digest(n: u32, room: &[i32; Room::CURVES]) -> u64 {
-    signed_part_digest(n as usize, room)
+    signed_digest(n as usize, room)
 }
 
-pub fn bytes_digest(n: u32, room: &[u8; Room::BYTES]) -> u64 {
-    bytes_part_digest(n as usize, room)
+pub fn text_digest(n: u32, room: &[u8; Room::BYTES]) -> u64 {
+    bytes_digest(n as usize, room)
 }
 
 // The same of a room that the entry does not take.

@@ -1,7 +1,8 @@
 // The names of lists, of keys and of connection types, by spelling; 0 where a word is none of them.
 ghost use mathlib.Core.Path.{_≡_};
 ghost use lib.ListN.{drop};
-ghost use Rattle.rules.specs.Kinds.{dwell, turnaround, minHeadway, maxConnection, listNames, keyNames, numberFrom, bitFrom, listNamed, keyNamed, typeNamed};
+ghost use Rattle.rules.specs.Kinds.{dwell, turnaround, minHeadway, maxConnection, listNames, numberFrom, bitFrom, listNamed, keyNamed, typeNamed};
+ghost use Rattle.tokens.specs.Groups.{afterLegs, afterLeast};
 use rules::kinds::Key;
 use rules::kinds::Kind;
 use rules::sizes::Constraint;
@@ -42,7 +43,7 @@ pub fn list_named(word: &[u8]) -> u8
 
 // The keys behind those of the legs and of the least seconds.
 fn later_key(word: &[u8]) -> u16
-    ensures { λ r. ⌜ r ≡ bitFrom maxConnection (drop 6 keyNames) (now (word .entry)) ⌝ }
+    ensures { λ r. ⌜ r ≡ bitFrom maxConnection afterLeast (now (word .entry)) ⌝ }
 {
     if spells(word, b"max_connection_time") {
         return Key::MAX_CONNECTION;
@@ -61,7 +62,7 @@ fn later_key(word: &[u8]) -> u16
 
 // The keys behind those of the two legs: four carry the least seconds.
 fn seconds_key(word: &[u8]) -> u16
-    ensures { λ r. ⌜ r ≡ bitFrom minHeadway (drop 2 keyNames) (now (word .entry)) ⌝ }
+    ensures { λ r. ⌜ r ≡ bitFrom minHeadway afterLegs (now (word .entry)) ⌝ }
 {
     if spells(word, b"min_headway_time") {
         return Key::MIN_HEADWAY;

@@ -4,7 +4,6 @@ ghost use Prim.Native.Nat.{_*_, _≤_, _<_};
 ghost use lib.ListN.{length};
 ghost use Rattle.rules.specs.Energy as energy;
 ghost use Rattle.rules.specs.Limits.{mostSubnets, mostHorizon};
-ghost use Rattle.rules.specs.Lists.{sumOf};
 ghost use Rattle.energy.specs.Parts.{SmallPart, sidesOf};
 
 // The sums of the two sides, in kilojoules.

@@ -1,5 +1,5 @@
 -- What a CSV text that is read without refusal is: its header, then lines ended by LF, each of them right after the rows before it. Assumes nothing.
-use Prim.Native.Nat.{ℕ, zero, suc, _+_, _≤_, _<_}
+use Prim.Native.Nat.{ℕ, _+_, _≤_}
 use mathlib.Core.Path.{_≡_, refl, ap, sym, _∙_}
 use mathlib.Core.Bool.{Bool, true, false, cond}
 use mathlib.Core.List.{List, [], _∷_, _++_, append-nil, append-assoc}
@@ -7,7 +7,7 @@ use mathlib.Core.Option.{some}
 use mathlib.Core.Logic.{_↔_}
 use native.Mathlib.Omega.{arith}
 use lib.Dec.{T, leb, eqb, leb→le, eqb→eq}
-use lib.ListN.{length, getD, take, drop}
+use lib.ListN.{length, drop}
 use lib.Seq.{drop-append-seam}
 use borrow.Author.Tests.{le-leb, eq-eqb}
 use Rattle.rules.specs.Limits.{mostText}
@@ -75,23 +75,6 @@ Reads rowOf before [] [] = Unit {0}
 Reads rowOf before [] (r ∷ rows) = ⊥
 Reads rowOf before (line ∷ lines) [] = ⊥
 Reads rowOf before (line ∷ lines) (r ∷ rows) = (rowOf before line ≡ right r) × Reads rowOf (before ++ r ∷ []) lines rows
-
--- as many lines as rows
-pub reads-length : {A : Type 0} (rowOf : List A → List ℕ → Judged A) (before : List A) (lines : List (List ℕ)) (rows : List A)
-    → Reads rowOf before lines rows → length lines ≡ length rows
-reads-length rowOf before [] [] h = refl
-reads-length rowOf before [] (r ∷ rows) h = absurd h
-reads-length rowOf before (line ∷ lines) [] h = absurd h
-reads-length rowOf before (line ∷ lines) (r ∷ rows) h = ap suc (reads-length rowOf (before ++ r ∷ []) lines rows (h .1))
-
--- line k is right, and is row k, after the k rows before it
-pub reads-at : {A : Type 0} (rowOf : List A → List ℕ → Judged A) (d : A) (before : List A) (lines : List (List ℕ)) (rows : List A) (k : ℕ)
-    → Reads rowOf before lines rows → k < length rows → rowOf (before ++ take k rows) (getD lines k []) ≡ right (getD rows k d)
-reads-at rowOf d before [] [] k h l = absurd (omega arith)
-reads-at rowOf d before [] (r ∷ rows) k h l = absurd h
-reads-at rowOf d before (line ∷ lines) [] k h l = absurd h
-reads-at rowOf d before (line ∷ lines) (r ∷ rows) zero h l = rw append-nil (h .0)
-reads-at rowOf d before (line ∷ lines) (r ∷ rows) (suc k) h l = rw append-assoc at (reads-at rowOf d (before ++ r ∷ []) lines rows k (h .1) (omega arith))
 
 -- a text of a header and of lines that read as rows
 pub record Good {A : Type 0} (rowOf : List A → List ℕ → Judged A) (header s : List ℕ) (rows : List A) : Type 0 where

@@ -17,7 +17,7 @@ use Rattle.rules.specs.Merge.{unequalFrom, chosen, textOf}
 use Rattle.rules.specs.declared.sizes.Configuration.{Configuration}
 use Rattle.rules.specs.declared.answers.Answer.{Answer}
 use Rattle.rules.specs.declared.answers.Answer.the-variants.{Accepted, Violated, Refused}
-use Rattle.laws.specs.Outcomes.{Outcome, SameTables, SameRoom, ChecksOwnInput, SameReport, ReportsOwnInput, SameMerge, MergesOwnInput}
+use Rattle.laws.specs.Outcomes.{Outcome, SameTables, ChecksOwnInput, SameReport, ReportsOwnInput, SameMerge, MergesOwnInput}
 
 pub one-outcome : (a : Answer) → Outcome a
 one-outcome Accepted = inl refl

@@ -2,7 +2,7 @@
 use Prim.Native.Nat.{ℕ, _≤_}
 use native.Mathlib.Omega.{arith}
 use mathlib.Core.List.{List}
-use lib.ListN.{length, take, length-take}
+use lib.ListN.{length, length-take}
 use Rattle.lent.specs.Parts.{Front}
 
 pub front : {A : Type 0} (n : ℕ) (room : List A) → n ≤ length room → Front n room

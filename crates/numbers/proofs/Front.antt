@@ -1,5 +1,5 @@
 -- Numbers that are put in front of 0s one by one: what holds at the loop's head, its start, its step and its end. Assumes nothing.
-use Prim.Native.Nat.{ℕ, suc, _+_, _≤_, _<_, zero-le}
+use Prim.Native.Nat.{ℕ, _+_, _≤_, _<_, zero-le}
 use native.Mathlib.Omega.{arith}
 use native.Mathlib.Numerals.{add-one, add-one-le}
 use mathlib.Core.Path.{_≡_, refl, ap, _∙_}

@@ -71,10 +71,6 @@ pub every-all : {A : Type 0} (p : A → Bool) (s : List A) → T (every p s) →
 every-all p [] h = tt
 every-all p (x ∷ s) h = let k : T (p x) × T (every p s) = and-both (p x) (every p s) h in (k .0, every-all p s (k .1))
 
-pub all-every : {A : Type 0} (p : A → Bool) (s : List A) → All (λ x. T (p x)) s → T (every p s)
-all-every p [] h = tt
-all-every p (x ∷ s) h = both-and (p x) (every p s) (h .0) (all-every p s (h .1))
-
 -- ---- what may be missing
 
 -- nothing is not something

@@ -1,7 +1,7 @@
 // The five kinds of constraint with the keys that each must carry, in one table (document 01, "constraints.json").
 ghost use mathlib.Core.Path.{_≡_};
 ghost use Prim.Native.Nat.{_<_};
-ghost use lib.ListN.{getD};
+ghost use lib.ListN.{length, getD};
 ghost use Rattle.rules.specs.Kinds.{kindTable, noKind};
 
 // The keys of records, one bit each, so that a set of keys is one number.
@@ -132,7 +132,7 @@ const KINDS: [Kind; Kind::COUNT] = [
 
 // Row `place` of the table: kind 1 stands at place 0.
 pub fn kind_at(place: usize) -> Kind
-    requires { ⌜ place < 5 ⌝ }
+    requires { ⌜ place < length kindTable ⌝ }
     ensures { λ r. ⌜ r ≡ getD kindTable place noKind ⌝ }
 {
     KINDS[place]

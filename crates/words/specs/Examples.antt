@@ -1,7 +1,7 @@
 -- Texts as they come out.
 use Prim.Native.Nat.{_*_, _-_}
 use mathlib.Core.Path.{_≡_, refl}
-use mathlib.Core.List.{List, [], _∷_, map}
+use mathlib.Core.List.{[], _∷_, map}
 use Rattle.rules.specs.Bytes.{bytes}
 use Rattle.words.specs.Shown.{shown}
 use Rattle.words.specs.Times.{hour, clockOf, timeOf, quarterOf}

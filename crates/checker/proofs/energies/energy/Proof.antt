@@ -1,7 +1,6 @@
 -- `checker::energies::energy` meets its contract: what was read and laid stands; a violation fills the curves, and a refusal everything. Assumes nothing.
 use mathlib.Core.Path.{_∙_}
 use borrow.Author.Needs.{needs}
-use Rattle.files.specs.Promise.{texts, tables}
 use Rattle.checker.proofs.ReportWays.{report-ends}
 use Rattle.checker.proofs.energies.energy.Statement.{statement}
 use Rattle.checker.proofs.energies.energy.Tie as tie

@@ -11,8 +11,8 @@ use Rattle.rules.specs.Verdict.{Verdict, accepted, violated, answerOf}
 use Rattle.rules.specs.Entries.{Tables, Whole, roomsOf, filled, filledTables, verdictOf, allRead, checked}
 use Rattle.tails.specs.declared.Judged.{Judged}
 use Rattle.tails.specs.Promise.{ReadAndJudged}
-use Rattle.tails.specs.After.{tablesAfter, choicesAfter}
-use Rattle.tails.proofs.Filled.{SameLengths, filled-alike, tables-filled-alike}
+use Rattle.emptied.specs.After.{tablesAfter, choicesAfter}
+use Rattle.emptied.proofs.Filled.{SameLengths, filled-alike, tables-filled-alike}
 use Rattle.checker.specs.Checks.{Checks}
 
 -- a verdict is no refusal

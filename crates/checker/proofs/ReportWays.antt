@@ -18,8 +18,8 @@ use Rattle.laws.specs.Demands.{IsRefused, EmptiedReport}
 use Rattle.laws.proofs.DemandOne.{report-demand-one}
 use Rattle.reports.specs.declared.Report.{Report}
 use Rattle.reports.specs.Promise.{ReportRead}
-use Rattle.tails.specs.After.{tablesAfter, choicesAfter, curvesAfter}
-use Rattle.tails.proofs.Filled.{SameLengths, tables-after, choices-after, curves-after}
+use Rattle.emptied.specs.After.{tablesAfter, choicesAfter, curvesAfter}
+use Rattle.emptied.proofs.Filled.{SameLengths, tables-after, choices-after, curves-after}
 use Rattle.checker.specs.Reports.{Reports}
 
 is-refused : (a : Answer) → isRefusal a ≡ true → IsRefused a

@@ -1,8 +1,10 @@
 // All four files are read, the solution is judged, and its energies are worked out where it is accepted.
-ghost use Rattle.files.specs.Promise.{texts, tables};
+ghost use Rattle.emptied.specs.Lent.{tables};
+ghost use Rattle.files.specs.Promise.{texts};
 ghost use Rattle.checker.specs.Reports.{Reports};
+use emptied::acceptance;
+use emptied::refusals;
 use reports::Report;
-use tails::refusals;
 
 pub fn energy(
     h: u32,
@@ -47,6 +49,6 @@ pub fn energy(
         tracks,
     );
     refusals::empty_choices(answer, choices);
-    refusals::empty_curves(answer, curves);
+    acceptance::empty_curves(answer, curves);
     report
 }

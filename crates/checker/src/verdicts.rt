@@ -1,8 +1,9 @@
 // All four files are read, and the solution is judged.
-ghost use Rattle.files.specs.Promise.{texts, tables};
+ghost use Rattle.emptied.specs.Lent.{tables};
+ghost use Rattle.files.specs.Promise.{texts};
 ghost use Rattle.checker.specs.Checks.{Checks};
+use emptied::refusals;
 use rules::answers::Answer;
-use tails::refusals;
 
 pub struct Checked {
     pub answer: Answer,

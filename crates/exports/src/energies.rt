@@ -1,5 +1,6 @@
 // `energy` for C.
-ghost use Rattle.files.specs.Promise.{texts, tables};
+ghost use Rattle.emptied.specs.Lent.{tables};
+ghost use Rattle.files.specs.Promise.{texts};
 ghost use Rattle.checker.specs.Reports.{Reports};
 ghost use Rattle.numbers.specs.Numbers.{reportNumbers};
 ghost use Rattle.exports.specs.Exported.{Exported};

@@ -17,10 +17,11 @@ use Rattle.laws.proofs.GoodText.{never-good}
 use Rattle.laws.proofs.GoodRows.{timetable-good}
 use Rattle.laws.proofs.GoodFiles.{good-first}
 use Rattle.laws.proofs.LawfulRows.{legs-most}
+use Rattle.emptied.specs.Lent.{tables}
 use Rattle.files.specs.declared.Counts.{Counts}
 use Rattle.files.specs.declared.Filed.{Filed}
 use Rattle.files.specs.declared.Filed.the-variants.{Whole, Refused}
-use Rattle.files.specs.Promise.{texts, tables, filedBy, filedOf, FilesRead}
+use Rattle.files.specs.Promise.{texts, filedBy, filedOf, FilesRead}
 use Rattle.files.specs.Parts.{draftOf, powersOf, rulesOf, withRows, withCurves, withDocument, Draft, Lists, Drafted, Listed, Part, DraftRead, PowersRead, RulesRead}
 use Rattle.files.proofs.Parted.{WasGood, whole-good, refused-refused}
 use Rattle.files.proofs.Fronts.{front-held}

@@ -3,7 +3,6 @@ use Prim.Native.Nat.{ℕ}
 use mathlib.Core.Path.{_≡_}
 use mathlib.Core.List.{List}
 use lib.ListN.{length}
-use lib.IntN.{ℤ}
 use Rattle.rules.specs.Answers.{Reading, refused, good}
 use Rattle.rules.specs.Timetable.{listed}
 use Rattle.rules.specs.Profiles.{sampled}
@@ -15,10 +14,6 @@ use Rattle.files.specs.declared.Filed.the-variants.{Whole, Refused}
 
 abbrev pub texts : (timetable profiles constraints : List ℕ) → Texts
 texts timetable profiles constraints = record { timetable = timetable; profiles = profiles; constraints = constraints }
-
-abbrev pub tables : (legs configurations profiles : List ℕ) (samples : List ℤ) (constraints tracks : List ℕ) → Tables
-tables legs configurations profiles samples constraints tracks =
-    record { legs = legs; configurations = configurations; profiles = profiles; samples = samples; constraints = constraints; tracks = tracks }
 
 -- the entries of the tables, and the subnets
 abbrev pub countsOf : Files → Counts

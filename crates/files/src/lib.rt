@@ -1,5 +1,6 @@
 // All that does not depend on a solution, in document 01's order: H; timetable; profiles; 12 and 13; constraints; 15.
-ghost use Rattle.files.specs.Promise.{texts, tables, FilesRead};
+ghost use Rattle.emptied.specs.Lent.{tables};
+ghost use Rattle.files.specs.Promise.{texts, FilesRead};
 use rules::answers::Refusal;
 
 pub mod places; // where a row starts

@@ -14,8 +14,8 @@ use Rattle.rules.specs.declared.answers.Answer.{Answer}
 use Rattle.rules.specs.declared.answers.Answer.the-variants.{Accepted, Violated, Refused}
 use Rattle.laws.specs.Demands.{EmptiedMerge}
 use Rattle.laws.proofs.DemandOne.{merge-demand-one}
-use Rattle.tails.specs.After.{tablesAfter, choicesAfter, textAfter}
-use Rattle.tails.proofs.Filled.{SameLengths, tables-after, choices-after, text-after}
+use Rattle.emptied.specs.After.{tablesAfter, choicesAfter, textAfter}
+use Rattle.emptied.proofs.Filled.{SameLengths, tables-after, choices-after, text-after}
 use Rattle.merging.specs.declared.Merged.{Merged}
 use Rattle.merging.specs.Promise.{MergeRead, Merges}
 use Rattle.merging.proofs.Standing.{never, text-zeroed}

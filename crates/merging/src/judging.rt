@@ -4,10 +4,10 @@ ghost use Rattle.merging.specs.Left.{Disputable, Judges, Solves};
 use crate::Merged;
 use crate::not_written;
 use crate::writing;
+use emptied::acceptance;
 use files::Counts;
 use rules::answers::Answer;
 use tails::Chosen;
-use tails::refusals;
 use writer::merge::Direction;
 
 // Both are read.
@@ -33,7 +33,7 @@ fn merge_chosen(
         choices,
         second_choices,
     );
-    if refusals::is_accepted(judged) {
+    if acceptance::is_accepted(judged) {
         return writing::write_merge(
             direction,
             counts,

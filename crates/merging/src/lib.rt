@@ -1,12 +1,14 @@
 // The merges (document 01, "Merged texts"): both solutions are read, then judged, and the earlier or the later choices are written as a timetable.
 ghost use mathlib.Core.Path.{_≡_};
-ghost use Rattle.files.specs.Promise.{texts, tables};
+ghost use Rattle.emptied.specs.Lent.{tables};
+ghost use Rattle.files.specs.Promise.{texts};
 ghost use Rattle.writer.specs.Merges.{mergeOf};
 ghost use Rattle.merging.specs.Left.{notWritten};
 ghost use Rattle.merging.specs.Promise.{MergeRead, Merges};
+use emptied::acceptance;
+use emptied::refusals;
 use files::Filed;
 use rules::answers::Answer;
-use tails::refusals;
 use writer::merge::Direction;
 
 pub mod writing; // the text, 17, 16
@@ -125,6 +127,6 @@ pub fn merge(
     );
     refusals::empty_choices(answer, choices);
     refusals::empty_choices(answer, second_choices);
-    refusals::empty_text(answer, text);
+    acceptance::empty_text(answer, text);
     made
 }

@@ -2,8 +2,8 @@
 ghost use Rattle.merging.specs.Left.{Mergeable, Writes};
 use crate::Merged;
 use crate::not_written;
+use emptied::acceptance;
 use files::Counts;
-use tails::refusals;
 use writer::merge;
 use writer::merge::Direction;
 
@@ -32,7 +32,7 @@ pub fn write_merge(
         text,
     );
     let answer = order::of_merge(travels, second, length, text.len());
-    if refusals::is_accepted(answer) {
+    if acceptance::is_accepted(answer) {
         return Merged { answer, length };
     }
     not_written(answer)

@@ -8,6 +8,7 @@ ghost use Rattle.rules.specs.Limits.{mostText};
 ghost use Rattle.tails.specs.Left.{Choosable};
 ghost use Rattle.order.specs.Both.{BothReady, ChoosesBoth, JudgesBoth};
 ghost use Rattle.order.specs.Order.{travelAnswer, roomAnswer, firstOf};
+use emptied::acceptance;
 use files::Counts;
 use files::places;
 use rules::answers::Answer;
@@ -15,7 +16,6 @@ use rules::answers::File;
 use rules::answers::Refusal;
 use rules::sizes::Text;
 use tails::Chosen;
-use tails::refusals;
 use writer::merge::Travels;
 
 // The second is read where the first is whole.
@@ -64,7 +64,7 @@ pub fn judge_both(
         choices,
         File::SOLUTION,
     );
-    if refusals::is_accepted(first) {
+    if acceptance::is_accepted(first) {
         let second = tails::judge_choices(
             counts,
             legs,
@@ -113,7 +113,7 @@ fn of_room(length: usize, room: usize) -> Answer
 fn first_of(one: Answer, two: Answer) -> Answer
     ensures { λ r. ⌜ r ≡ firstOf one two ⌝ }
 {
-    if refusals::is_accepted(one) {
+    if acceptance::is_accepted(one) {
         return two;
     }
     one

@@ -1,14 +1,15 @@
 // The energies of texts that are read and judged: figures for accepted solutions only.
 ghost use mathlib.Core.Path.{_≡_};
-ghost use Rattle.files.specs.Promise.{texts, tables};
+ghost use Rattle.emptied.specs.Lent.{tables};
+ghost use Rattle.files.specs.Promise.{texts};
 ghost use Rattle.reports.specs.Promise.{noReport, ReportRead};
+use emptied::acceptance;
 use energy::desk;
 use rules::answers::Answer;
 use rules::figures::Desk;
 use rules::figures::Figures;
 use rules::figures::Peak;
 use rules::figures::Peaks;
-use tails::refusals;
 
 pub mod working; // an accepted solution
 
@@ -74,7 +75,7 @@ pub fn read_and_report(
     );
     let answer = judged.answer;
     let counts = judged.counts;
-    if refusals::is_accepted(answer) {
+    if acceptance::is_accepted(answer) {
         return working::report_accepted(
             h,
             counts,

@@ -1,4 +1,3 @@
 pub mod Choosing
 pub mod Judging
 pub mod Checking
-pub mod Filled

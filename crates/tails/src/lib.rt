@@ -1,6 +1,7 @@
-// What follows the files, shared by the entries: a solution is chosen from, and judged; what an answer leaves in each lent table.
+// What follows the files, shared by the entries: a solution is chosen from, and judged.
 ghost use mathlib.Core.Path.{_≡_};
-ghost use Rattle.files.specs.Promise.{texts, tables};
+ghost use Rattle.emptied.specs.Lent.{tables};
+ghost use Rattle.files.specs.Promise.{texts};
 ghost use Rattle.tails.specs.Left.{Choosable, Chooses, Ready, Judges};
 ghost use Rattle.tails.specs.Promise.{ReadAndJudged};
 use files::Counts;
@@ -10,8 +11,6 @@ use rules::answers::File;
 use rules::answers::Refusal;
 use solution::reader;
 use solution::reader::Choices;
-
-pub mod refusals; // what an answer leaves in each lent table
 
 pub enum Chosen {
     Whole,

@@ -9,7 +9,7 @@ use Rattle.rules.specs.Limits.{unsignedFill, signedFill, byteFill}
 use Rattle.rules.specs.Answers.{isRefusal, isAccepted}
 use Rattle.rules.specs.Entries.{Tables, filled, filledTables}
 use Rattle.rules.specs.declared.answers.Answer.{Answer}
-use Rattle.tails.specs.After.{tablesAfter, choicesAfter, curvesAfter, textAfter}
+use Rattle.emptied.specs.After.{tablesAfter, choicesAfter, curvesAfter, textAfter}
 
 pub record SameLengths (a b : Tables) : Type 0 where
   pub legs : length (a .legs) ≡ length (b .legs)

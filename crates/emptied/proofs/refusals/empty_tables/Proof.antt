@@ -1,10 +1,10 @@
--- `tails::refusals::empty_tables` meets its contract: table by table. Assumes nothing.
+-- `emptied::refusals::empty_tables` meets its contract: table by table. Assumes nothing.
 use borrow.Author.Needs.{needs}
 use Rattle.laws.proofs.OneOutcome.{same-tables}
-use Rattle.files.specs.Promise.{tables}
-use Rattle.tails.proofs.Filled.{refusal-fills, no-refusal-keeps}
-use Rattle.tails.proofs.refusals.empty_tables.Statement.{statement}
-use Rattle.tails.proofs.refusals.empty_tables.Tie as tie
+use Rattle.emptied.specs.Lent.{tables}
+use Rattle.emptied.proofs.Filled.{refusal-fills, no-refusal-keeps}
+use Rattle.emptied.proofs.refusals.empty_tables.Statement.{statement}
+use Rattle.emptied.proofs.refusals.empty_tables.Tie as tie
 
 is-refusal-requires : tie.Need-is-refusal-requires
 is-refusal-requires c κs = search needs

@@ -1,9 +1,8 @@
-// What an answer leaves in what was lent: after a refusal each table holds only a number that no field can have (demand 1),
-// and curves and texts stand only where the answer is accepted.
+// A refusal fills the tables and the choices.
 ghost use mathlib.Core.Path.{_≡_};
-ghost use Rattle.rules.specs.Answers.{isRefusal, isAccepted};
-ghost use Rattle.files.specs.Promise.{tables};
-ghost use Rattle.tails.specs.After.{tablesAfter, choicesAfter, curvesAfter, textAfter};
+ghost use Rattle.rules.specs.Answers.{isRefusal};
+ghost use Rattle.emptied.specs.Lent.{tables};
+ghost use Rattle.emptied.specs.After.{tablesAfter, choicesAfter};
 use rules::answers::Answer;
 
 pub fn is_refusal(answer: Answer) -> bool
@@ -13,16 +12,6 @@ pub fn is_refusal(answer: Answer) -> bool
         Answer::Accepted => false,
         Answer::Violated(_) => false,
         Answer::Refused(_) => true,
-    }
-}
-
-pub fn is_accepted(answer: Answer) -> bool
-    ensures { λ r. ⌜ r ≡ isAccepted answer ⌝ }
-{
-    match answer {
-        Answer::Accepted => true,
-        Answer::Violated(_) => false,
-        Answer::Refused(_) => false,
     }
 }
 
@@ -53,22 +42,4 @@ pub fn empty_choices(answer: Answer, choices: &mut [u32])
     if is_refusal(answer) {
         fill::unsigned(choices);
     }
-}
-
-pub fn empty_curves(answer: Answer, curves: &mut [i32])
-    ensures { λ _. ⌜ now (curves .exit) ≡ curvesAfter answer (now (curves .entry)) ⌝ }
-{
-    if is_accepted(answer) {
-        return;
-    }
-    fill::signed(curves);
-}
-
-pub fn empty_text(answer: Answer, text: &mut [u8])
-    ensures { λ _. ⌜ now (text .exit) ≡ textAfter answer (now (text .entry)) ⌝ }
-{
-    if is_accepted(answer) {
-        return;
-    }
-    fill::bytes(text);
 }

@@ -11,7 +11,7 @@ use Rattle.rules.specs.declared.answers.Answer.the-variants.{Accepted, Violated
 use Rattle.rules.specs.declared.answers.Violation.{Violation}
 use Rattle.rules.specs.declared.answers.Refusal.{Refusal}
 use Rattle.io.specs.Digits.{digits}
-use Rattle.writer.specs.Written.{Written}
+use Rattle.bytes.specs.Written.{Written}
 use Rattle.cases.specs.Lines.{styled, spaced, answered}
 use Rattle.cases.specs.declared.lines.Style.{Style}
 use Rattle.cases.specs.declared.lines.Style.the-variants.{Plain, Pattern}

@@ -10,7 +10,7 @@ use lib.ListN.{take}
 use borrow.Author.Tests.{lt-ltb, ltb-true, ltb-false}
 use Rattle.rules.specs.Bytes.{digitZero, spelled}
 use Rattle.rules.proofs.Numbers.{by-digits}
-use Rattle.writer.specs.Written.{Written}
+use Rattle.bytes.specs.Written.{Written}
 use Rattle.io.specs.Digits.{glyph, digits, Fewest}
 
 glyph-digit : (n : ℕ) → n < 10 → glyph n ≡ digitZero + n

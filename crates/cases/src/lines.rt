@@ -3,10 +3,9 @@ ghost use mathlib.Core.Path.{_≡_};
 ghost use mathlib.Core.List.{_++_};
 ghost use Rattle.rules.specs.Bytes.{spelled};
 ghost use Rattle.io.specs.Digits.{digits as digitsIn};
-ghost use Rattle.writer.specs.Written.{Written};
+ghost use Rattle.bytes.specs.Written.{Written};
 ghost use Rattle.cases.specs.Lines.{styled, spacedIn, spaced, answered, endOf};
 use rules::answers::Answer;
-use writer::bytes;
 
 // The digits of the greatest number of 64 bits, and the hexadecimal digits of each.
 const DECIMAL: usize = 20;

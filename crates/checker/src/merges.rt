@@ -3,7 +3,7 @@ ghost use Rattle.rules.specs.Merge.{earlier, later};
 ghost use Rattle.emptied.specs.Lent.{tables};
 ghost use Rattle.files.specs.Promise.{texts};
 ghost use Rattle.merging.specs.Promise.{Merges};
-use writer::merge::Direction;
+use either::Direction;
 
 pub type Merged = merging::Merged;
 

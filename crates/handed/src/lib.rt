@@ -1,11 +1,11 @@
 // `merge-earlier H TIMETABLE PROFILES CONSTRAINTS FIRST SECOND OUT`, and `merge-later`: the merged timetable goes to OUT and the report to standard output.
 use checker::display;
+use either::Direction;
 use given::files;
 use given::rooms;
 use rules::answers::Answer;
 use rules::answers::File;
 use told::say;
-use writer::merge::Direction;
 
 // The row that a refusal shows, in whichever of the three texts; empty for another answer.
 fn refused_row<'a>(

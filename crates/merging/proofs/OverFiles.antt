@@ -18,7 +18,7 @@ use Rattle.files.specs.Promise.{FilesRead}
 use Rattle.tails.specs.Left.{Judgeable}
 use Rattle.tails.proofs.Checking.{WasFiled, was-filed, not-filed}
 use Rattle.writer.specs.Merges.{mergeOf}
-use Rattle.writer.specs.declared.merge.Direction.{Direction}
+use Rattle.either.specs.declared.Direction.{Direction}
 use Rattle.order.specs.Both.{solutionsRead}
 use Rattle.merging.specs.declared.Merged.{Merged}
 use Rattle.merging.specs.Left.{notWritten, Solves}

@@ -13,7 +13,7 @@ use Rattle.tails.specs.declared.Chosen.{Chosen}
 use Rattle.tails.specs.declared.Chosen.the-variants as Choosings
 use Rattle.tails.specs.Left.{Judgeable, Choosable}
 use Rattle.writer.specs.Merges.{mergeOf}
-use Rattle.writer.specs.declared.merge.Direction.{Direction}
+use Rattle.either.specs.declared.Direction.{Direction}
 use Rattle.order.specs.Both.{BothChosen, ChoosesBoth, solutionsRead}
 use Rattle.merging.specs.declared.Merged.{Merged}
 use Rattle.merging.specs.Left.{notWritten, Disputable, Judges, Solved}

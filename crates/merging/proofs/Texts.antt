@@ -22,12 +22,13 @@ use Rattle.laws.proofs.GoodFiles.{choices-good}
 use Rattle.tables.specs.View.{configurationsIn}
 use Rattle.files.specs.declared.Counts.{Counts}
 use Rattle.verdict.proofs.GoodReading.{choices-many}
-use Rattle.writer.specs.Written.{lastPlace, Written}
-use Rattle.writer.specs.Merges.{mergeOf, mergedIn, travelsOf}
-use Rattle.writer.specs.declared.merge.Direction.{Direction}
-use Rattle.writer.specs.declared.merge.Travels.{Travels}
-use Rattle.writer.specs.declared.merge.Travels.the-variants.{Equal, UnequalAt}
-use Rattle.writer.proofs.Writing.{written-length}
+use Rattle.bytes.specs.Written.{lastPlace, Written}
+use Rattle.writer.specs.Merges.{mergeOf, mergedIn}
+use Rattle.either.specs.Either.{travelsOf}
+use Rattle.either.specs.declared.Direction.{Direction}
+use Rattle.either.specs.declared.Travels.{Travels}
+use Rattle.either.specs.declared.Travels.the-variants.{Equal, UnequalAt}
+use Rattle.bytes.proofs.Writing.{written-length}
 use Rattle.writer.proofs.Filled.{unequal-seen, merged-fits, merged-whole}
 use Rattle.merging.specs.declared.Merged.{Merged}
 use Rattle.order.specs.Order.{travelAnswer, roomAnswer, firstOf}

@@ -4,11 +4,11 @@ ghost use Rattle.merging.specs.Left.{Disputable, Judges, Solves};
 use crate::Merged;
 use crate::not_written;
 use crate::writing;
+use either::Direction;
 use emptied::acceptance;
 use files::Counts;
 use rules::answers::Answer;
 use tails::Chosen;
-use writer::merge::Direction;
 
 // Both are read.
 fn merge_chosen(

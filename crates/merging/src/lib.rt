@@ -5,11 +5,11 @@ ghost use Rattle.files.specs.Promise.{texts};
 ghost use Rattle.writer.specs.Merges.{mergeOf};
 ghost use Rattle.merging.specs.Left.{notWritten};
 ghost use Rattle.merging.specs.Promise.{MergeRead, Merges};
+use either::Direction;
 use emptied::acceptance;
 use emptied::refusals;
 use files::Filed;
 use rules::answers::Answer;
-use writer::merge::Direction;
 
 pub mod writing; // the text, 17, 16
 pub mod judging; // the solutions, and their verdicts

@@ -2,10 +2,9 @@
 ghost use Rattle.merging.specs.Left.{Mergeable, Writes};
 use crate::Merged;
 use crate::not_written;
+use either::Direction;
 use emptied::acceptance;
 use files::Counts;
-use writer::merge;
-use writer::merge::Direction;
 
 pub fn write_merge(
     direction: Direction,
@@ -21,8 +20,8 @@ pub fn write_merge(
     ensures { λ r. ⌜ Writes direction counts (now (second .entry)) (now (legs .entry)) (now (configurations .entry)) (now (choices .entry)) (now («second_choices» .entry)) (now (text .entry)) r (now (text .exit)) ⌝ }
 {
     let n = counts.legs;
-    let travels = merge::unequal(choices, second_choices, n);
-    let length = merge::put_merged(
+    let travels = either::unequal(choices, second_choices, n);
+    let length = writer::put_merged(
         direction,
         legs,
         n,

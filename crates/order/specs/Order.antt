@@ -6,8 +6,8 @@ use Rattle.rules.specs.Answers.{refusal, unequalTravel, noRoom, noFile, secondF
 use Rattle.rules.specs.Rows.{placeOfRow}
 use Rattle.rules.specs.declared.answers.Answer.{Answer}
 use Rattle.rules.specs.declared.answers.Answer.the-variants.{Accepted, Refused}
-use Rattle.writer.specs.declared.merge.Travels.{Travels}
-use Rattle.writer.specs.declared.merge.Travels.the-variants.{Equal, UnequalAt}
+use Rattle.either.specs.declared.Travels.{Travels}
+use Rattle.either.specs.declared.Travels.the-variants.{Equal, UnequalAt}
 
 abbrev pub travelAnswer : (second : List ℕ) → Travels → Answer
 travelAnswer second Equal = Accepted

@@ -8,6 +8,7 @@ ghost use Rattle.rules.specs.Limits.{mostText};
 ghost use Rattle.tails.specs.Left.{Choosable};
 ghost use Rattle.order.specs.Both.{BothReady, ChoosesBoth, JudgesBoth};
 ghost use Rattle.order.specs.Order.{travelAnswer, roomAnswer, firstOf};
+use either::Travels;
 use emptied::acceptance;
 use files::Counts;
 use files::places;
@@ -16,7 +17,6 @@ use rules::answers::File;
 use rules::answers::Refusal;
 use rules::sizes::Text;
 use tails::Chosen;
-use writer::merge::Travels;
 
 // The second is read where the first is whole.
 pub fn choose_both(

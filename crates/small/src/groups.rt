@@ -2,6 +2,7 @@
 ghost use Prim.Native.Nat.{_+_, _<_, _^_};
 ghost use Rattle.io.specs.Counts.{Counts};
 ghost use Rattle.small.specs.Words.{ofSolution, ofTwo};
+use either::Direction;
 use given::arguments;
 use given::arguments::Given;
 use given::files;
@@ -11,7 +12,6 @@ use rules::answers::File;
 use shown::checks;
 use shown::energies;
 use told::say;
-use writer::merge::Direction;
 
 pub enum Asked {
     Verdict,

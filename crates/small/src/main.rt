@@ -7,11 +7,11 @@
 mod groups; // the groups
 
 ghost use Prim.Native.Nat.{_+_, _<_, _^_};
+use either::Direction;
 use groups::Asked;
 use groups::Entry;
 use groups::Words;
 use told::say;
-use writer::merge::Direction;
 
 // The group that starts at argument `at`, of the `left` that are left: how many it takes.
 fn solution_group(at: usize, left: usize, asked: Asked) -> usize

@@ -7,7 +7,7 @@ use mathlib.Core.List.{List, [], _∷_}
 use lib.Dec.{leb}
 use borrow.Author.Tests.{lt-ltb, le-ltb, lt-leb, le-leb}
 use Rattle.rules.specs.Bytes.{space, digitZero}
-use Rattle.writer.specs.Written.{Written}
+use Rattle.bytes.specs.Written.{Written}
 use Rattle.words.specs.Shown.{sixteen, isPlain, hexDigit, shown}
 
 pub plain-below : (b : ℕ) → b < space → false ≡ isPlain b

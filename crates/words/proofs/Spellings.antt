@@ -9,8 +9,8 @@ use lib.ListN.{length}
 use borrow.Author.Tests.{ltb-true, ltb-false, lt-ltb, le-ltb}
 use Rattle.rules.specs.Bytes.{digitZero, spelledFrom, spelled}
 use Rattle.rules.proofs.Numbers.{spelled-digit, spelled-more, by-digits}
-use Rattle.writer.specs.Written.{lastPlace, Written}
-use Rattle.writer.proofs.Writing.{written-then}
+use Rattle.bytes.specs.Written.{lastPlace, Written}
+use Rattle.bytes.proofs.Writing.{written-then}
 use Rattle.words.specs.Numbers.{twoDigits, threeDigits}
 
 -- ---- the last digit of a number

@@ -8,8 +8,8 @@ use borrow.Author.Tests.{lt-ltb, le-ltb}
 use Rattle.rules.specs.Limits.{quarterSeconds}
 use Rattle.rules.specs.Bytes.{bytes, spelled, point}
 use Rattle.rules.specs.declared.figures.Peak.{Peak}
-use Rattle.writer.specs.Written.{lastPlace, Written}
-use Rattle.writer.proofs.Writing.{written-then}
+use Rattle.bytes.specs.Written.{lastPlace, Written}
+use Rattle.bytes.proofs.Writing.{written-then}
 use Rattle.words.specs.Numbers.{twoDigits, threeDigits}
 use Rattle.words.specs.Times.{minute, hour, colon, clockOf, timeOf, quarterOf}
 use Rattle.words.specs.Energies.{mostUnit, decimalsOf, mwOf, noQuarter, peakText}

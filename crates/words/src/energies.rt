@@ -1,13 +1,12 @@
 // Energies for people, with three decimals. They are rounded down: no more is shown than there is, and the exact kilojoules stand beside them.
 ghost use Prim.Native.Nat.{_<_, _≤_};
-ghost use Rattle.writer.specs.Written.{Written};
+ghost use Rattle.bytes.specs.Written.{Written};
 ghost use Rattle.words.specs.Energies.{mostUnit, decimalsOf, mwhOf, mwOf, peakText};
 use crate::numbers;
 use crate::times;
 use rules::figures::Figures;
 use rules::figures::Peak;
 use rules::sizes::Horizon;
-use writer::bytes;
 
 // Three decimals count in thousandths.
 const THOUSANDTHS: u64 = 1_000;

@@ -1,5 +1,5 @@
 // What a program says to people, as bytes: numbers, times, energies and names. Every function writes at a place of a lent buffer, as crate
-// `writer` does, and answers the place after the whole text.
+// `bytes` does, and answers the place after the whole text.
 pub mod numbers; // whole numbers, with two or three digits at least
 pub mod times; // seconds, and the clock that goes past midnight
 pub mod energies; // kilojoules as MWh, and those of a quarter hour as MW

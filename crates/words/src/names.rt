@@ -3,10 +3,9 @@ ghost use mathlib.Core.Path.{_≡_};
 ghost use lib.ListN.{getD};
 ghost use mathlib.Core.List.{[]};
 ghost use Rattle.rules.specs.Bytes.{splitOn, lineFeed};
-ghost use Rattle.writer.specs.Written.{Written};
+ghost use Rattle.bytes.specs.Written.{Written};
 ghost use Rattle.words.specs.Names.{kindNames, listNames, formulaOf, meanings, fileNames};
 use text::pieces;
-use writer::bytes;
 
 const LINE_FEED: u8 = b'\n';
 

@@ -1,8 +1,7 @@
 // Whole numbers as bytes, of any size that a `u64` has.
 ghost use Rattle.rules.specs.Bytes.{spelled};
-ghost use Rattle.writer.specs.Written.{Written};
+ghost use Rattle.bytes.specs.Written.{Written};
 ghost use Rattle.words.specs.Numbers.{twoDigits, threeDigits};
-use writer::bytes;
 
 // Digits count in tens.
 const TEN: u64 = 10;

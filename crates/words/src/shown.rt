@@ -1,9 +1,8 @@
 // A byte of a file, or of a name that a person gave, as it is shown: no terminal acts on it, and no file writes a line of ours.
 ghost use mathlib.Core.Path.{_≡_};
 ghost use Prim.Native.Nat.{_<_};
-ghost use Rattle.writer.specs.Written.{Written};
+ghost use Rattle.bytes.specs.Written.{Written};
 ghost use Rattle.words.specs.Shown.{sixteen, isPlain, hexDigit, shown};
-use writer::bytes;
 
 const SIXTEEN: u8 = 16;
 

@@ -1,9 +1,8 @@
 // Times: seconds after midnight, and the same as a clock that goes on past 24 hours.
-ghost use Rattle.writer.specs.Written.{Written};
+ghost use Rattle.bytes.specs.Written.{Written};
 ghost use Rattle.words.specs.Times.{clockOf, timeOf, quarterOf};
 use crate::numbers;
 use rules::sizes::Horizon;
-use writer::bytes;
 
 const MINUTE: u64 = 60;
 

@@ -13,12 +13,12 @@ use Rattle.tables.specs.View.{legAt, configurationAt, partOf, configurationsIn}
 use Rattle.tables.proofs.Tabulated.{tabulate-map}
 use Rattle.tables.proofs.Views.{configurations-written}
 use Rattle.tables.proofs.Offers.{legs-seen, offers-written}
-use Rattle.writer.specs.Written.{lastPlace, Written}
-use Rattle.writer.specs.Rows.{rowOf}
+use Rattle.bytes.specs.Written.{lastPlace, Written}
+use Rattle.spelled.specs.Rows.{rowOf}
 use Rattle.writer.specs.Merges.{mergeOf, chosenIn, mergedIn}
-use Rattle.writer.specs.declared.merge.Direction.{Direction}
-use Rattle.writer.specs.declared.merge.Direction.the-variants.{Earlier, Later}
-use Rattle.writer.proofs.Writing.{written-fits, written-whole}
+use Rattle.either.specs.declared.Direction.{Direction}
+use Rattle.either.specs.declared.Direction.the-variants.{Earlier, Later}
+use Rattle.bytes.proofs.Writing.{written-fits, written-whole}
 
 -- the two directions are document 01's two merges
 pub earlier-is : mergeOf Earlier ≡ earlier

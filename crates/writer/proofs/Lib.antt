@@ -1,9 +1,2 @@
-pub mod Stores
-pub mod Writing
-pub mod Growing
-pub mod Spelling
-pub mod RowTexts
-pub mod Choosing
 pub mod Merging
-pub mod Travels
 pub mod Filled

@@ -11,9 +11,10 @@ use Rattle.rules.specs.declared.sizes.Leg.{Leg}
 use Rattle.rules.proofs.Lists.{tabulate-more, flat-append}
 use Rattle.laws.proofs.Tabulate.{tabulate-zipped}
 use Rattle.tables.specs.View.{legAt, configurationAt}
-use Rattle.writer.specs.Rows.{rowOf}
-use Rattle.writer.specs.Merges.{chooser, mergedIn, rowsText}
-use Rattle.writer.specs.declared.merge.Direction.{Direction}
+use Rattle.spelled.specs.Rows.{rowOf}
+use Rattle.either.specs.Either.{chooser}
+use Rattle.either.specs.declared.Direction.{Direction}
+use Rattle.writer.specs.Merges.{mergedIn, rowsText}
 
 -- one entry more
 flat-more : {A : Type 0} (f : A → List ℕ) (n : ℕ) (g : ℕ → A) → flat f (tabulate (suc n) g) ≡ flat f (tabulate n g) ++ f (g n)

@@ -1,3 +1,1 @@
-pub mod Written
-pub mod Rows
 pub mod Merges

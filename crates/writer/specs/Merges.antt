@@ -1,21 +1,14 @@
--- A merge over the tables: its choices, its rows, and whether the travel times are equal.
+-- A merge over the tables: its choices and its rows.
 use Prim.Native.Nat.{ℕ}
 use mathlib.Core.List.{List}
-use mathlib.Core.Option.{Option, none, some}
 use Rattle.rules.specs.Lists.{flat}
 use Rattle.rules.specs.Timetable.{Row}
-use Rattle.rules.specs.Merge.{sooner, tardier, zipped, spelledRow}
+use Rattle.rules.specs.Merge.{zipped, spelledRow}
 use Rattle.rules.specs.declared.sizes.Configuration.{Configuration}
 use Rattle.tables.specs.View.{legsIn, configurationsIn}
-use Rattle.writer.specs.Rows.{rowOf}
-use Rattle.writer.specs.declared.merge.Direction.{Direction}
-use Rattle.writer.specs.declared.merge.Direction.the-variants.{Earlier, Later}
-use Rattle.writer.specs.declared.merge.Travels.{Travels}
-use Rattle.writer.specs.declared.merge.Travels.the-variants.{Equal, UnequalAt}
-
-abbrev pub chooser : Direction → Configuration → Configuration → Configuration
-chooser Earlier = sooner
-chooser Later = tardier
+use Rattle.spelled.specs.Rows.{rowOf}
+use Rattle.either.specs.Either.{chooser}
+use Rattle.either.specs.declared.Direction.{Direction}
 
 -- `earlier` or `later`
 abbrev pub mergeOf : Direction → List Configuration → List Configuration → List Configuration
@@ -33,7 +26,3 @@ mergedIn d n legs configurations first second =
 -- a timetable without its header
 abbrev pub rowsText : List Row → List ℕ
 rowsText = flat spelledRow
-
-abbrev pub travelsOf : Option ℕ → Travels
-travelsOf none = Equal
-travelsOf (some row) = UnequalAt row

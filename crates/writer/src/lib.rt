@@ -1,4 +1,57 @@
-// Timetables written as bytes into a lent buffer (document 01, "Merged texts"): what does not fit is not written, and still counted.
-pub mod bytes; // a byte, a run of bytes, a whole number
-pub mod rows; // the header, and rows out of the draft's tables
-pub mod merge; // the merged text, and the test for equal travel times
+// Merged texts (document 01): from two accepted solutions, the earlier or the later choice at each leg, written as a timetable into a lent buffer.
+// What does not fit is not written, and still counted.
+ghost use Rattle.rules.specs.Merge.{textOf};
+ghost use Rattle.bytes.specs.Written.{Written};
+ghost use Rattle.writer.specs.Merges.{mergedIn, rowsText};
+use either::Direction;
+
+// The draft's `n` rows, each with the choice that the merge takes as its nominal.
+fn put_rows(
+    direction: Direction,
+    legs: &[u32],
+    n: usize,
+    configurations: &[u32],
+    first: &[u32],
+    second: &[u32],
+    text: &mut [u8],
+    at: usize,
+) -> usize
+    ensures { λ r. ⌜ Written (now (text .entry)) at (rowsText (mergedIn direction n (now (legs .entry)) (now (configurations .entry)) (now (first .entry)) (now (second .entry)))) (now (text .exit)) r ⌝ }
+{
+    let mut place = at;
+    let mut i = 0;
+    while i < n {
+        let leg = tables::leg_at(legs, i);
+        let a = tables::configuration_at(first, i);
+        let b = tables::configuration_at(second, i);
+        let chosen = either::choose(direction, a, b);
+        place = spelled::put_row(text, place, leg, chosen, configurations);
+        i += 1;
+    }
+    place
+}
+
+// The whole merged text. Where the answer is past the buffer's end, the text did not fit.
+pub fn put_merged(
+    direction: Direction,
+    legs: &[u32],
+    n: usize,
+    configurations: &[u32],
+    first: &[u32],
+    second: &[u32],
+    text: &mut [u8],
+) -> usize
+    ensures { λ r. ⌜ Written (now (text .entry)) 0 (textOf (mergedIn direction n (now (legs .entry)) (now (configurations .entry)) (now (first .entry)) (now (second .entry)))) (now (text .exit)) r ⌝ }
+{
+    let after = spelled::put_header(text, 0);
+    put_rows(
+        direction,
+        legs,
+        n,
+        configurations,
+        first,
+        second,
+        text,
+        after,
+    )
+}

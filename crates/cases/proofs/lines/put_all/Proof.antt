@@ -5,8 +5,8 @@ use native.Mathlib.Omega.{arith}
 use mathlib.Core.Path.{_≡_, refl, ap}
 use lib.ListN.{length, take}
 use lib.Seq.{take-length}
-use Rattle.writer.proofs.Writing.{written-then}
-use Rattle.writer.proofs.Growing.{Growing, growing-none, growing-more, growing-all, growing-length}
+use Rattle.bytes.proofs.Growing.{Growing, growing-none, growing-more, growing-all, growing-length}
+use Rattle.bytes.proofs.Writing.{written-then}
 use Rattle.cases.specs.Lines.{spacedIn}
 use Rattle.cases.proofs.Spaced.{flat-more}
 use Rattle.cases.proofs.lines.put_all.Statement.{statement}

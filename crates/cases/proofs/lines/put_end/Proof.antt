@@ -1,6 +1,6 @@
 -- `cases::lines::put_end` meets its contract: the digests, then LF. Assumes nothing.
 use native.Mathlib.Omega.{arith}
-use Rattle.writer.proofs.Writing.{written-then}
+use Rattle.bytes.proofs.Writing.{written-then}
 use borrow.Author.Needs.{needs}
 use Rattle.cases.proofs.lines.put_end.Statement.{statement}
 use Rattle.cases.proofs.lines.put_end.Tie as tie

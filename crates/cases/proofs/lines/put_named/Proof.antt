@@ -1,6 +1,6 @@
 -- `cases::lines::put_named` meets its contract: the name, then the numbers. Assumes nothing.
 use native.Mathlib.Omega.{arith}
-use Rattle.writer.proofs.Writing.{written-then}
+use Rattle.bytes.proofs.Writing.{written-then}
 use borrow.Author.Needs.{needs}
 use Rattle.cases.proofs.lines.put_named.Statement.{statement}
 use Rattle.cases.proofs.lines.put_named.Tie as tie

@@ -3,7 +3,7 @@ use Prim.Native.Nat.{_<_}
 use mathlib.Core.Path.{sym, _∙_}
 use native.Mathlib.Omega.{arith}
 use lib.ListN.{length}
-use Rattle.writer.specs.Written.{lastPlace}
+use Rattle.bytes.specs.Written.{lastPlace}
 use Rattle.merging.proofs.Texts.{second-short, text-ends, refusal-ends}
 use borrow.Author.Needs.{needs}
 use Rattle.merging.proofs.writing.write_merge.Statement.{statement}

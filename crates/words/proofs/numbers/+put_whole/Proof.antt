@@ -4,7 +4,7 @@ use native.Mathlib.Omega.{arith}
 use borrow.Author.Needs.{needs}
 use borrow.Fn.Kinds.{In}
 use borrow.Fn.PlainCycle.{Measures, is, falls, and}
-use Rattle.writer.proofs.bytes.put_byte.Reads as put-byte-reads
+use Rattle.bytes.proofs.put_byte.Reads as put-byte-reads
 use Rattle.words.proofs.Spellings.{digit-written, digits-written}
 use Rattle.words.proofs.numbers.put_whole.Reads as put-whole
 use Rattle.words.proofs.numbers.put_whole.Kinds as put-whole-kinds

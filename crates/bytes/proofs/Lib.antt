@@ -1,0 +1,4 @@
+pub mod Stores
+pub mod Writing
+pub mod Growing
+pub mod Spelling

@@ -7,81 +7,34 @@ use mathlib.Core.Option.{Option, none, some}
 use native.Mathlib.Omega.{arith}
 use native.Mathlib.Numerals.{add-one}
 use lib.Dec.{ltb, eqb}
-use lib.ListN.{length, getD, take, drop, length-drop, take-append-drop}
-use lib.Seq.{getD-drop, drop-drop}
+use lib.ListN.{length, take, drop, length-drop, take-append-drop}
+use lib.Seq.{drop-drop}
 use borrow.Author.Tests.{lt-ltb, le-ltb}
 use Rattle.rules.specs.Limits.{legWidth}
-use Rattle.rules.specs.Lists.{flat, over, startsWith}
+use Rattle.rules.specs.Lists.{flat, over}
 use Rattle.rules.specs.Answers.{differs, good, _>>=_}
 use Rattle.rules.specs.Rows.{placeOfRow}
 use Rattle.rules.specs.Timetable.{Row, idsOf, legsFrom, legsOf, legNumbers, choicesOf}
 use Rattle.rules.specs.Reading.{sameLeg, differsFrom, matched}
 use Rattle.rules.proofs.Truth.{and-true}
-use Rattle.rules.proofs.Lists.{tabulate-at}
-use Rattle.text.proofs.Names.{start-same, start-other, start-all}
 use Rattle.legs.specs.Slots.{heldIds}
 use Rattle.timetable.proofs.Words.{length-snoc}
-use Rattle.solution.specs.declared.compare.Compared.{Compared}
-use Rattle.solution.specs.declared.reader.Choices.{Choices}
-use Rattle.solution.specs.declared.reader.Choices.the-variants.{Fault, Read}
-use Rattle.solution.specs.Against.{InTable, sameAt, differsAt, comparedWith}
+use Rattle.beside.specs.declared.Compared.{Compared}
+use Rattle.beside.specs.declared.Choices.{Choices}
+use Rattle.beside.specs.declared.Choices.the-variants.{Fault, Read}
+use Rattle.beside.specs.Against.{sameAt, differsAt, comparedWith, comparedAnswer}
 use Rattle.solution.specs.Promise.{HoldsRows, choicesAnswer}
-use Rattle.solution.specs.Whole.{choicesAfter, comparedAnswer}
+use Rattle.solution.specs.Whole.{choicesAfter}
 
--- ---- the ids of a row, one after the other: those that are left say what all say
+-- ---- the answer: no more rows than were read
 
-module _ (numbers legs : List ℕ) (row : ℕ) where
-  held-at : (k : ℕ) → k < length (heldIds numbers) → getD (heldIds numbers) k 0 ≡ getD numbers k 0
-  held-at = tabulate-at (length (heldIds numbers)) (λ k. getD numbers k 0) 0
-
-  module _ (k : ℕ) (left : startsWith (drop k (heldIds numbers)) (drop k (drop (row * legWidth) legs)) ≡ sameAt numbers legs row) where
-    pub same-next : InTable row legs → k < length (heldIds numbers) → getD legs (row * legWidth + k) 0 ≡ getD numbers k 0
-        → startsWith (drop (k + 1) (heldIds numbers)) (drop (k + 1) (drop (row * legWidth) legs)) ≡ sameAt numbers legs row
-    same-next t h q =
-        start-same (heldIds numbers) (drop (row * legWidth) legs) k _ left h (omega (arith, length-drop (row * legWidth) legs))
-        (getD-drop (row * legWidth) legs k 0 ∙ q ∙ sym (held-at k h))
-
-    pub other-id : InTable row legs → k < length (heldIds numbers) → (getD legs (row * legWidth + k) 0 ≡ getD numbers k 0 → ⊥) → false ≡ sameAt numbers legs row
-    other-id t h q =
-        start-other (heldIds numbers) (drop (row * legWidth) legs) k _ left h (omega (arith, length-drop (row * legWidth) legs))
-        (λ e. q (sym (getD-drop (row * legWidth) legs k 0) ∙ e ∙ held-at k h))
-
-    pub all-same : length (heldIds numbers) ≤ k → true ≡ sameAt numbers legs row
-    all-same h = start-all (heldIds numbers) (drop (row * legWidth) legs) k _ left h
-
--- ---- one row more
-
-module _ (before : Compared) (numbers legs : List ℕ) (n row place : ℕ) where
-  module _ (so-far : before .differs ≡ false) where
-    pub keeps-none : row < n → (t : Bool) → t ≡ sameAt numbers legs row → t ≡ true → before ≡ comparedWith before numbers legs n row place
-    keeps-none h t q u = rw (so-far, lt-ltb row n h, ← q, u)
-
-    pub finds-other : row < n → (t : Bool) → t ≡ sameAt numbers legs row → t ≡ false → differsAt place ≡ comparedWith before numbers legs n row place
-    finds-other h t q u = rw (so-far, lt-ltb row n h, ← q, u)
-
-    pub finds-more : n ≤ row → differsAt place ≡ comparedWith before numbers legs n row place
-    finds-more h = rw (so-far, le-ltb row n h)
-
--- ---- the answer
-
-module _ (c : Compared) (rows n end : ℕ) where
-  pub answers-differs : c .differs ≡ true → Fault differs (c .place) ≡ comparedAnswer c rows n end
-  answers-differs e = rw e
-
-  pub answers-missing : c .differs ≡ false → rows < n → Fault differs end ≡ comparedAnswer c rows n end
-  answers-missing e h = rw (e, lt-ltb rows n h)
-
-  pub answers-read : c .differs ≡ false → n ≤ rows → Read rows ≡ comparedAnswer c rows n end
-  answers-read e h = rw (e, le-ltb rows n h)
-
-  -- no more rows than were read
-  pub read-all : (m : ℕ) (answer : Choices) → answer ≡ comparedAnswer c rows n end → answer ≡ Read m → m ≡ rows
-  read-all m answer e f = go (c .differs) (ltb rows n) (sym e ∙ f)
-    where
-      go : (t u : Bool) → cond t (Fault differs (c .place)) (cond u (Fault differs end) (Read rows)) ≡ Read m → m ≡ rows
-      go true u q = let z : _≡_ {A = ℕ} 0 1 = cc in absurd (omega arith)
-      go false true q = let z : _≡_ {A = ℕ} 0 1 = cc in absurd (omega arith)
-      go false false q = cc
+pub read-all : (c : Compared) (rows n end m : ℕ) (answer : Choices) → answer ≡ comparedAnswer c rows n end → answer ≡ Read m → m ≡ rows
+read-all c rows n end m answer e f = go (c .differs) (ltb rows n) (sym e ∙ f)
+  where
+    go : (t u : Bool) → cond t (Fault differs (c .place)) (cond u (Fault differs end) (Read rows)) ≡ Read m → m ≡ rows
+    go true u q = let z : _≡_ {A = ℕ} 0 1 = cc in absurd (omega arith)
+    go false true q = let z : _≡_ {A = ℕ} 0 1 = cc in absurd (omega arith)
+    go false false q = cc
 
 -- ---- the draft's rows in the leg table
 

@@ -22,14 +22,15 @@ use Rattle.text.proofs.Laws.{pieces-next, pieces-last}
 use Rattle.legs.specs.declared.line.Line.{Line}
 use Rattle.timetable.specs.Text.{firstLine}
 use Rattle.timetable.proofs.Words.{length-snoc}
-use Rattle.solution.specs.declared.compare.Compared.{Compared}
-use Rattle.solution.specs.declared.reader.Choices.{Choices}
-use Rattle.solution.specs.declared.reader.Choices.the-variants.{Fault}
+use Rattle.beside.specs.declared.Compared.{Compared}
+use Rattle.beside.specs.declared.Choices.{Choices}
+use Rattle.beside.specs.declared.Choices.the-variants.{Fault}
+use Rattle.tested.specs.Tests.{Roomy}
+use Rattle.beside.specs.Against.{noneDiffers, comparedWith, comparedAnswer}
 use Rattle.solution.specs.Said.{Alone}
-use Rattle.solution.specs.Before.{packedRow, Counted, AfterRow, Turned, Roomy}
-use Rattle.solution.specs.Against.{noneDiffers, comparedWith}
+use Rattle.solution.specs.Before.{packedRow, Counted, AfterRow, Turned}
 use Rattle.solution.specs.Promise.{HoldsRows}
-use Rattle.solution.specs.Whole.{Headed, rowsAfter, comparedAnswer, RowsRead}
+use Rattle.solution.specs.Whole.{Headed, rowsAfter, RowsRead}
 use Rattle.solution.proofs.Judging.{packed-length}
 use Rattle.solution.proofs.Differing.{Compares, compares-on, compared-right, read-all}
 

@@ -11,18 +11,15 @@ use lib.ListN.{length, getD, drop}
 use lib.Seq.{sets}
 use mir.Syntax.{w32}
 use mir.Val.{Fits}
-use borrow.Author.Tests.{leb-true, leb-false, lt-leb, ltb-true, le-leb, le-ltb, lt-ltb, not-false}
+use borrow.Author.Tests.{leb-true, leb-false, lt-leb, ltb-true}
 use Rattle.rules.specs.Limits.{mostId, leastTravel, mostTravel, mostLegs, mostListed, mostConfigurations, configurationWidth}
 use Rattle.rules.specs.Lists.{every, any, flat, over}
-use Rattle.rules.specs.Answers.{outOfRange, tooMany, alreadySeen, nominalNotListed, noRoom, _needs_, Test, judge}
+use Rattle.rules.specs.Answers.{judge}
 use Rattle.rules.specs.Timetable.{Row, formOf, idsOf, inRange, offers, listed, rowTests, judgeForm, solutionFits}
 use Rattle.rules.specs.declared.sizes.Configuration.{Configuration}
 use Rattle.rules.proofs.Truth.{all-append, all-map, and-first, and-second}
 use Rattle.rules.proofs.Lists.{flat-append, flat-length, over-more, over-length}
-use Rattle.ids.specs.declared.Found.{Found}
-use Rattle.ids.specs.declared.Found.the-variants.{At, Nothing}
-use Rattle.ids.specs.Column.{Records, column, placeOf, isNew}
-use Rattle.ids.proofs.Places.{some-there, none-there}
+use Rattle.ids.specs.Column.{column, isNew}
 use Rattle.ids.proofs.Written.{column-written, new-among}
 use Rattle.legs.specs.declared.line.Line.{Line}
 use Rattle.legs.specs.RowOver.{stoppedWith, storedAt, rangeHolds, countsHold, lowest, Bounded, nextLine}
@@ -30,8 +27,9 @@ use Rattle.legs.specs.Slots.{nominalOf, heldIds}
 use Rattle.timetable.proofs.Words.{length-snoc, stored-fits}
 use Rattle.timetable.proofs.Judge.{outcome, judge-lowest, lowest-zero, any-below}
 use Rattle.timetable.proofs.Accept.{listed-more, above-grows}
+use Rattle.tested.specs.Tests.{newAfter, choiceTests, Roomy}
 use Rattle.solution.specs.Said.{Alone, rangeOf, Said, SaidOf}
-use Rattle.solution.specs.Before.{travels, packed, packedRow, countedAs, newAfter, choiceTests, Counted, AfterRow, Turned, Roomy}
+use Rattle.solution.specs.Before.{travels, packed, packedRow, countedAs, Counted, AfterRow, Turned}
 
 -- how long the table's written part is
 pub packed-length : (rows : List Row) → length (flat packedRow rows) ≡ length rows * configurationWidth
@@ -274,31 +272,3 @@ module _ (H : ℕ) (line : Line) (choices : List ℕ) (k : ℕ) (lowest-is : k �
 
     pub packed-fits : Fits w32 (nominalOf (line .numbers) .departure * travels + nominalOf (line .numbers) .travel)
     packed-fits = omega (arith, ends-by, alone .horizon)
-
--- ---- whether an id is new
-
-module _ (rows above id : ℕ) (choices : List ℕ) where
-  pub new-above : above ≤ id → true ≡ newAfter rows above id choices
-  new-above h = rw (le-leb above id h)
-
-  module _ (f : Found) (h : id < above) (e : f ≡ placeOf id (column configurationWidth rows choices)) where
-    pub new-found : (i : ℕ) → f ≡ At i → false ≡ newAfter rows above id choices
-    new-found i q = rw (lt-leb above id h, some-there id (column configurationWidth rows choices) f e i q)
-
-    pub new-nothing : f ≡ Nothing → true ≡ newAfter rows above id choices
-    new-nothing q = rw (lt-leb above id h, none-there id (column configurationWidth rows choices) f e q)
-
-pub three-wide : (n : ℕ) (table : List ℕ) → n * configurationWidth ≤ length table → Records configurationWidth n table
-three-wide n table h = record { one = omega arith; whole = h }
-
--- ---- the lowest number
-
-module _ (a b c : Bool) (nominal entries rows room : ℕ) where
-  abbrev tests : List Test
-  tests = outOfRange needs a ∷ tooMany needs b ∷ alreadySeen needs c ∷ nominalNotListed needs ltb nominal entries ∷ noRoom needs ltb rows room ∷ []
-
-  pub room-lacks : (r k s : Bool) → r ≡ not a → r ≡ false → k ≡ not b → k ≡ false → s ≡ c → s ≡ true → nominal < entries → room ≤ rows → noRoom ≡ lowest tests
-  room-lacks r k s q t p u i v h j = rw (not-false a (sym q ∙ t), not-false b (sym p ∙ u), ← i, v, lt-ltb nominal entries h, le-ltb rows room j)
-
-  pub none-lacks : (r k s : Bool) → r ≡ not a → r ≡ false → k ≡ not b → k ≡ false → s ≡ c → s ≡ true → nominal < entries → rows < room → 0 ≡ lowest tests
-  none-lacks r k s q t p u i v h j = rw (not-false a (sym q ∙ t), not-false b (sym p ∙ u), ← i, v, lt-ltb nominal entries h, lt-ltb rows room j)

@@ -4,4 +4,3 @@ pub mod Differing
 pub mod Going
 pub mod Unpacking
 pub mod Wholly
-pub mod Clearing

@@ -2,20 +2,17 @@
 -- beside the choice, so that a repeated id is seen without a table of ids.
 use Prim.Native.Nat.{ℕ, suc, _+_, _*_, _/_, _≤_, _<_}
 use mathlib.Core.Path.{_≡_}
-use mathlib.Core.Bool.{Bool, true, cond}
+use mathlib.Core.Bool.{true}
 use mathlib.Core.List.{List, [], _∷_, _++_}
-use lib.Dec.{leb, ltb}
-use lib.ListN.{length, getD}
+use lib.ListN.{length}
 use Rattle.rules.specs.Limits.{mostLegs, mostConfigurations, mostTravel, configurationWidth}
 use Rattle.rules.specs.Lists.{flat, over}
-use Rattle.rules.specs.Answers.{outOfRange, tooMany, alreadySeen, nominalNotListed, noRoom, Test, _needs_, Judged, wrong, right}
+use Rattle.rules.specs.Answers.{Judged, wrong, right}
 use Rattle.rules.specs.Timetable.{Row, idsOf, inRange, listed, rowOf, solutionFits}
 use Rattle.rules.specs.Verdict.{All}
 use Rattle.rules.specs.declared.sizes.Configuration.{Configuration}
-use Rattle.ids.specs.Column.{column, isNew}
 use Rattle.legs.specs.declared.line.Line.{Line}
 use Rattle.legs.specs.Slots.{heldIds}
-use Rattle.legs.specs.RowOver.{rangeHolds, countsHold}
 
 -- more than any travel time
 abbrev pub travels : ℕ
@@ -51,19 +48,6 @@ countedAs line before =
       above = before .above;
     }
 
--- an id above all others is new without a search
-abbrev pub newAfter : (rows above id : ℕ) → (choices : List ℕ) → Bool
-newAfter rows above id choices = cond (leb above id) true (isNew id (column configurationWidth rows choices))
-
-abbrev pub choiceTests : (H : ℕ) → Line → (choices : List ℕ) → List Test
-choiceTests H line choices =
-    outOfRange needs rangeHolds H line
-    ∷ tooMany needs countsHold line
-    ∷ alreadySeen needs newAfter (line .rows) (line .above) (getD (line .numbers) 0 0) choices
-    ∷ nominalNotListed needs ltb (line .nominal) (line .entries)
-    ∷ noRoom needs ltb (line .rows) (length choices / configurationWidth)
-    ∷ []
-
 -- the counts of the rows before, and the table that holds them
 pub record Counted (H : ℕ) (lent : List ℕ) (line : Line) (choices : List ℕ) (before : List Row) : Type 0 where
   pub going : line .fault ≡ 0
@@ -84,7 +68,3 @@ AfterRow H lent line choices before (right r) = Counted H lent line choices (bef
 pub record Turned (H : ℕ) (bytes : List ℕ) (line : Line) (choices : List ℕ) (line′ : Line) (choices′ : List ℕ) : Type 0 where
   pub turns : (lent : List ℕ) (before : List Row) → Counted H lent line choices before
       → AfterRow H lent line′ choices′ before (rowOf H (solutionFits (length lent / configurationWidth)) before bytes)
-
--- the table has the rows before, so that an id can be looked for
-abbrev pub Roomy : Line → (choices : List ℕ) → Type 0
-Roomy line choices = line .rows * configurationWidth ≤ length choices

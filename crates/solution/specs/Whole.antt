@@ -1,13 +1,12 @@
 -- The two passes over a solution: the rows after the header, each id and choice in one entry; then the choices alone.
 use Prim.Native.Nat.{ℕ, _+_, _*_, _/_, _%_, _≤_}
 use mathlib.Core.Path.{_≡_}
-use mathlib.Core.Bool.{true, cond}
+use mathlib.Core.Bool.{true}
 use mathlib.Core.List.{List, []}
-use lib.Dec.{ltb}
 use lib.ListN.{length, getD, drop}
 use Rattle.rules.specs.Limits.{mostText, configurationWidth}
 use Rattle.rules.specs.Lists.{flat, over, startsWith}
-use Rattle.rules.specs.Answers.{differs, Reading, good, _>>=_}
+use Rattle.rules.specs.Answers.{Reading, good, _>>=_}
 use Rattle.rules.specs.Bytes.{lineFeed, splitOn}
 use Rattle.rules.specs.Rows.{rowsFrom}
 use Rattle.rules.specs.Timetable.{Row, configuration, inRange, rowOf, solutionFits, timetableHeader, choicesOf, configurationNumbers}
@@ -15,9 +14,8 @@ use Rattle.rules.specs.Reading.{differsFrom, matched}
 use Rattle.rules.specs.Energy.{tabulate}
 use Rattle.rules.specs.Verdict.{All}
 use Rattle.rules.specs.declared.sizes.Configuration.{Configuration}
-use Rattle.solution.specs.declared.compare.Compared.{Compared}
-use Rattle.solution.specs.declared.reader.Choices.{Choices}
-use Rattle.solution.specs.declared.reader.Choices.the-variants.{Fault, Read}
+use Rattle.beside.specs.declared.Choices.{Choices}
+use Rattle.beside.specs.declared.Choices.the-variants.{Read}
 use Rattle.solution.specs.Before.{travels, timesAt, profileAt, packedRow}
 use Rattle.solution.specs.Promise.{Able, HoldsRows, choicesAnswer}
 
@@ -40,10 +38,6 @@ choicesAfter file draft text reading = do
   rows ← reading
   same ← matched file (differsFrom 0 text draft rows) rows
   good (choicesOf rows)
-
--- the answer after the last row: what differs, or how many rows there are
-abbrev pub comparedAnswer : Compared → (rows n end : ℕ) → Choices
-comparedAnswer c rows n end = cond (c .differs) (Fault differs (c .place)) (cond (ltb rows n) (Fault differs end) (Read rows))
 
 -- ids and choices, and what unpacking them needs
 pub record Packed (H : ℕ) (lent : List ℕ) (rows : List Row) (choices : List ℕ) : Type 0 where

@@ -1,17 +1,11 @@
-// A row after those before it: its tests, and its place in the table.
+// A row after those before it: what is counted, and its place in the table.
 ghost use mathlib.Core.Path.{_≡_};
-ghost use Prim.Native.Nat.{_*_, _≤_};
-ghost use lib.ListN.{length};
-ghost use Rattle.rules.specs.Limits.{configurationWidth};
-ghost use Rattle.legs.specs.RowOver.{lowest};
+ghost use Rattle.tested.specs.Tests.{Roomy};
 ghost use Rattle.solution.specs.Said.{Alone};
-ghost use Rattle.solution.specs.Before.{countedAs, newAfter, choiceTests, Roomy, Turned};
+ghost use Rattle.solution.specs.Before.{countedAs, Turned};
 use crate::row;
-use ids::Found;
 use legs::line;
 use legs::line::Line;
-use rules::answers::Refusal;
-use rules::sizes::Choice;
 use rules::sizes::Configuration;
 use rules::sizes::Leg;
 
@@ -31,44 +25,6 @@ fn counted_as(line: Line, before: Line) -> Line
     out
 }
 
-// An id above all others is new; another is looked for row by row.
-fn is_new(choices: &[u32], rows: usize, above: u32, id: u32) -> bool
-    requires { ⌜ rows * configurationWidth ≤ length (now choices) ⌝ }
-    ensures { λ r. ⌜ r ≡ newAfter rows above id (now (choices .entry)) ⌝ }
-{
-    if above <= id {
-        return true;
-    }
-    match ids::row_of(choices, Choice::WIDTH, rows, id) {
-        Found::At(_) => false,
-        Found::Nothing => true,
-    }
-}
-
-// The lowest number that the row is at fault by, or 0.
-fn fault(line: Line, h: u32, choices: &[u32]) -> u8
-    requires { ⌜ Roomy line (now choices) ⌝ }
-    ensures { λ r. ⌜ r ≡ lowest (choiceTests h line (now (choices .entry))) ⌝ }
-{
-    if line::out_of_range(line, h) {
-        return Refusal::RANGE;
-    }
-    if line::too_many(line) {
-        return Refusal::COUNT;
-    }
-    let numbers = line.numbers;
-    if is_new(choices, line.rows as usize, line.above, numbers[Leg::ID_AT]) {
-        if line.entries <= line.nominal {
-            return Refusal::NOMINAL;
-        }
-        if choices.len() / Choice::WIDTH <= line.rows as usize {
-            return Refusal::ROOM;
-        }
-        return 0;
-    }
-    Refusal::SEEN
-}
-
 // A line after the rows before: the first fault's number, or the counts with this row among them.
 pub fn turn(bytes: &[u8], h: u32, before: Line, choices: &mut [u32]) -> Line
     requires { ⌜ Alone h (now bytes) × Roomy before (now choices) ⌝ }
@@ -79,7 +35,7 @@ pub fn turn(bytes: &[u8], h: u32, before: Line, choices: &mut [u32]) -> Line
         return alone;
     }
     let line = counted_as(alone, before);
-    let number = fault(line, h, choices);
+    let number = tested::fault(line, h, choices);
     if number != 0 {
         return line::stopped(line, number);
     }

@@ -1,6 +1,4 @@
 // Solutions, row by row: a solution arrives whole.
 pub mod row; // a line by itself
 pub mod after; // a row after those before it
-pub mod compare; // a row against the draft's
-pub mod ends; // where a line ends
 pub mod reader; // a text

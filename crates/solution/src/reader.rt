@@ -2,13 +2,11 @@
 ghost use mathlib.Core.Path.{_≡_};
 ghost use Prim.Native.Nat.{_*_, _≤_};
 ghost use lib.ListN.{length};
-ghost use Rattle.rules.specs.Limits.{mostText, configurationWidth};
+ghost use Rattle.rules.specs.Limits.{configurationWidth};
 ghost use Rattle.solution.specs.Promise.{Able, ChoicesRead};
-ghost use Rattle.solution.specs.Whole.{Headed, RowsRead, comparedAnswer, unpacked};
+ghost use Rattle.solution.specs.Whole.{Headed, RowsRead, unpacked};
 use crate::after;
-use crate::compare;
-use crate::compare::Compared;
-use crate::ends;
+use beside::Choices;
 use legs::line;
 use rules::answers::Refusal;
 use rules::sizes::Choice;
@@ -18,33 +16,13 @@ use rules::sizes::Text;
 use text::words;
 use timetable::reader;
 
-// The first fault's number and place, or how many choices there are.
-pub enum Choices {
-    Fault(u8, u32),
-    Read(u32),
-}
-
-// 14 comes after every other fault; where rows are missing its place is the text's end.
-fn compared_answer(compared: Compared, rows: u32, n: usize, end: usize) -> Choices
-    requires { ⌜ end ≤ mostText ⌝ }
-    ensures { λ r. ⌜ r ≡ comparedAnswer compared rows n end ⌝ }
-{
-    if compared.differs {
-        return Choices::Fault(Refusal::DIFFERS, compared.place);
-    }
-    if (rows as usize) < n {
-        return Choices::Fault(Refusal::DIFFERS, end as u32);
-    }
-    Choices::Read(rows)
-}
-
 // The rows after the header. The table holds ids and choices, packed.
 fn read_rows(text: &[u8], h: u32, legs: &[u32], n: usize, choices: &mut [u32]) -> Choices
     requires { ⌜ Headed h (now text) (now legs) n ⌝ }
     ensures { λ r. ⌜ RowsRead h (now (text .entry)) (now (legs .entry)) n (now (choices .entry)) r (now (choices .exit)) ⌝ }
 {
     let mut line = reader::first_line();
-    let mut compared = compare::none_differs();
+    let mut compared = beside::none_differs();
     let mut i = Leg::HEADER_LENGTH;
     while i < text.len() {
         let place = i as u32;
@@ -58,10 +36,10 @@ fn read_rows(text: &[u8], h: u32, legs: &[u32], n: usize, choices: &mut [u32]) -
             return Choices::Fault(line.fault, place);
         }
         let numbers = line.numbers;
-        compared = compare::compared_with(compared, numbers, legs, n, row, place);
+        compared = beside::compared_with(compared, numbers, legs, n, row, place);
         i = e + 1;
     }
-    compared_answer(compared, line.rows, n, text.len())
+    beside::compared_answer(compared, line.rows, n, text.len())
 }
 
 // The choices of n rows, out of ids and choices.

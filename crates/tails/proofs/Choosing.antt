@@ -13,8 +13,8 @@ use Rattle.rules.specs.declared.sizes.Configuration.{Configuration}
 use Rattle.rules.specs.declared.answers.Refusal.{Refusal}
 use Rattle.laws.proofs.FileRefusals.{Refuses, refuses, choices-refuse}
 use Rattle.laws.proofs.GoodFiles.{files-good}
-use Rattle.solution.specs.declared.reader.Choices.{Choices}
-use Rattle.solution.specs.declared.reader.Choices.the-variants.{Fault, Read}
+use Rattle.beside.specs.declared.Choices.{Choices}
+use Rattle.beside.specs.declared.Choices.the-variants.{Fault, Read}
 use Rattle.solution.specs.Promise.{Able, HoldsRows, choicesAnswer, ChoicesRead}
 use Rattle.files.specs.declared.Counts.{Counts}
 use Rattle.files.proofs.Parted.{same-refusal}

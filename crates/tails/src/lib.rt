@@ -4,13 +4,13 @@ ghost use Rattle.emptied.specs.Lent.{tables};
 ghost use Rattle.files.specs.Promise.{texts};
 ghost use Rattle.tails.specs.Left.{Choosable, Chooses, Ready, Judges};
 ghost use Rattle.tails.specs.Promise.{ReadAndJudged};
+use beside::Choices;
 use files::Counts;
 use files::Filed;
 use rules::answers::Answer;
 use rules::answers::File;
 use rules::answers::Refusal;
 use solution::reader;
-use solution::reader::Choices;
 
 pub enum Chosen {
     Whole,

@@ -1,4 +1,3 @@
-pub mod RowPlaces
 pub mod Parted
 pub mod Fronts
 pub mod DraftWays

@@ -3,7 +3,6 @@ ghost use Rattle.emptied.specs.Lent.{tables};
 ghost use Rattle.files.specs.Promise.{texts, FilesRead};
 use rules::answers::Refusal;
 
-pub mod places; // where a row starts
 pub mod parts; // the draft; profiles, 12 and 13; constraints, 15
 
 // How many entries the tables hold.

@@ -2,8 +2,8 @@
 ghost use Rattle.files.specs.Parts.{DraftRead, Listed, PowersRead, Drafted, RulesRead};
 use crate::Counts;
 use crate::Filed;
-use crate::places;
 use constraints::Read;
+use found::places;
 use ids::Found;
 use rows::lists;
 use rows::lists::Fault;

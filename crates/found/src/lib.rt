@@ -1,9 +1,11 @@
-// "For display, the row at a refusal's file and place is handed back as a part of whichever text holds it" (document 01).
+// Rows by their places. "For display, the row at a refusal's file and place is handed back as a part of whichever text holds it" (document 01).
 ghost use mathlib.Core.Path.{_≡_};
 ghost use Rattle.rules.specs.Display.{startsRow, rowIn, rowAt};
 ghost use Rattle.found.specs.Starts.{startIn, startAt};
 use rules::answers::File;
 use text::pieces;
+
+pub mod places; // where a row starts, and a refusal there
 
 const LINE_FEED: u8 = b'\n';
 

@@ -11,7 +11,7 @@ ghost use Rattle.order.specs.Order.{travelAnswer, roomAnswer, firstOf};
 use either::Travels;
 use emptied::acceptance;
 use files::Counts;
-use files::places;
+use found::places;
 use rules::answers::Answer;
 use rules::answers::File;
 use rules::answers::Refusal;

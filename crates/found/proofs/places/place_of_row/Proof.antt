@@ -1,13 +1,13 @@
--- `files::places::place_of_row` meets its contract: what is left from the loop's place on has the rows that are left. Assumes nothing.
+-- `found::places::place_of_row` meets its contract: what is left from the loop's place on has the rows that are left. Assumes nothing.
 use borrow.Author.Needs.{needs}
 use Prim.Native.Nat.{_+_, _-_, _≤_}
 use mathlib.Core.Path.{_≡_}
 use mathlib.Core.Logic.{⊎-elim}
 use lib.ListN.{length, drop}
 use Rattle.rules.specs.Rows.{placeOfRow}
-use Rattle.files.proofs.RowPlaces.{row-here, row-on, byte-on, row-past}
-use Rattle.files.proofs.places.place_of_row.Statement.{statement}
-use Rattle.files.proofs.places.place_of_row.Tie as tie
+use Rattle.found.proofs.RowPlaces.{row-here, row-on, byte-on, row-past}
+use Rattle.found.proofs.places.place_of_row.Statement.{statement}
+use Rattle.found.proofs.places.place_of_row.Tie as tie
 
 abbrev Inv-loop : tie.InvT-loop
 Inv-loop text row left₀ at₀ left at = (at ≤ length text) × (at + placeOfRow (drop at text) left ≡ placeOfRow text row)

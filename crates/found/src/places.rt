@@ -5,9 +5,8 @@ ghost use lib.ListN.{length};
 ghost use Rattle.rules.specs.Limits.{mostText};
 ghost use Rattle.rules.specs.Answers.{refusal};
 ghost use Rattle.rules.specs.Rows.{placeOfRow};
+use crate::LINE_FEED;
 use rules::answers::Refusal;
-
-const LINE_FEED: u8 = b'\n';
 
 // The header is a text's first line, so a row starts behind one line feed more than there are rows before it.
 pub fn place_of_row(text: &[u8], row: usize) -> usize

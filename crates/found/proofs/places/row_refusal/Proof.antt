@@ -1,9 +1,9 @@
--- `files::places::row_refusal` meets its contract: a place in a text of lawful length fits. Assumes nothing.
+-- `found::places::row_refusal` meets its contract: a place in a text of lawful length fits. Assumes nothing.
 use native.Mathlib.Omega.{arith}
 use borrow.Author.Needs.{needs}
-use Rattle.files.proofs.RowPlaces.{place-most}
-use Rattle.files.proofs.places.row_refusal.Statement.{statement}
-use Rattle.files.proofs.places.row_refusal.Tie as tie
+use Rattle.found.proofs.RowPlaces.{place-most}
+use Rattle.found.proofs.places.row_refusal.Statement.{statement}
+use Rattle.found.proofs.places.row_refusal.Tie as tie
 
 place-of-row-requires : tie.Need-place-of-row-requires
 place-of-row-requires c κs = search needs

@@ -28,15 +28,15 @@ fn read_named(path: &[u8], room: &mut [u8]) -> Taken
 }
 
 fn say_name(file: u8, path: &[u8]) {
-    say::file(file);
-    say::text(b": ");
+    say::sentence(b"%f: ", &[file as u64]);
     say::bytes(path);
 }
 
 fn too_long() {
-    say::text(b" is longer than the ");
-    say::number(Room::MOST_TEXT as u64);
-    say::text(b" bytes that this program takes\n");
+    say::sentence(
+        b" is longer than the %n bytes that this program takes\n",
+        &[Room::MOST_TEXT as u64],
+    );
 }
 
 // Whether a file can be judged; says what is wrong with one that cannot. A room is one byte greater than a text may be.
@@ -89,9 +89,7 @@ pub fn store(at: usize, text: &[u8]) -> bool {
     say::text(b"merged timetable: ");
     say::bytes(&path[..length]);
     if whole {
-        say::text(b", bytes ");
-        say::number(text.len() as u64);
-        say::text(b"\n");
+        say::sentence(b", bytes %n\n", &[text.len() as u64]);
     } else {
         say::text(b" could not be written, or is there already\n");
     }

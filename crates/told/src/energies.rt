@@ -3,34 +3,35 @@ use crate::say;
 use rules::figures::Figures;
 use rules::figures::Peak;
 
-fn energy(name: &[u8], kj: u64) {
-    say::text(name);
-    say::number(kj);
-    say::text(b" kJ, ");
-    say::mwh(kj);
-    say::text(b" MWh\n");
-}
-
 fn peak(name: &[u8], h: u32, p: Peak) {
     say::text(name);
     say::peak(h, p);
     say::text(b"\n");
 }
 
-// The greatest less the least, which is never below 0.
-fn fluctuation(kw: i64) {
-    say::text(b"fluctuation: ");
-    say::number(signs::above(kw));
-    say::text(b" kW\n");
+// The fluctuation is the greatest less the least, which is never below 0.
+fn totals(g: Figures) {
+    say::sentence(
+        b"before recuperation: %n kJ, %e MWh\n\
+          drawn: %n kJ, %e MWh\n\
+          lost: %n kJ, %e MWh\n\
+          fluctuation: %n kW\n",
+        &[
+            g.before,
+            g.before,
+            g.drawn,
+            g.drawn,
+            g.lost,
+            g.lost,
+            signs::above(g.fluctuation),
+        ],
+    );
 }
 
 // H says whether there is a whole quarter.
 pub fn tell(h: u32, g: Figures) {
     let peaks = g.peaks;
-    energy(b"before recuperation: ", g.before);
-    energy(b"drawn: ", g.drawn);
-    energy(b"lost: ", g.lost);
-    fluctuation(g.fluctuation);
+    totals(g);
     peak(b"peak quarter before recuperation: ", h, peaks.before);
     peak(b"peak quarter drawn: ", h, peaks.drawn);
 }

@@ -1,4 +1,4 @@
-// The three answers in words, on standard output. What is written of numbers, times and names is crate `words`'; the sentences stand here.
+// The three answers in words, on standard output. What is written of numbers and times is crate `words`', of names `names`', of bytes `escapes`'; the sentences stand here.
 pub mod say; // standard output
 pub mod refusals; // refused: number and meaning, file, place, row
 pub mod readings; // accepted: how much was read

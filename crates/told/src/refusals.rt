@@ -13,14 +13,10 @@ fn show_row(row: &[u8]) {
 
 // `row`: the row at the refusal's file and place; empty where there is none.
 pub fn refused(r: Refusal, row: &[u8]) {
-    say::text(b"refused ");
-    say::number(r.number as u64);
-    say::text(b": ");
-    say::meaning(r.number);
-    say::text(b"\nfile: ");
-    say::file(r.file);
-    say::text(b", place: ");
-    say::number(r.place as u64);
-    say::text(b"\n");
+    let number = r.number as u64;
+    say::sentence(
+        b"refused %n: %m\nfile: %f, place: %n\n",
+        &[number, number, r.file as u64, r.place as u64],
+    );
     show_row(row);
 }

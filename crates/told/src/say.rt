@@ -1,100 +1,105 @@
-// Standard output: texts, and what crate `words` makes of numbers, times and names.
+// Standard output: texts, and sentences with what is written of numbers, times and names.
 use libc::STDOUT_FILENO;
 use rules::figures::Peak;
+use text::pieces;
 use words::energies;
-use words::names;
 use words::numbers;
-use words::shown;
 use words::times;
 
 // More bytes than any number, time or name has.
 const LINE: usize = 128;
 
-// What crate `words` writes.
-enum Word {
-    Number(u64),
-    Time(u64),
-    Mwh(u64),
-    // H, and the peak quarter within it.
-    Peak(u32, Peak),
-    Kind(u8),
-    List(u8),
-    // A kind, and one of its inequalities.
-    Formula(u8, u8),
-    Meaning(u8),
-    File(u8),
-    Byte(u8),
-}
+// Stands in a sentence before the letter of a word.
+const MARK: u8 = b'%';
+
+// A kind, a file, a refusal's number and a byte are below it.
+const BYTES: u64 = 256;
+
+// The letter of a number of things, in words where there are none.
+const COUNT: u8 = b'c';
+
+// The letter of a byte.
+const BYTE: u8 = b'b';
 
 pub fn text(s: &[u8]) {
     io::write_all(STDOUT_FILENO, s);
 }
 
-// At the front of a line; the place after it.
-fn put(line: &mut [u8], word: Word) -> usize {
-    match word {
-        Word::Number(n) => numbers::put_whole(line, 0, n),
-        Word::Time(seconds) => times::put_time(line, 0, seconds),
-        Word::Mwh(kj) => energies::put_mwh(line, 0, kj),
-        Word::Peak(h, p) => energies::put_peak(line, 0, h, p),
-        Word::Kind(kind) => names::put_kind(line, 0, kind),
-        Word::List(kind) => names::put_list(line, 0, kind),
-        Word::Formula(kind, inequality) => names::put_formula(line, 0, kind, inequality),
-        Word::Meaning(number) => names::put_meaning(line, 0, number),
-        Word::File(file) => names::put_file(line, 0, file),
-        Word::Byte(b) => shown::put_shown(line, 0, b),
+// A number as the word of a letter, at the front of a line; the place after it.
+fn put(line: &mut [u8], letter: u8, n: u64) -> usize {
+    let number = (n % BYTES) as u8;
+    match letter {
+        b't' => times::put_time(line, 0, n),
+        b'e' => energies::put_mwh(line, 0, n),
+        b'k' => names::put_kind(line, 0, number),
+        b'l' => names::put_list(line, 0, number),
+        b'm' => names::put_meaning(line, 0, number),
+        b'f' => names::put_file(line, 0, number),
+        BYTE => escapes::put_shown(line, 0, number),
+        _ => numbers::put_whole(line, 0, n),
     }
 }
 
-fn show(word: Word) {
-    let mut line = [0u8; LINE];
-    let end = put(&mut line, word);
-    if end <= LINE {
+// The front of a line.
+fn front(line: &[u8], end: usize) {
+    if end <= line.len() {
         text(&line[0..end]);
     }
 }
 
-pub fn number(n: u64) {
-    show(Word::Number(n));
+fn word(letter: u8, n: u64) {
+    let mut line = [0u8; LINE];
+    let end = put(&mut line, letter, n);
+    front(&line, end);
 }
 
-pub fn time(seconds: u64) {
-    show(Word::Time(seconds));
+fn counted(letter: u8, n: u64) {
+    if letter == COUNT && n == 0 {
+        text(b"none");
+        return;
+    }
+    word(letter, n);
 }
 
-pub fn mwh(kj: u64) {
-    show(Word::Mwh(kj));
+// A sentence with a mark and a letter for each number: a time (t), an energy in MWh (e), a kind (k), a kind's list (l), a meaning (m), a file (f),
+// how many there are (c), or the number itself (n).
+pub fn sentence(s: &[u8], numbers: &[u64]) {
+    let mut start = 0;
+    let mut k = 0;
+    while k < numbers.len() {
+        let mark = pieces::find(s, MARK, start);
+        if s.len() <= mark {
+            return;
+        }
+        text(&s[start..mark]);
+        start = mark + 1;
+        if s.len() <= start {
+            return;
+        }
+        counted(s[start], numbers[k]);
+        start += 1;
+        k += 1;
+    }
+    text(&s[start..]);
 }
 
 pub fn peak(h: u32, p: Peak) {
-    show(Word::Peak(h, p));
-}
-
-pub fn kind(kind: u8) {
-    show(Word::Kind(kind));
-}
-
-pub fn list(kind: u8) {
-    show(Word::List(kind));
+    let mut line = [0u8; LINE];
+    let end = energies::put_peak(&mut line, 0, h, p);
+    front(&line, end);
 }
 
 pub fn formula(kind: u8, inequality: u8) {
-    show(Word::Formula(kind, inequality));
-}
-
-pub fn meaning(number: u8) {
-    show(Word::Meaning(number));
-}
-
-pub fn file(file: u8) {
-    show(Word::File(file));
+    let mut line = [0u8; LINE];
+    let end = names::put_formula(&mut line, 0, kind, inequality);
+    front(&line, end);
 }
 
 // Bytes of a file, or of a word that a person gave.
 pub fn bytes(s: &[u8]) {
     let mut i = 0;
     while i < s.len() {
-        show(Word::Byte(s[i]));
+        word(BYTE, s[i] as u64);
         i += 1;
     }
 }
@@ -114,6 +119,5 @@ pub fn answer(word: &[u8]) {
 // Where nothing was answered, why.
 pub fn no_answer(why: &[u8]) {
     text(why);
-    text(b"\n");
-    answer(b"none");
+    text(b"\nanswer: none\n");
 }

@@ -1,6 +1,7 @@
 -- `told::say::bytes` goes over every byte once. Assumes nothing.
 use Prim.Native.Nat.{_-_, _≤_}
 use lib.ListN.{length}
+use native.Mathlib.Omega.{arith}
 use borrow.Author.Needs.{needs}
 use Rattle.told.proofs.say.bytes.Statement.{statement}
 use Rattle.told.proofs.say.bytes.Tie as tie
@@ -14,11 +15,14 @@ abbrev μ-loop : tie.MeasureT-loop
 loop-holds : tie.Need-loop-holds Inv-loop μ-loop
 loop-holds c = search needs
 
-shared-slice-read-t7 : tie.Need-shared-slice-read-t7 Inv-loop μ-loop
-shared-slice-read-t7 c = search needs
+shared-slice-read-word : tie.Need-shared-slice-read-word Inv-loop μ-loop
+shared-slice-read-word c = search needs
 
-show-requires : tie.Need-show-requires Inv-loop μ-loop
-show-requires c κs = search needs
+cast-word : tie.Need-cast-word Inv-loop μ-loop
+cast-word c = omega (arith, c .shared-slice-known2 .given (c .before .before .loop .i))
+
+word-requires : tie.Need-word-requires Inv-loop μ-loop
+word-requires c κs = search needs
 
 add-i : tie.Need-add-i Inv-loop μ-loop
 add-i c = search needs
@@ -33,4 +37,4 @@ returns : tie.Need-returns Inv-loop μ-loop
 returns c = search needs
 
 pub bytes-spec : {M : Type 1} → statement M
-bytes-spec = tie.close (tie.spec Inv-loop μ-loop loop-holds shared-slice-read-t7 show-requires add-i loop-less loop-again returns)
+bytes-spec = tie.close (tie.spec Inv-loop μ-loop loop-holds shared-slice-read-word cast-word word-requires add-i loop-less loop-again returns)

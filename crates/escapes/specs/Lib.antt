@@ -1,0 +1,3 @@
+pub mod Shown
+-- Computed.
+pub mod Examples

@@ -30,7 +30,7 @@ use Rattle.energy.specs.Parts.{sidesOf}
 use Rattle.energy.specs.Quarters.{drawnBy, withRun, RunRoom}
 use Rattle.figures.specs.declared.before.Before.{Before}
 use Rattle.energy.specs.declared.sides.Sides.{Sides}
-use Rattle.figures.proofs.Adding.{all-within}
+use Rattle.windows.proofs.Adding.{all-within}
 use Rattle.energy.proofs.QuarterSteps.{sum-most}
 use Rattle.energy.proofs.QuarterSums.{sums-none, sums-with, sums-small}
 use Rattle.figures.proofs.LegSteps.{part-is, leg-powered, leg-fits, few-legs}

@@ -29,7 +29,7 @@ use Rattle.laws.proofs.Bounds.{power-bound}
 use Rattle.laws.proofs.Tabulate.{tabulate-length, tabulate-at}
 use Rattle.energy.specs.Parts.{sidesOf}
 use Rattle.energy.specs.Quarters.{greatestSum}
-use Rattle.figures.specs.Curves.{CurveTable, powerIn, drawnIn, totalIn, quartersIn, fluctuationIn}
+use Rattle.curves.specs.Curves.{CurveTable, powerIn, drawnIn, totalIn, quartersIn, fluctuationIn}
 use Rattle.figures.specs.Before.{beforeThen, beforeSums}
 use Rattle.figures.specs.Given.{Runs, Given, chosen, sampled, homes, curvesSeen, Readable}
 use Rattle.figures.specs.Worked.{figuresIn, figuresSeen, Worked}
@@ -37,7 +37,7 @@ use Rattle.figures.specs.declared.before.Before.{Before}
 use Rattle.energy.specs.declared.sides.Sides.{Sides}
 use Rattle.energy.proofs.Listed.{sum-places, sum-tabulated, sum-rows}
 use Rattle.energy.proofs.QuarterSums.{peak-is, peak-same}
-use Rattle.figures.proofs.Totals.{fluctuation-fits}
+use Rattle.curves.proofs.Totals.{fluctuation-fits}
 use Rattle.figures.proofs.LegsLaid.{curves-length}
 
 -- ---- in the terms of the code

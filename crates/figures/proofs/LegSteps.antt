@@ -25,8 +25,8 @@ use Rattle.laws.proofs.Tabulate.{tabulate-length}
 use Rattle.energy.specs.Seen.{profileOr, profileSeen, samplesSeen, homeIn}
 use Rattle.figures.specs.Given.{Runs, Given, sampled, ReadableRuns}
 use Rattle.figures.specs.Legs.{Laying, laidLeg}
-use Rattle.figures.specs.Room.{HomeRoom}
-use Rattle.figures.proofs.Homes.{home-back}
+use Rattle.windows.specs.Room.{HomeRoom}
+use Rattle.windows.proofs.Homes.{home-back}
 
 -- ---- of each element, of one
 

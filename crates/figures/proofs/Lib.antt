@@ -1,10 +1,5 @@
-pub mod Adding
-pub mod Cutting
-pub mod Homes
 pub mod LegSteps
 pub mod LegsLaid
-pub mod CurveSums
-pub mod Totals
 pub mod BeforeSteps
 pub mod Figured
 pub mod Reading

@@ -10,7 +10,7 @@ use Rattle.rules.specs.declared.sizes.Configuration.{Configuration}
 use Rattle.rules.specs.declared.figures.Figures.{Figures}
 use Rattle.energy.specs.Parts.{sidesOf}
 use Rattle.energy.specs.Quarters.{greatestSum}
-use Rattle.figures.specs.Curves.{quartersIn, fluctuationIn}
+use Rattle.curves.specs.Curves.{quartersIn, fluctuationIn}
 use Rattle.figures.specs.Before.{beforeSums}
 use Rattle.figures.specs.Given.{Runs, Given, chosen, sampled, homes, curvesSeen}
 

@@ -3,17 +3,16 @@ ghost use mathlib.Core.Path.{_≡_};
 ghost use Prim.Native.Nat.{_*_, _≤_};
 ghost use lib.ListN.{length};
 ghost use Rattle.figures.specs.Given as tables;
-ghost use Rattle.figures.specs.Curves.{CurveTable};
+ghost use Rattle.curves.specs.Curves.{CurveTable};
 ghost use Rattle.figures.specs.Worked.{Worked, figuresIn};
 use energy::quarters;
 use energy::runs::Counts;
 use energy::sides;
-use laying::Window;
 use rules::figures::Figures;
 use rules::figures::Peaks;
+use windows::Window;
 
 pub mod before; // before recuperation
-pub mod curves; // sums over the curve table
 pub mod laying; // the curves, each leg's samples added once
 
 // Of the curves of a whole horizon, and of the runs.

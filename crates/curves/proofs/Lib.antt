@@ -1,0 +1,2 @@
+pub mod CurveSums
+pub mod Totals

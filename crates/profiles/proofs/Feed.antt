@@ -16,8 +16,8 @@ use Rattle.lines.proofs.Fold.{fold-drop, fold-end}
 use Rattle.lines.proofs.Machine.{stopped-stays}
 use Rattle.samples.specs.declared.number.Number.{Number}
 use Rattle.samples.specs.declared.number.Number.the-variants.{Empty}
-use Rattle.profiles.specs.declared.quick.Spaced.{Spaced}
-use Rattle.profiles.specs.declared.quick.Spaced.the-variants.{At}
+use Rattle.quick.specs.declared.Spaced.{Spaced}
+use Rattle.quick.specs.declared.Spaced.the-variants.{At}
 use Rattle.samples.specs.declared.row.Past.{Past}
 use Rattle.samples.specs.declared.row.Listed.{Listed}
 use Rattle.samples.specs.declared.sample.Tail.{Tail}
@@ -30,7 +30,7 @@ use Rattle.powers.specs.Open.{start, openStep, openEnd, Reached, reach}
 use Rattle.samples.specs.Row.{ClosesTo}
 use Rattle.powers.specs.Holds.{Holds, in-header, in-id, in-whole, in-fraction, at-stop, Live, Steps, reading, Leads, Leap}
 use Rattle.profiles.specs.Feeds.{Feeds, countIn, ManyRead, Skips, Quickens}
-use Rattle.profiles.specs.Quick.{Samples, lasting}
+use Rattle.quick.specs.Quick.{Samples, lasting}
 use Rattle.powers.proofs.Fraction.{fraction-space}
 use Rattle.powers.proofs.Leaps.{leap-none, leap-then, leap-step}
 

@@ -1,3 +1,2 @@
-pub mod Quick
 pub mod Feeds
 pub mod Reads

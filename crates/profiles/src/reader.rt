@@ -1,8 +1,7 @@
 // The text of profiles.csv, whole or in parts.
-use crate::quick;
-use crate::quick::Spaced;
 use powers::state;
 use powers::state::State;
+use quick::Spaced;
 use rules::answers::File;
 use rules::answers::Refusal;
 use rules::sizes::Text;

@@ -1,8 +1,8 @@
--- `profiles::quick::point_at` meets its contract: the point behind a number. Assumes nothing.
-use Rattle.profiles.proofs.Looks.{quick}
+-- `quick::point_at` meets its contract: the point behind a number. Assumes nothing.
+use Rattle.quick.proofs.Looks.{quick}
 use borrow.Author.Needs.{needs}
-use Rattle.profiles.proofs.quick.point_at.Statement.{statement}
-use Rattle.profiles.proofs.quick.point_at.Tie as tie
+use Rattle.quick.proofs.point_at.Statement.{statement}
+use Rattle.quick.proofs.point_at.Tie as tie
 
 returns : tie.Need-returns
 returns c = search (quick, needs)

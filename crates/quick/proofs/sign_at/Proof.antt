@@ -1,8 +1,8 @@
--- `profiles::quick::sign_at` meets its contract: a minus, or none. Assumes nothing.
-use Rattle.profiles.proofs.Looks.{quick}
+-- `quick::sign_at` meets its contract: a minus, or none. Assumes nothing.
+use Rattle.quick.proofs.Looks.{quick}
 use borrow.Author.Needs.{needs}
-use Rattle.profiles.proofs.quick.sign_at.Statement.{statement}
-use Rattle.profiles.proofs.quick.sign_at.Tie as tie
+use Rattle.quick.proofs.sign_at.Statement.{statement}
+use Rattle.quick.proofs.sign_at.Tie as tie
 
 shared-slice-read-if1 : tie.Need-shared-slice-read-if1
 shared-slice-read-if1 c = search needs

@@ -1,10 +1,10 @@
--- `profiles::quick::fraction_at` meets its contract. The invariant: the digits up to i lead from the point to the digits as they are. Assumes nothing.
+-- `quick::fraction_at` meets its contract. The invariant: the digits up to i lead from the point to the digits as they are. Assumes nothing.
 use borrow.Author.Needs.{needs}
-use Rattle.profiles.proofs.Looks.{Fractioning, quick}
+use Rattle.quick.proofs.Looks.{Fractioning, quick}
 use Prim.Native.Nat.{_-_}
 use lib.ListN.{length}
-use Rattle.profiles.proofs.quick.fraction_at.Statement.{statement}
-use Rattle.profiles.proofs.quick.fraction_at.Tie as tie
+use Rattle.quick.proofs.fraction_at.Statement.{statement}
+use Rattle.quick.proofs.fraction_at.Tie as tie
 
 abbrev Inv-loop : tie.InvT-loop
 Inv-loop part from negative whole digits₀ value₀ i₀ digits value i = Fractioning part from negative whole digits value i

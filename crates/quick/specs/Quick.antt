@@ -7,12 +7,12 @@ use lib.ListN.{length, getD}
 use Rattle.rules.specs.Bytes.{minus, space}
 use Rattle.samples.specs.declared.number.Number.{Number}
 use Rattle.samples.specs.declared.number.Number.the-variants.{Empty, Digits}
-use Rattle.profiles.specs.declared.quick.Run.{Run}
-use Rattle.profiles.specs.declared.quick.Pointed.{Pointed}
-use Rattle.profiles.specs.declared.quick.Pointed.the-variants.{At, Miss}
-use Rattle.profiles.specs.declared.quick.Sign.{Sign}
-use Rattle.profiles.specs.declared.quick.Spaced.{Spaced}
-use Rattle.profiles.specs.declared.quick.Spaced.the-variants.{At as SpaceAt, Miss as NoSpace}
+use Rattle.quick.specs.declared.Run.{Run}
+use Rattle.quick.specs.declared.Pointed.{Pointed}
+use Rattle.quick.specs.declared.Pointed.the-variants.{At, Miss}
+use Rattle.quick.specs.declared.Sign.{Sign}
+use Rattle.quick.specs.declared.Spaced.{Spaced}
+use Rattle.quick.specs.declared.Spaced.the-variants.{At as SpaceAt, Miss as NoSpace}
 use Rattle.samples.specs.declared.row.Past.{Past}
 use Rattle.samples.specs.declared.row.Listed.{Listed}
 use Rattle.samples.specs.declared.sample.Tail.{Tail}

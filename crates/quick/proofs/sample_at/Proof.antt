@@ -1,8 +1,8 @@
--- `profiles::quick::sample_at` meets its contract: the number behind its sign. Assumes nothing.
-use Rattle.profiles.proofs.Looks.{quick}
+-- `quick::sample_at` meets its contract: the number behind its sign. Assumes nothing.
+use Rattle.quick.proofs.Looks.{quick}
 use borrow.Author.Needs.{needs}
-use Rattle.profiles.proofs.quick.sample_at.Statement.{statement}
-use Rattle.profiles.proofs.quick.sample_at.Tie as tie
+use Rattle.quick.proofs.sample_at.Statement.{statement}
+use Rattle.quick.proofs.sample_at.Tie as tie
 
 returns : tie.Need-returns
 returns c = search (quick, needs)

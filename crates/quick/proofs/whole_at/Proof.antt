@@ -1,8 +1,8 @@
--- `profiles::quick::whole_at` meets its contract: a first digit, the digits behind it and the point. Assumes nothing.
-use Rattle.profiles.proofs.Looks.{quick}
+-- `quick::whole_at` meets its contract: a first digit, the digits behind it and the point. Assumes nothing.
+use Rattle.quick.proofs.Looks.{quick}
 use borrow.Author.Needs.{needs}
-use Rattle.profiles.proofs.quick.whole_at.Statement.{statement}
-use Rattle.profiles.proofs.quick.whole_at.Tie as tie
+use Rattle.quick.proofs.whole_at.Statement.{statement}
+use Rattle.quick.proofs.whole_at.Tie as tie
 
 returns : tie.Need-returns
 returns c = search (quick, needs)

@@ -1,10 +1,10 @@
--- `profiles::quick::digit_run` meets its contract. The invariant: the digits up to i lead from the number at the start to the number as it is. Assumes nothing.
+-- `quick::digit_run` meets its contract. The invariant: the digits up to i lead from the number at the start to the number as it is. Assumes nothing.
 use borrow.Author.Needs.{needs}
-use Rattle.profiles.proofs.Looks.{Running, quick}
+use Rattle.quick.proofs.Looks.{Running, quick}
 use Prim.Native.Nat.{_-_}
 use lib.ListN.{length}
-use Rattle.profiles.proofs.quick.digit_run.Statement.{statement}
-use Rattle.profiles.proofs.quick.digit_run.Tie as tie
+use Rattle.quick.proofs.digit_run.Statement.{statement}
+use Rattle.quick.proofs.digit_run.Tie as tie
 
 abbrev Inv-loop : tie.InvT-loop
 Inv-loop part from value v₀ i₀ v i = Running part from value v i

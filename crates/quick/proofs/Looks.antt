@@ -11,18 +11,18 @@ use Rattle.samples.specs.declared.number.Number.the-variants.{Empty, Zero, Digi
 use Rattle.samples.specs.declared.number.Pushed.the-variants.{To}
 use Rattle.samples.specs.declared.number.Ended.{Ended}
 use Rattle.samples.specs.declared.number.Ended.the-variants.{Value}
-use Rattle.profiles.specs.declared.quick.Run.{Run}
-use Rattle.profiles.specs.declared.quick.Pointed.{Pointed}
-use Rattle.profiles.specs.declared.quick.Pointed.the-variants.{At}
-use Rattle.profiles.specs.declared.quick.Sign.{Sign}
-use Rattle.profiles.specs.declared.quick.Spaced.{Spaced}
+use Rattle.quick.specs.declared.Run.{Run}
+use Rattle.quick.specs.declared.Pointed.{Pointed}
+use Rattle.quick.specs.declared.Pointed.the-variants.{At}
+use Rattle.quick.specs.declared.Sign.{Sign}
+use Rattle.quick.specs.declared.Spaced.{Spaced}
 use Rattle.samples.specs.declared.row.Past.{Past}
 use Rattle.samples.specs.declared.row.Listed.{Listed}
 use Rattle.powers.specs.declared.state.State.the-variants.{Whole, Fraction}
 use Rattle.samples.specs.Sample.{mostDigits}
 use Rattle.samples.specs.Near.{cap, Ends}
 use Rattle.powers.specs.Holds.{Jump}
-use Rattle.profiles.specs.Quick.{Runs, tail, Points, missed, pointed, Spaces, unspaced, spaced, unlasting, lasting, Fractions, Signs, signed, unsigned, Samples}
+use Rattle.quick.specs.Quick.{Runs, tail, Points, missed, pointed, Spaces, unspaced, spaced, unlasting, lasting, Fractions, Signs, signed, unsigned, Samples}
 use Rattle.samples.proofs.Near.{pushes-zero, pushes-first, pushes-next}
 use Rattle.powers.proofs.Steps.{whole-digits, point-value, minus-first}
 use Rattle.powers.proofs.Fraction.{fraction-digits}

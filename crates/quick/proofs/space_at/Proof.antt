@@ -1,8 +1,8 @@
--- `profiles::quick::space_at` meets its contract: a space behind a digit. Assumes nothing.
+-- `quick::space_at` meets its contract: a space behind a digit. Assumes nothing.
 use borrow.Author.Needs.{needs}
-use Rattle.profiles.proofs.Looks.{quick}
-use Rattle.profiles.proofs.quick.space_at.Statement.{statement}
-use Rattle.profiles.proofs.quick.space_at.Tie as tie
+use Rattle.quick.proofs.Looks.{quick}
+use Rattle.quick.proofs.space_at.Statement.{statement}
+use Rattle.quick.proofs.space_at.Tie as tie
 
 returns : tie.Need-returns
 returns c = search (quick, needs)

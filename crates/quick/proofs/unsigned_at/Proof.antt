@@ -1,8 +1,8 @@
--- `profiles::quick::unsigned_at` meets its contract: the whole part, then the digits past the point. Assumes nothing.
-use Rattle.profiles.proofs.Looks.{quick}
+-- `quick::unsigned_at` meets its contract: the whole part, then the digits past the point. Assumes nothing.
+use Rattle.quick.proofs.Looks.{quick}
 use borrow.Author.Needs.{needs}
-use Rattle.profiles.proofs.quick.unsigned_at.Statement.{statement}
-use Rattle.profiles.proofs.quick.unsigned_at.Tie as tie
+use Rattle.quick.proofs.unsigned_at.Statement.{statement}
+use Rattle.quick.proofs.unsigned_at.Tie as tie
 
 whole-at-requires : tie.Need-whole-at-requires
 whole-at-requires c κs = search needs

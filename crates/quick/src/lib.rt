@@ -1,11 +1,11 @@
-// Whole samples of a list at once: numbers in registers, the state touched at the spaces alone. What is no whole sample is left for `state::step`.
+// Whole samples of a list at once: numbers in registers, the state touched at the spaces alone. What is no whole sample is left for `powers::state::step`.
 use samples::number;
 use samples::number::Ended;
 use samples::number::Number;
 use samples::sample::Tail;
 ghost use Prim.Native.Nat.{_≤_, _<_};
 ghost use lib.ListN.{length};
-ghost use Rattle.profiles.specs.Quick.{Runs, Points, Spaces, Fractions, Signs, Samples};
+ghost use Rattle.quick.specs.Quick.{Runs, Points, Spaces, Fractions, Signs, Samples};
 ghost use mathlib.Core.Bool.{false};
 
 // Digits after others: the number that they make, and the place behind them.

@@ -1,4 +1,4 @@
-// The rows before and the open row, but for its open number: what closes each number, what an entry changes, and the tests of a row that is over.
+// The rows before and the open row, but for its open number: what closes each number, what an entry changes, a row that is over, and the row after it.
 ghost use mathlib.Core.Path.{_≡_};
 ghost use mathlib.Core.Bool.{true, not, cond};
 ghost use mathlib.Core.List.{[], _∷_};
@@ -9,8 +9,7 @@ ghost use lib.Seq.{sets};
 ghost use Rattle.rules.specs.Limits.{mostId, mostListed, legWidth, configurationWidth};
 ghost use Rattle.rules.specs.Timetable.{configuration, inRange, same, legNumbers};
 ghost use Rattle.legs.specs.Slots.{separatorOf, nominalOf, entryOf};
-ghost use Rattle.legs.specs.RowOver.{rangeHolds, countsHold, isNew, roomHolds, lineTests, lowest, legHeld, storedAt, storedLeg, stoppedWith, Bounded, nextLine};
-use rules::answers::Refusal;
+ghost use Rattle.legs.specs.RowOver.{rangeHolds, countsHold, legHeld, storedAt, storedLeg, stoppedWith, Bounded, nextLine};
 use rules::sizes::Configuration;
 use rules::sizes::ConfigurationMade;
 use rules::sizes::Id;
@@ -168,59 +167,6 @@ pub fn too_many(line: Line) -> bool
         return true;
     }
     Configuration::MOST < line.configurations as usize + line.entries as usize
-}
-
-// An id above all others is new; another is looked for row by row.
-fn is_new(legs: &[u32], rows: u32, above: u32, id: u32) -> bool
-    ensures { λ r. ⌜ r ≡ isNew rows above id (now (legs .entry)) ⌝ }
-{
-    if above <= id {
-        return true;
-    }
-    let n = rows as usize;
-    if legs.len() / Leg::WIDTH < n {
-        return true;
-    }
-    let mut i = 0;
-    while i < n {
-        if legs[i * Leg::WIDTH + Leg::ID_AT] == id {
-            return false;
-        }
-        i += 1;
-    }
-    true
-}
-
-fn no_room(line: Line, legs: usize, configurations: usize) -> bool
-    ensures { λ r. ⌜ r ≡ not (roomHolds line legs configurations) ⌝ }
-{
-    if legs / Leg::WIDTH <= line.rows as usize {
-        return true;
-    }
-    configurations / Configuration::WIDTH < line.configurations as usize + line.entries as usize
-}
-
-// The lowest number that the row is at fault by, or 0.
-pub fn fault(line: Line, h: u32, legs: &[u32], room: usize) -> u8
-    ensures { λ r. ⌜ r ≡ lowest (lineTests h line (now (legs .entry)) room) ⌝ }
-{
-    if out_of_range(line, h) {
-        return Refusal::RANGE;
-    }
-    if too_many(line) {
-        return Refusal::COUNT;
-    }
-    let numbers = line.numbers;
-    if is_new(legs, line.rows, line.above, numbers[Leg::ID_AT]) {
-        if line.entries <= line.nominal {
-            return Refusal::NOMINAL;
-        }
-        if no_room(line, legs.len(), room) {
-            return Refusal::ROOM;
-        }
-        return 0;
-    }
-    Refusal::SEEN
 }
 
 // The row's leg, as its constructor makes it.

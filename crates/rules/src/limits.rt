@@ -24,43 +24,45 @@ use crate::sizes::Track;
 use crate::tokens::Lists;
 
 // Sizes and widths, in the order of specs/Ties.antt.
+const LIMITS: [u64; 32] = [
+    Horizon::LEAST as u64,
+    Horizon::MOST as u64,
+    Horizon::QUARTER as u64,
+    Horizon::QUARTERS as u64,
+    Id::MOST as u64,
+    Text::MOST as u64,
+    Configuration::WIDTH as u64,
+    Configuration::MOST as u64,
+    Configuration::LEAST_TRAVEL as u64,
+    Configuration::MOST_TRAVEL as u64,
+    Choice::WIDTH as u64,
+    Leg::WIDTH as u64,
+    Leg::MOST as u64,
+    Leg::LEAST_CONFIGURATIONS as u64,
+    Leg::MOST_CONFIGURATIONS as u64,
+    Profile::WIDTH as u64,
+    Profile::MOST as u64,
+    Profile::LEAST_SAMPLES as u64,
+    Profile::MOST_SAMPLES as u64,
+    Sample::MOST as u64,
+    Sample::MOST_KW as u64,
+    Constraint::WIDTH as u64,
+    Constraint::MOST as u64,
+    Constraint::MOST_SECONDS as u64,
+    Subnet::MOST as u64,
+    Track::WIDTH as u64,
+    Track::MOST as u64,
+    Fill::UNSIGNED as u64,
+    Fill::BYTE as u64,
+    Figures::MOST as u64,
+    Figures::KJ_A_MWH as u64,
+    Figures::KJ_A_MW as u64,
+];
+
 pub fn limits_are_the_laws() -> [u64; 32]
     ensures { λ r. ⌜ r ≡ limits ⌝ }
 {
-    [
-        Horizon::LEAST as u64,
-        Horizon::MOST as u64,
-        Horizon::QUARTER as u64,
-        Horizon::QUARTERS as u64,
-        Id::MOST as u64,
-        Text::MOST as u64,
-        Configuration::WIDTH as u64,
-        Configuration::MOST as u64,
-        Configuration::LEAST_TRAVEL as u64,
-        Configuration::MOST_TRAVEL as u64,
-        Choice::WIDTH as u64,
-        Leg::WIDTH as u64,
-        Leg::MOST as u64,
-        Leg::LEAST_CONFIGURATIONS as u64,
-        Leg::MOST_CONFIGURATIONS as u64,
-        Profile::WIDTH as u64,
-        Profile::MOST as u64,
-        Profile::LEAST_SAMPLES as u64,
-        Profile::MOST_SAMPLES as u64,
-        Sample::MOST as u64,
-        Sample::MOST_KW as u64,
-        Constraint::WIDTH as u64,
-        Constraint::MOST as u64,
-        Constraint::MOST_SECONDS as u64,
-        Subnet::MOST as u64,
-        Track::WIDTH as u64,
-        Track::MOST as u64,
-        Fill::UNSIGNED as u64,
-        Fill::BYTE as u64,
-        Figures::MOST as u64,
-        Figures::KJ_A_MWH as u64,
-        Figures::KJ_A_MW as u64,
-    ]
+    LIMITS
 }
 
 // The one signed constant.
@@ -71,70 +73,74 @@ pub fn signed_fill_is_the_law() -> [i32; 1]
 }
 
 // The seventeen numbers and the files.
+const NUMBERS: [u64; 23] = [
+    Refusal::HORIZON as u64,
+    Refusal::TOO_LONG as u64,
+    Refusal::HEADER as u64,
+    Refusal::ROW_FORM as u64,
+    Refusal::RANGE as u64,
+    Refusal::COUNT as u64,
+    Refusal::SEEN as u64,
+    Refusal::NOMINAL as u64,
+    Refusal::JSON_FORM as u64,
+    Refusal::UNKNOWN as u64,
+    Refusal::REPEATED_OR_MISSING as u64,
+    Refusal::NOT_THERE as u64,
+    Refusal::SAMPLES as u64,
+    Refusal::DIFFERS as u64,
+    Refusal::NO_SUBNET as u64,
+    Refusal::ROOM as u64,
+    Refusal::TRAVEL as u64,
+    File::NONE as u64,
+    File::TIMETABLE as u64,
+    File::PROFILES as u64,
+    File::CONSTRAINTS as u64,
+    File::SOLUTION as u64,
+    File::SECOND_SOLUTION as u64,
+];
+
 pub fn numbers_are_the_laws() -> [u64; 23]
     ensures { λ r. ⌜ r ≡ numbers ⌝ }
 {
-    [
-        Refusal::HORIZON as u64,
-        Refusal::TOO_LONG as u64,
-        Refusal::HEADER as u64,
-        Refusal::ROW_FORM as u64,
-        Refusal::RANGE as u64,
-        Refusal::COUNT as u64,
-        Refusal::SEEN as u64,
-        Refusal::NOMINAL as u64,
-        Refusal::JSON_FORM as u64,
-        Refusal::UNKNOWN as u64,
-        Refusal::REPEATED_OR_MISSING as u64,
-        Refusal::NOT_THERE as u64,
-        Refusal::SAMPLES as u64,
-        Refusal::DIFFERS as u64,
-        Refusal::NO_SUBNET as u64,
-        Refusal::ROOM as u64,
-        Refusal::TRAVEL as u64,
-        File::NONE as u64,
-        File::TIMETABLE as u64,
-        File::PROFILES as u64,
-        File::CONSTRAINTS as u64,
-        File::SOLUTION as u64,
-        File::SECOND_SOLUTION as u64,
-    ]
+    NUMBERS
 }
 
 // The kinds, lists, keys, anchors and connection types.
+const NAMES: [u64; 28] = [
+    Kind::NOT_OFFERED as u64,
+    Kind::HEADWAY as u64,
+    Kind::SINGLE_TRACK as u64,
+    Kind::DWELL as u64,
+    Kind::TURNAROUND as u64,
+    Kind::CONNECTION as u64,
+    Lists::UNKNOWN as u64,
+    Lists::SUBNETS as u64,
+    Lists::ALL as u64,
+    Key::UNKNOWN as u64,
+    Key::FIRST_LEG as u64,
+    Key::SECOND_LEG as u64,
+    Key::MIN_HEADWAY as u64,
+    Key::MIN_DWELL as u64,
+    Key::MIN_TURNAROUND as u64,
+    Key::MIN_CONNECTION as u64,
+    Key::MAX_CONNECTION as u64,
+    Key::CONNECTION_TYPE as u64,
+    Key::SUBNET_ID as u64,
+    Key::TRACK_IDS as u64,
+    Anchor::NONE as u64,
+    Anchor::DEPARTURE as u64,
+    Anchor::ARRIVAL as u64,
+    Anchor::CONNECTION as u64,
+    Anchor::LATEST as u64,
+    Constraint::NO_TYPE as u64,
+    Constraint::ARRIVAL as u64,
+    Constraint::DEPARTURE as u64,
+];
+
 pub fn names_are_the_laws() -> [u64; 28]
     ensures { λ r. ⌜ r ≡ names ⌝ }
 {
-    [
-        Kind::NOT_OFFERED as u64,
-        Kind::HEADWAY as u64,
-        Kind::SINGLE_TRACK as u64,
-        Kind::DWELL as u64,
-        Kind::TURNAROUND as u64,
-        Kind::CONNECTION as u64,
-        Lists::UNKNOWN as u64,
-        Lists::SUBNETS as u64,
-        Lists::ALL as u64,
-        Key::UNKNOWN as u64,
-        Key::FIRST_LEG as u64,
-        Key::SECOND_LEG as u64,
-        Key::MIN_HEADWAY as u64,
-        Key::MIN_DWELL as u64,
-        Key::MIN_TURNAROUND as u64,
-        Key::MIN_CONNECTION as u64,
-        Key::MAX_CONNECTION as u64,
-        Key::CONNECTION_TYPE as u64,
-        Key::SUBNET_ID as u64,
-        Key::TRACK_IDS as u64,
-        Anchor::NONE as u64,
-        Anchor::DEPARTURE as u64,
-        Anchor::ARRIVAL as u64,
-        Anchor::CONNECTION as u64,
-        Anchor::LATEST as u64,
-        Constraint::NO_TYPE as u64,
-        Constraint::ARRIVAL as u64,
-        Constraint::DEPARTURE as u64,
-    ]
+    NAMES
 }
 
 // The headers.

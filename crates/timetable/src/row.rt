@@ -78,7 +78,7 @@ fn ended(line: Line, n: u32, at: u32, h: u32, legs: &mut [u32], configurations: 
         return line::stopped(line, Refusal::ROW_FORM);
     }
     let whole = entry(line, n, h, configurations);
-    let number = line::fault(whole, h, legs, configurations.len());
+    let number = faults::fault(whole, h, legs, configurations.len());
     if number != 0 {
         return line::stopped(whole, number);
     }

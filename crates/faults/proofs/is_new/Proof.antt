@@ -4,9 +4,9 @@ use mathlib.Core.Path.{_≡_}
 use lib.ListN.{length}
 use borrow.Author.Needs.{needs}
 use Rattle.rules.specs.Limits.{legWidth}
-use Rattle.legs.proofs.RowTests.{rowTests, Seen, seen-here, seen-on, seen-none}
-use Rattle.legs.proofs.line.is_new.Statement.{statement}
-use Rattle.legs.proofs.line.is_new.Tie as tie
+use Rattle.faults.proofs.Tests.{tests, Seen, seen-here, seen-on, seen-none}
+use Rattle.faults.proofs.is_new.Statement.{statement}
+use Rattle.faults.proofs.is_new.Tie as tie
 
 abbrev Inv-loop : tie.InvT-loop
 Inv-loop legs rows above id n i₀ i = (rows ≤ length legs / legWidth) × (id < above) × (Seen rows above id legs i ≡ Seen rows above id legs 0)
@@ -15,10 +15,10 @@ abbrev μ-loop : tie.MeasureT-loop
 μ-loop legs rows above id n i₀ i = rows - i
 
 returns : tie.Need-returns Inv-loop μ-loop
-returns c = search (rowTests, needs)
+returns c = search (tests, needs)
 
 returns-2 : tie.Need-returns-2 Inv-loop μ-loop
-returns-2 c = search (rowTests, needs)
+returns-2 c = search (tests, needs)
 
 loop-holds : tie.Need-loop-holds Inv-loop μ-loop
 loop-holds c = search needs

@@ -1,13 +1,14 @@
 // The groups: what a group's word asks for, its files read, and the entry called.
 ghost use Prim.Native.Nat.{_+_, _<_, _^_};
 ghost use Rattle.io.specs.Counts.{Counts};
-ghost use Rattle.small.specs.Words.{ofSolution, ofTwo};
+ghost use Rattle.grouped.specs.Words.{ofSolution, ofTwo};
 use either::Direction;
 use given::arguments;
 use given::arguments::Given;
 use given::files;
 use given::files::Loaded;
 use given::rooms;
+use grouped::Words;
 use rules::answers::File;
 use shown::checks;
 use shown::energies;
@@ -39,29 +40,6 @@ pub fn entry_at(at: usize) -> Entry {
         return Entry::OfTwo(Direction::Later);
     }
     Entry::Unknown
-}
-
-// The places of a group's words, counted from the group's own word, and how many words a group has.
-pub struct Words {}
-
-impl Words {
-    const HORIZON: usize = 1;
-
-    const TIMETABLE: usize = 2;
-
-    const PROFILES: usize = 3;
-
-    const CONSTRAINTS: usize = 4;
-
-    const SOLUTION: usize = 5;
-
-    const SECOND_SOLUTION: usize = 6;
-
-    const OUT: usize = 7;
-
-    pub const OF_SOLUTION: usize = Self::SOLUTION + 1;
-
-    pub const OF_TWO: usize = Self::OUT + 1;
 }
 
 // What every group gives beside its solutions: H, and how long each of the three texts is.

@@ -8,9 +8,9 @@ mod groups; // the groups
 
 ghost use Prim.Native.Nat.{_+_, _<_, _^_};
 use either::Direction;
+use grouped::Words;
 use groups::Asked;
 use groups::Entry;
-use groups::Words;
 use told::say;
 
 // The group that starts at argument `at`, of the `left` that are left: how many it takes.
@@ -19,14 +19,14 @@ fn solution_group(at: usize, left: usize, asked: Asked) -> usize
     requires { ⌜ at + left < 2 ^ 64 ⌝ }
     ensures { λ r. ⌜ 0 < r ⌝ }
 {
-    if left < Words::OF_SOLUTION {
-        say::no_answer(
-            b"arguments are missing: check or energy, H TIMETABLE PROFILES CONSTRAINTS SOLUTION",
-        );
-        return left;
+    if grouped::is_whole(Words::OF_SOLUTION, left) {
+        groups::answer_solution(at, asked);
+        return Words::OF_SOLUTION;
     }
-    groups::answer_solution(at, asked);
-    Words::OF_SOLUTION
+    say::no_answer(
+        b"arguments are missing: check or energy, H TIMETABLE PROFILES CONSTRAINTS SOLUTION",
+    );
+    left
 }
 
 fn merge_group(at: usize, left: usize, direction: Direction) -> usize
@@ -34,14 +34,14 @@ fn merge_group(at: usize, left: usize, direction: Direction) -> usize
     requires { ⌜ at + left < 2 ^ 64 ⌝ }
     ensures { λ r. ⌜ 0 < r ⌝ }
 {
-    if left < Words::OF_TWO {
-        say::no_answer(
-            b"arguments are missing: merge-earlier or merge-later, H TIMETABLE PROFILES CONSTRAINTS FIRST SECOND OUT",
-        );
-        return left;
+    if grouped::is_whole(Words::OF_TWO, left) {
+        groups::answer_two(at, direction);
+        return Words::OF_TWO;
     }
-    groups::answer_two(at, direction);
-    Words::OF_TWO
+    say::no_answer(
+        b"arguments are missing: merge-earlier or merge-later, H TIMETABLE PROFILES CONSTRAINTS FIRST SECOND OUT",
+    );
+    left
 }
 
 // What follows a word that is not known cannot be told apart.

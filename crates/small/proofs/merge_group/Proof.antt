@@ -1,0 +1,34 @@
+-- `small::merge_group` meets its contract: the words of a whole group are there. Assumes nothing.
+use borrow.Author.Needs.{needs}
+use Rattle.grouped.proofs.Whole.{whole-within}
+use Rattle.small.proofs.merge_group.Statement.{statement}
+use Rattle.small.proofs.merge_group.Tie as tie
+
+is-whole-requires : tie.Need-is-whole-requires
+is-whole-requires c κs = search needs
+
+answer-two-requires : tie.Need-answer-two-requires
+answer-two-requires c κs = search (whole-within, needs)
+
+returns : tie.Need-returns
+returns c = search needs
+
+slice-aggregate-no-answer : tie.Need-slice-aggregate-no-answer
+slice-aggregate-no-answer c = search needs
+
+no-answer-requires : tie.Need-no-answer-requires
+no-answer-requires c κs = search needs
+
+returns-2 : tie.Need-returns-2
+returns-2 c = search needs
+
+pub merge-group-spec : {M : Type 1} → statement M
+merge-group-spec =
+    tie.close
+    (tie.spec
+    is-whole-requires
+    answer-two-requires
+    returns
+    slice-aggregate-no-answer
+    no-answer-requires
+    returns-2)

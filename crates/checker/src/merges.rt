@@ -1,6 +1,6 @@
 // The two merges: one merged text a call, with `earlier` or `later` choices (document 01, "Merged texts").
 ghost use Rattle.rules.specs.Merge.{earlier, later};
-ghost use Rattle.emptied.specs.Lent.{tables};
+ghost use Rattle.rules.specs.Entries.{tables};
 ghost use Rattle.files.specs.Promise.{texts};
 ghost use Rattle.merging.specs.Promise.{Merges};
 use either::Direction;

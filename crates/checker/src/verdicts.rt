@@ -1,5 +1,5 @@
 // All four files are read, and the solution is judged.
-ghost use Rattle.emptied.specs.Lent.{tables};
+ghost use Rattle.rules.specs.Entries.{tables};
 ghost use Rattle.files.specs.Promise.{texts};
 ghost use Rattle.checker.specs.Checks.{Checks};
 use emptied::refusals;

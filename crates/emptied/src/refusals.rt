@@ -1,7 +1,7 @@
 // A refusal fills the tables and the choices.
 ghost use mathlib.Core.Path.{_≡_};
 ghost use Rattle.rules.specs.Answers.{isRefusal};
-ghost use Rattle.emptied.specs.Lent.{tables};
+ghost use Rattle.rules.specs.Entries.{tables};
 ghost use Rattle.emptied.specs.After.{tablesAfter, choicesAfter};
 use rules::answers::Answer;
 

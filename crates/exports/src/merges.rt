@@ -1,6 +1,6 @@
 // The two merges for C.
 ghost use Rattle.rules.specs.Merge.{earlier, later};
-ghost use Rattle.emptied.specs.Lent.{tables};
+ghost use Rattle.rules.specs.Entries.{tables};
 ghost use Rattle.files.specs.Promise.{texts};
 ghost use Rattle.merging.specs.Promise.{Merges};
 ghost use Rattle.numbers.specs.Numbers.{mergeNumbers};

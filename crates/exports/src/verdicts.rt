@@ -1,5 +1,5 @@
 // `check` for C.
-ghost use Rattle.emptied.specs.Lent.{tables};
+ghost use Rattle.rules.specs.Entries.{tables};
 ghost use Rattle.files.specs.Promise.{texts};
 ghost use Rattle.checker.specs.Checks.{Checks};
 ghost use Rattle.numbers.specs.Numbers.{checkNumbers};

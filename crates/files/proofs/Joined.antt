@@ -11,13 +11,12 @@ use Rattle.rules.specs.Timetable.{Row, legsOf, legNumbers, configurationsOf, co
 use Rattle.rules.specs.Profiles.{Curve, profilesFrom, profileNumbers, sampleTable}
 use Rattle.rules.specs.Constraints.{Document, ordered, constraintNumbers, trackNumbers}
 use Rattle.rules.specs.Reading.{Texts, Files, Rooms, horizonOf, filesOf}
-use Rattle.rules.specs.Entries.{Tables, roomsOf, writtenTables}
+use Rattle.rules.specs.Entries.{Tables, tables, roomsOf, writtenTables}
 use Rattle.rules.specs.declared.answers.Refusal.{Refusal}
 use Rattle.laws.proofs.GoodText.{never-good}
 use Rattle.laws.proofs.GoodRows.{timetable-good}
 use Rattle.laws.proofs.GoodFiles.{good-first}
 use Rattle.laws.proofs.LawfulRows.{legs-most}
-use Rattle.emptied.specs.Lent.{tables}
 use Rattle.files.specs.declared.Counts.{Counts}
 use Rattle.files.specs.declared.Filed.{Filed}
 use Rattle.files.specs.declared.Filed.the-variants.{Whole, Refused}

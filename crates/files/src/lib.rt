@@ -1,5 +1,5 @@
 // All that does not depend on a solution, in document 01's order: H; timetable; profiles; 12 and 13; constraints; 15.
-ghost use Rattle.emptied.specs.Lent.{tables};
+ghost use Rattle.rules.specs.Entries.{tables};
 ghost use Rattle.files.specs.Promise.{texts, FilesRead};
 use rules::answers::Refusal;
 

@@ -1,6 +1,6 @@
 // The merges (document 01, "Merged texts"): both solutions are read, then judged, and the earlier or the later choices are written as a timetable.
 ghost use mathlib.Core.Path.{_≡_};
-ghost use Rattle.emptied.specs.Lent.{tables};
+ghost use Rattle.rules.specs.Entries.{tables};
 ghost use Rattle.files.specs.Promise.{texts};
 ghost use Rattle.writer.specs.Merges.{mergeOf};
 ghost use Rattle.merging.specs.Left.{notWritten};

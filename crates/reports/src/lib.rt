@@ -1,6 +1,6 @@
 // The energies of texts that are read and judged: figures for accepted solutions only.
 ghost use mathlib.Core.Path.{_≡_};
-ghost use Rattle.emptied.specs.Lent.{tables};
+ghost use Rattle.rules.specs.Entries.{tables};
 ghost use Rattle.files.specs.Promise.{texts};
 ghost use Rattle.reports.specs.Promise.{noReport, ReportRead};
 use emptied::acceptance;

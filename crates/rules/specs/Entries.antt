@@ -35,6 +35,10 @@ pub record Tables : Type 0 where
   pub constraints : List ℕ
   pub tracks : List ℕ
 
+abbrev pub tables : (legs configurations profiles : List ℕ) (samples : List ℤ) (constraints tracks : List ℕ) → Tables
+tables legs configurations profiles samples constraints tracks =
+    record { legs = legs; configurations = configurations; profiles = profiles; samples = samples; constraints = constraints; tracks = tracks }
+
 abbrev pub roomsOf : Tables → Rooms
 roomsOf t =
     record {

@@ -1,6 +1,6 @@
 // What follows the files, shared by the entries: a solution is chosen from, and judged.
 ghost use mathlib.Core.Path.{_≡_};
-ghost use Rattle.emptied.specs.Lent.{tables};
+ghost use Rattle.rules.specs.Entries.{tables};
 ghost use Rattle.files.specs.Promise.{texts};
 ghost use Rattle.tails.specs.Left.{Choosable, Chooses, Ready, Judges};
 ghost use Rattle.tails.specs.Promise.{ReadAndJudged};

@@ -1,7 +1,7 @@
 -- `merging::merge` meets its contract: what the answer leaves. Assumes nothing.
 use mathlib.Core.Path.{_∙_}
 use borrow.Author.Needs.{needs}
-use Rattle.emptied.specs.Lent.{tables}
+use Rattle.rules.specs.Entries.{tables}
 use Rattle.files.specs.Promise.{texts}
 use Rattle.writer.specs.Merges.{mergeOf}
 use Rattle.merging.proofs.Ends.{merge-ends}

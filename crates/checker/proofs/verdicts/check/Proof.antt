@@ -1,7 +1,7 @@
 -- `checker::verdicts::check` meets its contract: what was read stands, and after a refusal everything is filled. Assumes nothing.
 use mathlib.Core.Path.{_∙_}
 use borrow.Author.Needs.{needs}
-use Rattle.emptied.specs.Lent.{tables}
+use Rattle.rules.specs.Entries.{tables}
 use Rattle.files.specs.Promise.{texts}
 use Rattle.checker.proofs.CheckWays.{check-ends}
 use Rattle.checker.proofs.verdicts.check.Statement.{statement}

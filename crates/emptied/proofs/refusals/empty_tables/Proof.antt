@@ -1,7 +1,7 @@
 -- `emptied::refusals::empty_tables` meets its contract: table by table. Assumes nothing.
 use borrow.Author.Needs.{needs}
 use Rattle.laws.proofs.OneOutcome.{same-tables}
-use Rattle.emptied.specs.Lent.{tables}
+use Rattle.rules.specs.Entries.{tables}
 use Rattle.emptied.proofs.Filled.{refusal-fills, no-refusal-keeps}
 use Rattle.emptied.proofs.refusals.empty_tables.Statement.{statement}
 use Rattle.emptied.proofs.refusals.empty_tables.Tie as tie

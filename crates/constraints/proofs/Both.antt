@@ -27,10 +27,11 @@ use Rattle.constraints.specs.declared.walks.Walked.{Walked}
 use Rattle.constraints.specs.declared.walks.Walked.the-variants.{Good, Refused}
 use Rattle.constraints.specs.declared.Read.the-variants.{Whole, Refused as NotRead}
 use Rattle.steps.specs.Steps.{countsOf}
-use Rattle.constraints.specs.Tables.{nexts, beforeLast, startsOf, outcome, Filled, Upward, Walks, Able, reading, readOf, Tables, Reads}
-use Rattle.constraints.proofs.Filling.{constraint-long}
-use Rattle.constraints.proofs.InOrder.{upward-ordered}
-use Rattle.constraints.proofs.ByKind.{none, counted, all-counted, by-kind}
+use Rattle.stored.specs.Places.{nexts, Upward, beforeLast, startsOf}
+use Rattle.stored.proofs.Places.{constraint-long}
+use Rattle.stored.proofs.InOrder.{upward-ordered}
+use Rattle.stored.proofs.ByKind.{none, counted, all-counted, by-kind}
+use Rattle.constraints.specs.Tables.{outcome, Filled, Walks, Able, reading, readOf, Tables, Reads}
 
 kinds-known : (legs : List ℕ) (cs : List Constraint) → All (LawfulConstraint legs) cs → All OfKind cs
 kinds-known legs [] h = tt

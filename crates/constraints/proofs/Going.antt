@@ -33,9 +33,11 @@ use Rattle.rules.proofs.Lists.{flat-append, flat-length, over-length, over-more
 use Rattle.constraints.specs.declared.walks.Walked.the-variants.{Good, Refused}
 use Rattle.rules.specs.declared.sizes.Track.{Track}
 use Rattle.steps.specs.Steps.{turned, countsOf, Tied, Ready}
-use Rattle.constraints.specs.Tables.{bumped, nexts, written, outcome, Able, Walks}
+use Rattle.stored.specs.Places.{bumped, nexts, written}
+use Rattle.stored.proofs.Places.{nexts-more, nexts-low, nexts-length, written-more, written-length}
+use Rattle.constraints.specs.Tables.{outcome, Able, Walks}
 use Rattle.turns.proofs.ByAction.{past-found}
-use Rattle.constraints.proofs.Filling.{track-long, tracks-held, ids-held, id-held, nexts-more, nexts-low, nexts-length, written-more, written-length}
+use Rattle.constraints.proofs.Filling.{track-long, tracks-held, ids-held, id-held}
 
 -- ---- no token comes after the text's end
 
@@ -336,52 +338,56 @@ module _ (text legs : List ℕ) (n : ℕ) (c₀ t₀ s₀ : List ℕ) (sorts : B
             tracks = g .tracks;
           }
 
-      pub going-emit : (x : State) (c′ next′ : List ℕ) → r ≡ Emit x
+      pub going-emit : (x y : State) (k : ℕ) (c′ next′ : List ℕ) → r ≡ Emit x
           → c′ ≡ sets c (cond sorts (getD next (x .entry .kind) 0) (seen .constraints) * constraintWidth) (constraintNumbers (x .entry))
           → next′ ≡ bumped next (x .entry .kind)
-          → Going (tk .next) x record { constraints = seen .constraints + 1; tracks = seen .tracks; subnets = seen .subnets; ids = seen .ids } ids next′ c′ t
-      going-emit x c′ next′ is put bump =
+          → k ≡ seen .constraints + 1
+          → y ≡ x
+          → Going (tk .next) y record { constraints = k; tracks = seen .tracks; subnets = seen .subnets; ids = seen .ids } ids next′ c′ t
+      going-emit x y k c′ next′ is put bump more same =
           let to = next-on x (withConstraint (x .entry) (g .d)) (ap (λ (y : Step). turned y (g .d)) is) in
           let room : length (g .d .constraints ++ x .entry ∷ []) ≤ C = to .keeps .tables .constraints-lawful .in-room in
           let fits : (length (g .d .constraints) + 1) * constraintWidth ≤ length c₀ =
           omega (arith, length-append (g .d .constraints) (x .entry ∷ []), div-mul-le-self (length c₀) constraintWidth) in
-          record {
+          rw same
+          (record {
             d = withConstraint (x .entry) (g .d);
             runs = to .runs;
             keeps = to .keeps;
             inside = s .within;
-            counted = rw (g .counted, ← length-append (g .d .constraints) (x .entry ∷ []));
+            counted = rw (more, g .counted, ← length-append (g .d .constraints) (x .entry ∷ []));
             ids-long = g .ids-long;
             ids-there = g .ids-there;
             places = bump ∙ rw (g .places) (sym (nexts-more s₀ (g .d .constraints) (x .entry)));
             table = put ∙ rw (g .places, g .table, g .counted) (sym (written-more sorts s₀ c₀ (g .d .constraints) (x .entry) fits));
             tracks = g .tracks;
-          }
+          })
 
       -- there is a place for one id more
-      pub id-room : (x : State) (id : ℕ) → r ≡ Named x id → seen .ids < mostSubnets
+      pub id-room : (x : State) (id : ℕ) → r ≡ Named x id → seen .ids < length ids
       id-room x id is =
           let to = next-on x (withId id (g .d)) (ap (λ (y : Step). turned y (g .d)) is) in
-          rw (g .counted) (omega (arith, few-ids Legs C T x (withId id (g .d)) (to .keeps), length-append (g .d .ids) (id ∷ [])))
+          rw (g .counted, g .ids-long) (omega (arith, few-ids Legs C T x (withId id (g .d)) (to .keeps), length-append (g .d .ids) (id ∷ [])))
 
-      pub going-named : (x : State) (id : ℕ) (ids′ : List ℕ) → r ≡ Named x id → ids′ ≡ set ids (seen .ids) id
-          → Going (tk .next) x record { constraints = seen .constraints; tracks = seen .tracks; subnets = seen .subnets; ids = seen .ids + 1 } ids′ next c t
-      going-named x id ids′ is put =
+      pub going-named : (x y : State) (id k : ℕ) (ids′ : List ℕ) → r ≡ Named x id → ids′ ≡ set ids (seen .ids) id → k ≡ seen .ids + 1 → y ≡ x
+          → Going (tk .next) y record { constraints = seen .constraints; tracks = seen .tracks; subnets = seen .subnets; ids = k } ids′ next c t
+      going-named x y id k ids′ is put more same =
           let to = next-on x (withId id (g .d)) (ap (λ (y : Step). turned y (g .d)) is) in
           let at-end : ids′ ≡ set ids (length (g .d .ids)) id = put ∙ rw (g .counted) in
-          let room : length (g .d .ids) < length ids = rw (g .ids-long) (rw (g .counted) at (id-room x id is)) in
-          record {
+          let room : length (g .d .ids) < length ids = rw (g .counted) at (id-room x id is) in
+          rw same
+          (record {
             d = withId id (g .d);
             runs = to .runs;
             keeps = to .keeps;
             inside = s .within;
-            counted = rw (g .counted, ← length-append (g .d .ids) (id ∷ []));
+            counted = rw (more, g .counted, ← length-append (g .d .ids) (id ∷ []));
             ids-long = ap length at-end ∙ length-set ids (length (g .d .ids)) id ∙ g .ids-long;
             ids-there = rw at-end (id-held (g .d .ids) ids id room (g .ids-there));
             places = g .places;
             table = g .table;
             tracks = g .tracks;
-          }
+          })
 
       -- a track is listed by a subnet that is open
       pub track-open : (x : State) (id : ℕ) → r ≡ Listed x id → 1 ≤ seen .subnets
@@ -390,30 +396,33 @@ module _ (text legs : List ℕ) (n : ℕ) (c₀ t₀ s₀ : List ℕ) (sorts : B
           let last = all-last (LawfulTrack (g .d .opened)) (g .d .tracks) (record { id = id; subnet = g .d .opened - 1 }) (to .keeps .tables .tracks-lawful .each) in
           rw (g .counted) (omega (arith, last .subnet-is-there))
 
-      pub going-listed : (x : State) (id : ℕ) (t′ : List ℕ) → r ≡ Listed x id
+      pub going-listed : (x y : State) (id k : ℕ) (t′ : List ℕ) → r ≡ Listed x id
           → t′ ≡ sets t (seen .tracks * trackWidth) (id ∷ (seen .subnets - 1) ∷ [])
-          → Going (tk .next) x record { constraints = seen .constraints; tracks = seen .tracks + 1; subnets = seen .subnets; ids = seen .ids } ids next c t′
-      going-listed x id t′ is put =
+          → k ≡ seen .tracks + 1
+          → y ≡ x
+          → Going (tk .next) y record { constraints = seen .constraints; tracks = k; subnets = seen .subnets; ids = seen .ids } ids next c t′
+      going-listed x y id k t′ is put more same =
           let to = next-on x (withTrack id (g .d)) (ap (λ (y : Step). turned y (g .d)) is) in
-          let k : Track = record { id = id; subnet = g .d .opened - 1 } in
+          let one : Track = record { id = id; subnet = g .d .opened - 1 } in
           let size = flat-length trackNumbers trackWidth track-long (g .d .tracks) in
-          let room : length (g .d .tracks ++ k ∷ []) ≤ T = to .keeps .tables .tracks-lawful .in-room in
-          let fits : length (flat trackNumbers (g .d .tracks)) + length (trackNumbers k) ≤ length t₀ =
-          omega (arith, size, length-append (g .d .tracks) (k ∷ []), div-mul-le-self (length t₀) trackWidth) in
-          record {
+          let room : length (g .d .tracks ++ one ∷ []) ≤ T = to .keeps .tables .tracks-lawful .in-room in
+          let fits : length (flat trackNumbers (g .d .tracks)) + length (trackNumbers one) ≤ length t₀ =
+          omega (arith, size, length-append (g .d .tracks) (one ∷ []), div-mul-le-self (length t₀) trackWidth) in
+          rw same
+          (record {
             d = withTrack id (g .d);
             runs = to .runs;
             keeps = to .keeps;
             inside = s .within;
-            counted = rw (g .counted, ← length-append (g .d .tracks) (k ∷ []));
+            counted = rw (more, g .counted, ← length-append (g .d .tracks) (one ∷ []));
             ids-long = g .ids-long;
             ids-there = g .ids-there;
             places = g .places;
             table = g .table;
             tracks = put ∙ rw (g .counted, g .tracks, ← size)
-                (over-more (flat trackNumbers (g .d .tracks)) t₀ (trackNumbers k) fits
-                ∙ ap (λ (w : List ℕ). over w t₀) (sym (flat-append trackNumbers (g .d .tracks) (k ∷ []))));
-          }
+                (over-more (flat trackNumbers (g .d .tracks)) t₀ (trackNumbers one) fits
+                ∙ ap (λ (w : List ℕ). over w t₀) (sym (flat-append trackNumbers (g .d .tracks) (one ∷ []))));
+          })
 
       -- ---- the last token
 

@@ -5,13 +5,13 @@ ghost use Rattle.ids.specs.Column.{Records};
 ghost use Rattle.constraints.specs.Tables.{reading, Reads};
 use rules::answers::Refusal;
 use rules::sizes::Text;
-use tables::PLACES;
-use tables::in_order;
-use tables::starts_of;
+use stored::PLACES;
+use stored::in_order;
+use stored::starts_of;
 use walks::Walked;
 use walks::walk;
 
-pub mod tables; // entries into the lent tables
+pub mod effects; // what a step has for a table
 pub mod walks; // the whole text
 
 // What a reading comes to.

@@ -1,19 +1,13 @@
 // A walk over the whole text: token by token to the first that is at fault, or to the end.
-ghost use mathlib.Core.Path.{_≡_};
-ghost use Rattle.rules.specs.Constraints.{start, plainRules};
 ghost use Rattle.constraints.specs.Tables.{Able, outcome, Walks};
-use crate::tables::emit;
-use crate::tables::put_track;
-use rules::kinds::Key;
-use rules::sizes::Constraint;
+use crate::effects::emit;
+use crate::effects::list;
+use crate::effects::name;
 use rules::sizes::Subnet;
-use rules::tokens::Lists;
-use rules::tokens::Phase;
-use rules::tokens::Rules;
-use rules::tokens::State;
 use steps::Counts;
 use steps::Room;
 use steps::Step;
+use steps::states::starting;
 use tokens::token_at;
 use turns::turn;
 
@@ -21,32 +15,6 @@ pub enum Walked {
     Good(Counts),
     // A number and a place.
     Refused(u8, u32),
-}
-
-fn starting() -> State
-    ensures { λ r. ⌜ r ≡ start plainRules ⌝ }
-{
-    let rules = Rules {
-        required: Lists::ALL,
-    };
-    let phase = Phase::Document;
-    let entry = Constraint {
-        kind: 0,
-        first: 0,
-        second: 0,
-        low: 0,
-        high: 0,
-        connection: Constraint::NO_TYPE,
-    };
-    State {
-        rules,
-        phase,
-        list: Lists::UNKNOWN,
-        lists: 0,
-        key: Key::UNKNOWN,
-        keys: 0,
-        entry,
-    }
 }
 
 // Tracks are written as they come, and so are constraints; in a walk that sorts, each constraint at the next place of its kind.
@@ -72,29 +40,14 @@ pub fn walk(
         let step = turn(text, legs, n, &tracks[..], &ids[..], seen, room, st, t);
         at = t.next as usize;
         match step {
-            Step::On(after) => {
-                st = after;
-            }
-            Step::Emit(after) => {
-                emit(sorts, constraints, next, seen.constraints, after.entry);
-                seen.constraints += 1;
-                st = after;
-            }
+            Step::On(after) => st = after,
+            Step::Emit(after) => st = emit(sorts, constraints, next, &mut seen.constraints, after),
             Step::Opened(after) => {
                 seen.subnets += 1;
                 st = after;
             }
-            Step::Named(after, id) => {
-                let k = seen.ids;
-                ids[k] = id;
-                seen.ids = k + 1;
-                st = after;
-            }
-            Step::Listed(after, id) => {
-                put_track(tracks, seen.tracks, id, (seen.subnets - 1) as u32);
-                seen.tracks += 1;
-                st = after;
-            }
+            Step::Named(after, id) => st = name(&mut ids, &mut seen.ids, id, after),
+            Step::Listed(after, id) => st = list(tracks, seen.subnets, &mut seen.tracks, id, after),
             Step::Finish(_) => return Walked::Good(seen),
             Step::Fault(number, place) => return Walked::Refused(number, place),
         }

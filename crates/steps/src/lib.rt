@@ -8,7 +8,7 @@ use rules::sizes::Constraint;
 use rules::sizes::Track;
 use rules::tokens::State;
 
-pub mod states; // the state after it
+pub mod states; // the first state, and the state after it
 pub mod values; // strings and numbers
 pub mod tracks; // the tracks of a subnet
 

@@ -1,10 +1,39 @@
-// The state after a token.
+// The first state, and the state after a token.
 ghost use mathlib.Core.Path.{_≡_};
 ghost use Rattle.rules.specs.Constraints as law;
 use rules::kinds::Key;
 use rules::sizes::Constraint;
+use rules::tokens::Lists;
 use rules::tokens::Phase;
+use rules::tokens::Rules;
 use rules::tokens::State;
+
+// Before the first token.
+pub fn starting() -> State
+    ensures { λ r. ⌜ r ≡ law.start law.plainRules ⌝ }
+{
+    let rules = Rules {
+        required: Lists::ALL,
+    };
+    let phase = Phase::Document;
+    let entry = Constraint {
+        kind: 0,
+        first: 0,
+        second: 0,
+        low: 0,
+        high: 0,
+        connection: Constraint::NO_TYPE,
+    };
+    State {
+        rules,
+        phase,
+        list: Lists::UNKNOWN,
+        lists: 0,
+        key: Key::UNKNOWN,
+        keys: 0,
+        entry,
+    }
+}
 
 pub fn to_phase(st: State, phase: Phase) -> State
     ensures { λ r. ⌜ r ≡ law.goes phase st ⌝ }

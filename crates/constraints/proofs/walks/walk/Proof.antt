@@ -3,17 +3,17 @@ use Prim.Native.Nat.{_-_}
 use Rattle.constraints.proofs.Going.{Going, able-at, ends-good, ends-refused, few, going-emit, going-listed, going-named, going-on, going-opened, going-start, id-room, nearer, next-long, next-low, ready, stepGoes, table-long, track-open, tracks-long}
 use borrow.Author.Needs.{needs}
 use lib.ListN.{length}
-use mathlib.Core.Path.{ap, refl}
+use mathlib.Core.Path.{ap}
 use native.Mathlib.Omega.{arith}
 use Rattle.constraints.proofs.walks.walk.Statement.{statement}
 use Rattle.constraints.proofs.walks.walk.Tie as tie
 
 abbrev Inv-loop : tie.InvT-loop
-Inv-loop text legs n constraints₀ tracks₀ next₀ write room seen₀ ids₀ st₀ at₀ constraints tracks next seen ids st at =
-    Going text legs n constraints₀ tracks₀ next₀ write at st seen ids next constraints tracks
+Inv-loop text legs n constraints₀ tracks₀ next₀ sorts room seen₀ ids₀ st₀ at₀ constraints tracks next seen ids st at =
+    Going text legs n constraints₀ tracks₀ next₀ sorts at st seen ids next constraints tracks
 
 abbrev μ-loop : tie.MeasureT-loop
-μ-loop text legs n constraints₀ tracks₀ next₀ write room seen₀ ids₀ st₀ at₀ constraints tracks next seen ids st at =
+μ-loop text legs n constraints₀ tracks₀ next₀ sorts room seen₀ ids₀ st₀ at₀ constraints tracks next seen ids st at =
     length text - at
 
 of-requires : tie.Need-of-requires Inv-loop μ-loop
@@ -53,67 +53,52 @@ enum-known-step-2 : tie.Need-enum-known-step-2 Inv-loop μ-loop
 enum-known-step-2 c = search needs
 
 emit-requires : tie.Need-emit-requires Inv-loop μ-loop
-emit-requires c κs = (next-low _ _ _ _ _ _ _ (c .before .before .before .before .before .before .before .before .before .before .loop .inv) ((c .before .before .before .before .before .before .before .before .before .before .before .before .before .before .before .before .before .before .before) .pre) _, few _ _ _ _ _ _ _ (c .before .before .before .before .before .before .before .before .before .before .loop .inv) .constraints)
-
-add-seen : tie.Need-add-seen Inv-loop μ-loop
-add-seen c = omega (arith, few _ _ _ _ _ _ _ (c .before .before .before .before .before .before .before .before .before .before .before .before .before .before .before .before .loop .inv) .constraints)
+emit-requires c κs = (next-low _ _ _ _ _ _ _ (c .before .before .before .before .before .before .before .before .before .before .before .loop .inv) ((c .before .before .before .before .before .before .before .before .before .before .before .before .before .before .before .before .before .before .before .before) .pre) _, few _ _ _ _ _ _ _ (c .before .before .before .before .before .before .before .before .before .before .before .loop .inv) .constraints)
 
 loop-less-2 : tie.Need-loop-less-2 Inv-loop μ-loop
 loop-less-2 c = nearer _ _ _ _ _ _ _ (c .before .before .before .before .before .before .before .before .before .before .before .before .before .before .before .before .loop .inv) _ (c .before .before .before .before .before .before .before .before .before .before .before .before .before .before .before .token-at .ensures) (c .before .before .before .before .before .before .before .before .before .before .before .before .turn .result) _ _ (c .before .before .before .before .before .before .before .before .before .before .before .before .before .before .before .before .before .before .before .of .ensures .0) (c .before .before .before .before .before .before .before .before .before .before .before .before .before .before .before .before .before .before .before .of .ensures .1) (c .before .before .before .before .before .before .before .before .before .before .before .before .turn .ensures) (ap stepGoes (c .before .before .before .before .before .before .before .before .before .step2 .given .1))
 
 loop-again-2 : tie.Need-loop-again-2 Inv-loop μ-loop
-loop-again-2 c = going-emit _ _ _ _ _ _ _ (c .before .before .before .before .before .before .before .before .before .before .before .before .before .before .before .before .loop .inv) _ (c .before .before .before .before .before .before .before .before .before .before .before .before .before .before .before .token-at .ensures) _ _ _ (c .before .before .before .before .before .before .before .before .before .before .before .before .before .before .before .before .before .before .before .of .ensures .0) (c .before .before .before .before .before .before .before .before .before .before .before .before .before .before .before .before .before .before .before .of .ensures .1) (c .before .before .before .before .before .before .before .before .before .before .before .before .turn .ensures) _ _ _ (c .before .before .before .before .before .before .before .before .before .step2 .given .1) (c .before .before .before .before .before .emit .ensures .0) (c .before .before .before .before .before .emit .ensures .1)
+loop-again-2 c = going-emit _ _ _ _ _ _ _ (c .before .before .before .before .before .before .before .before .before .before .before .before .before .before .before .before .loop .inv) _ (c .before .before .before .before .before .before .before .before .before .before .before .before .before .before .before .token-at .ensures) _ _ _ (c .before .before .before .before .before .before .before .before .before .before .before .before .before .before .before .before .before .before .before .of .ensures .0) (c .before .before .before .before .before .before .before .before .before .before .before .before .before .before .before .before .before .before .before .of .ensures .1) (c .before .before .before .before .before .before .before .before .before .before .before .before .turn .ensures) _ _ _ _ _ (c .before .before .before .before .before .before .before .before .before .step2 .given .1) (c .before .before .before .before .emit .ensures .0) (c .before .before .before .before .emit .ensures .1) (c .before .before .before .before .emit .ensures .2) (c .before .before .before .before .emit .ensures .3)
 
 enum-known-step-3 : tie.Need-enum-known-step-3 Inv-loop μ-loop
 enum-known-step-3 c = search needs
 
-add-seen-2 : tie.Need-add-seen-2 Inv-loop μ-loop
-add-seen-2 c = omega (arith, few _ _ _ _ _ _ _ (c .before .before .before .before .before .before .before .before .before .loop .inv) .subnets)
+add-seen : tie.Need-add-seen Inv-loop μ-loop
+add-seen c = omega (arith, few _ _ _ _ _ _ _ (c .before .before .before .before .before .before .before .before .loop .inv) .subnets)
 
 loop-less-3 : tie.Need-loop-less-3 Inv-loop μ-loop
-loop-less-3 c = nearer _ _ _ _ _ _ _ (c .before .before .before .before .before .before .before .before .before .loop .inv) _ (c .before .before .before .before .before .before .before .before .token-at .ensures) (c .before .before .before .before .before .turn .result) _ _ (c .before .before .before .before .before .before .before .before .before .before .before .before .of .ensures .0) (c .before .before .before .before .before .before .before .before .before .before .before .before .of .ensures .1) (c .before .before .before .before .before .turn .ensures) (ap stepGoes (c .before .before .step3 .given .1))
+loop-less-3 c = nearer _ _ _ _ _ _ _ (c .before .before .before .before .before .before .before .before .loop .inv) _ (c .before .before .before .before .before .before .before .token-at .ensures) (c .before .before .before .before .turn .result) _ _ (c .before .before .before .before .before .before .before .before .before .before .before .of .ensures .0) (c .before .before .before .before .before .before .before .before .before .before .before .of .ensures .1) (c .before .before .before .before .turn .ensures) (ap stepGoes (c .before .step3 .given .1))
 
 loop-again-3 : tie.Need-loop-again-3 Inv-loop μ-loop
-loop-again-3 c = going-opened _ _ _ _ _ _ _ (c .before .before .before .before .before .before .before .before .before .loop .inv) _ (c .before .before .before .before .before .before .before .before .token-at .ensures) _ _ _ (c .before .before .before .before .before .before .before .before .before .before .before .before .of .ensures .0) (c .before .before .before .before .before .before .before .before .before .before .before .before .of .ensures .1) (c .before .before .before .before .before .turn .ensures) _ (c .before .before .step3 .given .1)
+loop-again-3 c = going-opened _ _ _ _ _ _ _ (c .before .before .before .before .before .before .before .before .loop .inv) _ (c .before .before .before .before .before .before .before .token-at .ensures) _ _ _ (c .before .before .before .before .before .before .before .before .before .before .before .of .ensures .0) (c .before .before .before .before .before .before .before .before .before .before .before .of .ensures .1) (c .before .before .before .before .turn .ensures) _ (c .before .step3 .given .1)
 
 enum-known-step-4 : tie.Need-enum-known-step-4 Inv-loop μ-loop
 enum-known-step-4 c = search needs
 
-mul-ids : tie.Need-mul-ids Inv-loop μ-loop
-mul-ids c = omega (arith, id-room _ _ _ _ _ _ _ (c .before .before .before .before .before .before .before .before .loop .inv) _ (c .before .before .before .before .before .before .before .token-at .ensures) _ _ _ (c .before .before .before .before .before .before .before .before .before .before .before .of .ensures .0) (c .before .before .before .before .before .before .before .before .before .before .before .of .ensures .1) (c .before .before .before .before .turn .ensures) _ _ (c .before .step4 .given .1))
+slice-aggregate-name : tie.Need-slice-aggregate-name Inv-loop μ-loop
+slice-aggregate-name c = search needs
 
-array-write-ids : tie.Need-array-write-ids Inv-loop μ-loop
-array-write-ids c = omega (arith, id-room _ _ _ _ _ _ _ (c .before .before .before .before .before .before .before .before .loop .inv) _ (c .before .before .before .before .before .before .before .token-at .ensures) _ _ _ (c .before .before .before .before .before .before .before .before .before .before .before .of .ensures .0) (c .before .before .before .before .before .before .before .before .before .before .before .of .ensures .1) (c .before .before .before .before .turn .ensures) _ _ (c .before .step4 .given .1), c .before .before .before .before .before .before .before .before .loop .inv .ids-long)
-
-add-seen-3 : tie.Need-add-seen-3 Inv-loop μ-loop
-add-seen-3 c = omega (arith, few _ _ _ _ _ _ _ (c .before .before .before .before .before .before .before .before .loop .inv) .ids)
+name-requires : tie.Need-name-requires Inv-loop μ-loop
+name-requires c κs = id-room _ _ _ _ _ _ _ (c .before .before .before .before .before .before .before .before .before .before .loop .inv) _ (c .before .before .before .before .before .before .before .before .before .token-at .ensures) _ _ _ (c .before .before .before .before .before .before .before .before .before .before .before .before .before .of .ensures .0) (c .before .before .before .before .before .before .before .before .before .before .before .before .before .of .ensures .1) (c .before .before .before .before .before .before .turn .ensures) _ _ (c .before .before .before .step4 .given .1)
 
 loop-less-4 : tie.Need-loop-less-4 Inv-loop μ-loop
-loop-less-4 c = nearer _ _ _ _ _ _ _ (c .before .before .before .before .before .before .before .before .loop .inv) _ (c .before .before .before .before .before .before .before .token-at .ensures) (c .before .before .before .before .turn .result) _ _ (c .before .before .before .before .before .before .before .before .before .before .before .of .ensures .0) (c .before .before .before .before .before .before .before .before .before .before .before .of .ensures .1) (c .before .before .before .before .turn .ensures) (ap stepGoes (c .before .step4 .given .1))
+loop-less-4 c = nearer _ _ _ _ _ _ _ (c .before .before .before .before .before .before .before .before .before .before .before .before .loop .inv) _ (c .before .before .before .before .before .before .before .before .before .before .before .token-at .ensures) (c .before .before .before .before .before .before .before .before .turn .result) _ _ (c .before .before .before .before .before .before .before .before .before .before .before .before .before .before .before .of .ensures .0) (c .before .before .before .before .before .before .before .before .before .before .before .before .before .before .before .of .ensures .1) (c .before .before .before .before .before .before .before .before .turn .ensures) (ap stepGoes (c .before .before .before .before .before .step4 .given .1))
 
 loop-again-4 : tie.Need-loop-again-4 Inv-loop μ-loop
-loop-again-4 c = going-named _ _ _ _ _ _ _ (c .before .before .before .before .before .before .before .before .loop .inv) _ (c .before .before .before .before .before .before .before .token-at .ensures) _ _ _ (c .before .before .before .before .before .before .before .before .before .before .before .of .ensures .0) (c .before .before .before .before .before .before .before .before .before .before .before .of .ensures .1) (c .before .before .before .before .turn .ensures) _ _ _ (c .before .step4 .given .1) refl
+loop-again-4 c = going-named _ _ _ _ _ _ _ (c .before .before .before .before .before .before .before .before .before .before .before .before .loop .inv) _ (c .before .before .before .before .before .before .before .before .before .before .before .token-at .ensures) _ _ _ (c .before .before .before .before .before .before .before .before .before .before .before .before .before .before .before .of .ensures .0) (c .before .before .before .before .before .before .before .before .before .before .before .before .before .before .before .of .ensures .1) (c .before .before .before .before .before .before .before .before .turn .ensures) _ _ _ _ _ (c .before .before .before .before .before .step4 .given .1) (c .before .name .ensures .0) (c .before .name .ensures .1) (c .before .name .ensures .2)
 
 enum-known-step-5 : tie.Need-enum-known-step-5 Inv-loop μ-loop
 enum-known-step-5 c = search needs
 
-sub-put-track : tie.Need-sub-put-track Inv-loop μ-loop
-sub-put-track c = omega (arith, track-open _ _ _ _ _ _ _ (c .before .before .before .before .before .before .before .before .before .before .loop .inv) _ (c .before .before .before .before .before .before .before .before .before .token-at .ensures) _ _ _ (c .before .before .before .before .before .before .before .before .before .before .before .before .before .of .ensures .0) (c .before .before .before .before .before .before .before .before .before .before .before .before .before .of .ensures .1) (c .before .before .before .before .before .before .turn .ensures) _ _ (c .before .before .before .step5 .given .1))
-
-cast-put-track : tie.Need-cast-put-track Inv-loop μ-loop
-cast-put-track c = omega (arith, few _ _ _ _ _ _ _ (c .before .before .before .before .before .before .before .before .before .before .loop .inv) .subnets)
-
-put-track-requires : tie.Need-put-track-requires Inv-loop μ-loop
-put-track-requires c κs = few _ _ _ _ _ _ _ (c .before .before .before .before .before .before .before .before .before .before .loop .inv) .tracks
-
-add-seen-4 : tie.Need-add-seen-4 Inv-loop μ-loop
-add-seen-4 c = omega (arith, few _ _ _ _ _ _ _ (c .before .before .before .before .before .before .before .before .before .before .before .before .before .before .loop .inv) .tracks)
+list-requires : tie.Need-list-requires Inv-loop μ-loop
+list-requires c κs = (track-open _ _ _ _ _ _ _ (c .before .before .before .before .before .before .before .before .before .before .loop .inv) _ (c .before .before .before .before .before .before .before .before .before .token-at .ensures) _ _ _ (c .before .before .before .before .before .before .before .before .before .before .before .before .before .of .ensures .0) (c .before .before .before .before .before .before .before .before .before .before .before .before .before .of .ensures .1) (c .before .before .before .before .before .before .turn .ensures) _ _ (c .before .before .before .step5 .given .1), few _ _ _ _ _ _ _ (c .before .before .before .before .before .before .before .before .before .before .loop .inv) .subnets, few _ _ _ _ _ _ _ (c .before .before .before .before .before .before .before .before .before .before .loop .inv) .tracks)
 
 loop-less-5 : tie.Need-loop-less-5 Inv-loop μ-loop
-loop-less-5 c = nearer _ _ _ _ _ _ _ (c .before .before .before .before .before .before .before .before .before .before .before .before .before .before .loop .inv) _ (c .before .before .before .before .before .before .before .before .before .before .before .before .before .token-at .ensures) (c .before .before .before .before .before .before .before .before .before .before .turn .result) _ _ (c .before .before .before .before .before .before .before .before .before .before .before .before .before .before .before .before .before .of .ensures .0) (c .before .before .before .before .before .before .before .before .before .before .before .before .before .before .before .before .before .of .ensures .1) (c .before .before .before .before .before .before .before .before .before .before .turn .ensures) (ap stepGoes (c .before .before .before .before .before .before .before .step5 .given .1))
+loop-less-5 c = nearer _ _ _ _ _ _ _ (c .before .before .before .before .before .before .before .before .before .before .before .before .before .loop .inv) _ (c .before .before .before .before .before .before .before .before .before .before .before .before .token-at .ensures) (c .before .before .before .before .before .before .before .before .before .turn .result) _ _ (c .before .before .before .before .before .before .before .before .before .before .before .before .before .before .before .before .of .ensures .0) (c .before .before .before .before .before .before .before .before .before .before .before .before .before .before .before .before .of .ensures .1) (c .before .before .before .before .before .before .before .before .before .turn .ensures) (ap stepGoes (c .before .before .before .before .before .before .step5 .given .1))
 
 loop-again-5 : tie.Need-loop-again-5 Inv-loop μ-loop
-loop-again-5 c = going-listed _ _ _ _ _ _ _ (c .before .before .before .before .before .before .before .before .before .before .before .before .before .before .loop .inv) _ (c .before .before .before .before .before .before .before .before .before .before .before .before .before .token-at .ensures) _ _ _ (c .before .before .before .before .before .before .before .before .before .before .before .before .before .before .before .before .before .of .ensures .0) (c .before .before .before .before .before .before .before .before .before .before .before .before .before .before .before .before .before .of .ensures .1) (c .before .before .before .before .before .before .before .before .before .before .turn .ensures) _ _ _ (c .before .before .before .before .before .before .before .step5 .given .1) (c .before .before .before .put-track .ensures)
+loop-again-5 c = going-listed _ _ _ _ _ _ _ (c .before .before .before .before .before .before .before .before .before .before .before .before .before .loop .inv) _ (c .before .before .before .before .before .before .before .before .before .before .before .before .token-at .ensures) _ _ _ (c .before .before .before .before .before .before .before .before .before .before .before .before .before .before .before .before .of .ensures .0) (c .before .before .before .before .before .before .before .before .before .before .before .before .before .before .before .before .of .ensures .1) (c .before .before .before .before .before .before .before .before .before .turn .ensures) _ _ _ _ _ (c .before .before .before .before .before .before .step5 .given .1) (c .before .before .list .ensures .0) (c .before .before .list .ensures .1) (c .before .before .list .ensures .2)
 
 enum-told : tie.Need-enum-told Inv-loop μ-loop
 enum-told c = search needs
@@ -164,24 +149,19 @@ walk-spec =
     loop-again
     enum-known-step-2
     emit-requires
-    add-seen
     loop-less-2
     loop-again-2
     enum-known-step-3
-    add-seen-2
+    add-seen
     loop-less-3
     loop-again-3
     enum-known-step-4
-    mul-ids
-    array-write-ids
-    add-seen-3
+    slice-aggregate-name
+    name-requires
     loop-less-4
     loop-again-4
     enum-known-step-5
-    sub-put-track
-    cast-put-track
-    put-track-requires
-    add-seen-4
+    list-requires
     loop-less-5
     loop-again-5
     enum-told

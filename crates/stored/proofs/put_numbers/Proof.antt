@@ -1,10 +1,10 @@
--- `constraints::tables::put_numbers` meets its contract: what is left to be stored makes of the table what all of it makes. Assumes nothing.
+-- `stored::put_numbers` meets its contract: what is left to be stored makes of the table what all of it makes. Assumes nothing.
 use Prim.Native.Nat.{_-_}
 use lib.ListN.{length}
 use borrow.Author.Needs.{needs}
-use Rattle.constraints.proofs.Putting.{Putting, putting-none, putting-one, putting-all}
-use Rattle.constraints.proofs.tables.put_numbers.Statement.{statement}
-use Rattle.constraints.proofs.tables.put_numbers.Tie as tie
+use Rattle.stored.proofs.Putting.{Putting, putting-none, putting-one, putting-all}
+use Rattle.stored.proofs.put_numbers.Statement.{statement}
+use Rattle.stored.proofs.put_numbers.Tie as tie
 
 abbrev Inv-loop : tie.InvT-loop
 Inv-loop table₀ place numbers k₀ table k = Putting table₀ place numbers table k

@@ -7,7 +7,7 @@ ghost use lib.ListN.{getD, set};
 ghost use lib.Seq.{sets};
 ghost use Rattle.rules.specs.Limits.{constraintWidth, trackWidth, mostConstraints, mostTracks};
 ghost use Rattle.rules.specs.Constraints.{constraintNumbers};
-ghost use Rattle.constraints.specs.Tables.{lastPlace, bumped, beforeLast, startsOf, Upward};
+ghost use Rattle.stored.specs.Places.{lastPlace, bumped, beforeLast, startsOf, Upward};
 ghost use Rattle.ids.specs.Column.{Records};
 use rules::kinds::Kind;
 use rules::sizes::Constraint;

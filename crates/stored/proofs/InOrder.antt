@@ -17,8 +17,8 @@ use Rattle.ids.specs.Column.{column}
 use Rattle.ids.proofs.Column.{column-length, column-at}
 use Rattle.ids.proofs.Rises.{steps-more}
 use Rattle.ids.proofs.Written.{column-written}
-use Rattle.constraints.specs.Tables.{Upward}
-use Rattle.constraints.proofs.Filling.{constraint-long}
+use Rattle.stored.specs.Places.{Upward}
+use Rattle.stored.proofs.Places.{constraint-long}
 
 -- ---- the kinds of constraints that stand in a table
 

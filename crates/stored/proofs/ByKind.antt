@@ -16,8 +16,8 @@ use Rattle.rules.specs.declared.sizes.Constraint.{Constraint}
 use Rattle.rules.specs.Verdict.{All}
 use Rattle.laws.proofs.Ordered.{OfKind, ordered-length}
 use Rattle.rules.proofs.Lists.{flat-append, flat-length}
-use Rattle.constraints.specs.Tables.{bumped, nexts, writes, startsOf}
-use Rattle.constraints.proofs.Filling.{constraint-long}
+use Rattle.stored.specs.Places.{bumped, nexts, writes, startsOf}
+use Rattle.stored.proofs.Places.{constraint-long}
 
 -- ---- a table in segments, one for each kind from a kind on: what is written, and what is free
 

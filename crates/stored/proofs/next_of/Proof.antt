@@ -1,10 +1,10 @@
--- `constraints::tables::next_of` meets its contract: no kind is past the end. Assumes nothing.
+-- `stored::next_of` meets its contract: no kind is past the end. Assumes nothing.
 use borrow.Author.Needs.{needs}
 use denote.Ref.{now}
 use mathlib.Core.Path.{sym}
 use lib.ListN.{List·getD-eq-default}
-use Rattle.constraints.proofs.tables.next_of.Statement.{statement}
-use Rattle.constraints.proofs.tables.next_of.Tie as tie
+use Rattle.stored.proofs.next_of.Statement.{statement}
+use Rattle.stored.proofs.next_of.Tie as tie
 
 mul-result : tie.Need-mul-result
 mul-result c = search needs

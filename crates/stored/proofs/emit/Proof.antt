@@ -1,12 +1,12 @@
--- `constraints::tables::emit` meets its contract: the entry at its place, and the next place of its kind taken. Assumes nothing.
+-- `stored::emit` meets its contract: the entry at its place, and the next place of its kind taken. Assumes nothing.
 use Prim.Native.Nat.{ℕ, _+_, _≤_}
 use mathlib.Core.Path.{_≡_}
 use mathlib.Core.Bool.{Bool, true, false, cond}
 use native.Mathlib.Omega.{arith}
 use Rattle.rules.specs.Limits.{mostConstraints}
 use borrow.Author.Needs.{needs}
-use Rattle.constraints.proofs.tables.emit.Statement.{statement}
-use Rattle.constraints.proofs.tables.emit.Tie as tie
+use Rattle.stored.proofs.emit.Statement.{statement}
+use Rattle.stored.proofs.emit.Tie as tie
 
 -- no place is past all limits
 place-low : (sorts : Bool) (next count place : ℕ) → place ≡ cond sorts next count → next ≤ mostConstraints + mostConstraints → count ≤ mostConstraints

@@ -1,7 +1,7 @@
--- `constraints::tables::place_of` meets its contract: either way. Assumes nothing.
+-- `stored::place_of` meets its contract: either way. Assumes nothing.
 use borrow.Author.Needs.{needs}
-use Rattle.constraints.proofs.tables.place_of.Statement.{statement}
-use Rattle.constraints.proofs.tables.place_of.Tie as tie
+use Rattle.stored.proofs.place_of.Statement.{statement}
+use Rattle.stored.proofs.place_of.Tie as tie
 
 next-of-requires : tie.Need-next-of-requires
 next-of-requires c κs = search needs

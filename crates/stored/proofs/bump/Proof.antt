@@ -1,9 +1,9 @@
--- `constraints::tables::bump` meets its contract: a store past the end writes nothing. Assumes nothing.
+-- `stored::bump` meets its contract: a store past the end writes nothing. Assumes nothing.
 use borrow.Author.Needs.{needs}
 use mathlib.Core.Path.{sym}
 use lib.Seq.{set-out}
-use Rattle.constraints.proofs.tables.bump.Statement.{statement}
-use Rattle.constraints.proofs.tables.bump.Tie as tie
+use Rattle.stored.proofs.bump.Statement.{statement}
+use Rattle.stored.proofs.bump.Tie as tie
 
 mul-next : tie.Need-mul-next
 mul-next c = search needs

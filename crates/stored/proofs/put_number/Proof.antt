@@ -1,9 +1,9 @@
--- `constraints::tables::put_number` meets its contract: a store past the end writes nothing. Assumes nothing.
+-- `stored::put_number` meets its contract: a store past the end writes nothing. Assumes nothing.
 use borrow.Author.Needs.{needs}
 use mathlib.Core.Path.{sym}
 use lib.Seq.{set-out}
-use Rattle.constraints.proofs.tables.put_number.Statement.{statement}
-use Rattle.constraints.proofs.tables.put_number.Tie as tie
+use Rattle.stored.proofs.put_number.Statement.{statement}
+use Rattle.stored.proofs.put_number.Tie as tie
 
 mul-table : tie.Need-mul-table
 mul-table c = search needs

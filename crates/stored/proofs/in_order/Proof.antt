@@ -1,4 +1,4 @@
--- `constraints::tables::in_order` meets its contract. The loop's invariant: those before `i` stand by kind. Assumes nothing.
+-- `stored::in_order` meets its contract. The loop's invariant: those before `i` stand by kind. Assumes nothing.
 use Prim.Native.Nat.{_*_, _-_, _≤_, _<_}
 use mathlib.Core.Path.{sym}
 use mathlib.Core.Bool.{true≢false}
@@ -9,10 +9,10 @@ use borrow.Author.Needs.{needs}
 use Rattle.rules.specs.Limits.{constraintWidth}
 use Rattle.ids.proofs.Column.{in-table}
 use Rattle.ids.proofs.Rises.{before-in-table}
-use Rattle.constraints.specs.Tables.{Upward}
-use Rattle.constraints.proofs.InOrder.{upward-one, upward-more, upward-all}
-use Rattle.constraints.proofs.tables.in_order.Statement.{statement}
-use Rattle.constraints.proofs.tables.in_order.Tie as tie
+use Rattle.stored.specs.Places.{Upward}
+use Rattle.stored.proofs.InOrder.{upward-one, upward-more, upward-all}
+use Rattle.stored.proofs.in_order.Statement.{statement}
+use Rattle.stored.proofs.in_order.Tie as tie
 
 abbrev Inv-loop : tie.InvT-loop
 Inv-loop table n i₀ i = (1 ≤ i) × Upward i table

@@ -1,0 +1,4 @@
+pub mod Putting
+pub mod Places
+pub mod InOrder
+pub mod ByKind

@@ -1,5 +1,5 @@
--- The rows before: what is held of them, and a row's tests after them. While a solution is read, an entry of its choices holds the row's id
--- beside the choice, so that a repeated id is seen without a table of ids.
+-- The rows before: what is held of them. While a solution is read, an entry of its choices holds the row's id beside the choice, so that a
+-- repeated id is seen without a table of ids.
 use Prim.Native.Nat.{ℕ, suc, _+_, _*_, _/_, _≤_, _<_}
 use mathlib.Core.Path.{_≡_}
 use mathlib.Core.Bool.{true}

@@ -16,15 +16,16 @@ use Rattle.lines.specs.Machine.{Progress, inHeader, inRow, stopped}
 use Rattle.legs.specs.declared.line.Line.{Line}
 use Rattle.legs.specs.declared.number.Number.{Number}
 use Rattle.legs.specs.declared.number.Number.the-variants.{Empty}
+use Rattle.headed.specs.declared.Headed.{Headed}
+use Rattle.headed.specs.Heading.{headedFrom}
 use Rattle.timetable.specs.declared.reader.Reader.{Reader}
-use Rattle.timetable.specs.declared.reader.Headed.{Headed}
 use Rattle.timetable.specs.declared.reader.Rows.the-variants.{Fault, Read}
 use Rattle.legs.specs.Digits.{mostHeld}
 use Rattle.timetable.specs.Open.{Open, start, reachedEnd}
 use Rattle.timetable.specs.Held.{inHead, Tables, InLine}
 use Rattle.timetable.specs.Ended.{draftRoom}
 use Rattle.timetable.specs.Promise.{answerOf}
-use Rattle.timetable.specs.Text.{firstLine, Holds, drafted, Ran, Fed, headedFrom, Finished}
+use Rattle.timetable.specs.Text.{firstLine, Holds, drafted, Ran, Fed, Finished}
 use Rattle.timetable.proofs.Header.{arrived, wrong-header, right-header}
 use Rattle.timetable.proofs.Turn.{stays}
 

@@ -1,4 +1,4 @@
--- The header is compared byte by byte: a law for each way through the loop, and what that says of how far the text is read. Assumes nothing.
+-- Where the header's bytes lead: what its comparison says of how far the text is read. Assumes nothing.
 use Prim.Native.Nat.{ℕ, suc, _+_, _≤_, _<_}
 use mathlib.Core.Path.{_≡_, refl, ap, sym, _∙_}
 use mathlib.Core.Bool.{Bool, true, false, cond, false≢true}
@@ -7,44 +7,20 @@ use native.Mathlib.Omega.{arith}
 use native.Mathlib.Nat.{add-zero}
 use native.Mathlib.Numerals.{add-one}
 use lib.Dec.{ltb, eqb}
-use lib.ListN.{length, getD, drop, drop-of-length-le}
-use lib.Seq.{drop-cons}
-use borrow.Author.Tests.{ltb-true, ltb-false, lt-ltb, le-ltb, eq-eqb, ne-eqb}
+use lib.ListN.{length, getD, drop}
+use borrow.Author.Tests.{ltb-true, ltb-false}
 use Rattle.rules.specs.Limits.{mostText}
 use Rattle.rules.specs.Answers.{badHeader, timetableFile}
 use Rattle.rules.specs.Timetable.{Row, timetableHeader, judgeForm}
 use Rattle.lines.specs.Fold.{fold}
 use Rattle.lines.specs.Machine.{Progress, stopped, begun}
 use Rattle.legs.specs.declared.line.Line.{Line}
-use Rattle.timetable.specs.declared.reader.Headed.{Headed}
+use Rattle.headed.specs.declared.Headed.{Headed}
+use Rattle.headed.specs.Heading.{headed, headedFrom}
 use Rattle.timetable.specs.Open.{Open, start, openStep, openEnd, reach}
 use Rattle.timetable.specs.Held.{Tables}
 use Rattle.timetable.specs.Ended.{draftRoom}
-use Rattle.timetable.specs.Text.{drafted, Placed, headed, headedFrom}
-
-pub head-begins : (part : List ℕ) (read : ℕ) → headedFrom (read + 0) 0 (drop 0 part) ≡ headedFrom read 0 part
-head-begins part read = ap (λ (k : ℕ). headedFrom k 0 part) (add-zero read)
-
-module _ (part : List ℕ) (read i : ℕ) (r : Headed) (e : headedFrom (read + i) i (drop i part) ≡ r) where
-  pub head-over : i < length part → length timetableHeader ≤ read + i → headed i true ≡ r
-  head-over h k = rw (drop-cons part i 0 h, le-ltb (read + i) (length timetableHeader) k) at e
-
-  pub head-wrong : i < length part → read + i < length timetableHeader → (getD part i 0 ≡ getD timetableHeader (read + i) 0 → ⊥) → headed i false ≡ r
-  head-wrong h k n =
-      rw (drop-cons part i 0 h, lt-ltb (read + i) (length timetableHeader) k, ne-eqb (getD part i 0) (getD timetableHeader (read + i) 0) n) at e
-
-  pub head-on : i < length part → read + i < length timetableHeader → getD part i 0 ≡ getD timetableHeader (read + i) 0
-      → headedFrom (read + (i + 1)) (i + 1) (drop (i + 1) part) ≡ r
-  head-on h k n =
-      let q : read + (i + 1) ≡ read + i + 1 = omega arith in
-      ap (λ (x : ℕ). headedFrom x (i + 1) (drop (i + 1) part)) q
-      ∙ ap (λ (x : ℕ). headedFrom (read + i + 1) (i + 1) (drop x part)) (add-one i)
-      ∙ (rw (drop-cons part i 0 h, lt-ltb (read + i) (length timetableHeader) k, eq-eqb (getD part i 0) (getD timetableHeader (read + i) 0) n) at e)
-
-  pub head-end : length part ≤ i → headed i true ≡ r
-  head-end h = rw (drop-of-length-le part h) at e
-
--- ---- where the header's bytes lead
+use Rattle.timetable.specs.Text.{drafted, Placed}
 
 -- the place is in the part, and where the part goes on the header is whole
 headed-within : (s : List ℕ) (k i : ℕ) → (headedFrom k i s .next ≤ i + length s) × (headedFrom k i s .right ≡ true → headedFrom k i s .next < i + length s → length timetableHeader + i ≤ k + headedFrom k i s .next)

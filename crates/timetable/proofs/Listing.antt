@@ -1,45 +1,26 @@
 -- Whole entries at once lead where their bytes lead: three numbers, each closed by its byte. Assumes nothing.
 use Prim.Native.Nat.{ℕ, _+_, _-_, _≤_, _<_}
 use mathlib.Core.Path.{_≡_, refl, ap, sym, _∙_}
-use mathlib.Core.Bool.{Bool, false}
+use mathlib.Core.Bool.{false}
 use mathlib.Core.List.{List}
 use native.Mathlib.Omega.{arith}
-use lib.ListN.{length, getD, set, drop}
+use lib.ListN.{length, getD, set}
 use Rattle.rules.specs.Bytes.{lineFeed, space, underscore}
 use Rattle.rules.specs.Timetable.{timetableHeader}
 use Rattle.legs.specs.declared.line.Line.{Line}
 use Rattle.legs.specs.declared.number.Number.the-variants.{Empty}
-use Rattle.legs.specs.declared.number.Taken.{Taken}
-use Rattle.timetable.specs.declared.entries.Cut.{Cut}
-use Rattle.timetable.specs.declared.entries.Cut.the-variants.{At}
-use Rattle.timetable.specs.declared.entries.Spotted.{Spotted}
-use Rattle.timetable.specs.declared.entries.Spotted.the-variants.{Entry}
-use Rattle.legs.specs.Digits.{takenFrom, isEmpty, valueOf}
+use Rattle.spotted.specs.declared.Spotted.{Spotted}
+use Rattle.spotted.specs.declared.Spotted.the-variants.{Entry}
+use Rattle.spotted.specs.Spots.{NumberAt, EntryAt, Spots, spotted}
 use Rattle.legs.specs.Slots.{entrySlot, separatorOf}
 use Rattle.timetable.specs.Held.{lineWith, openEntry, tables, Entered, Closed}
 use Rattle.timetable.specs.Text.{Signed, Leads}
-use Rattle.timetable.specs.Entries.{NumberAt, Cuts, missed, cut, EntryAt, Spots, unspotted, spotted, Begun, Lists}
+use Rattle.timetable.specs.Entries.{Begun, Lists}
 use Rattle.timetable.proofs.Close.{close-slot, close-entry}
 use Rattle.timetable.proofs.Ended.{sign-close}
 use Rattle.timetable.proofs.Turn.{taken-forward, led-none, led-signed}
 
--- ---- a look at several bytes
-
-pub cut-at : (part : List ℕ) (from closes : ℕ) (t : Taken) (empty : Bool) (v : ℕ) → t ≡ takenFrom Empty from (drop from part) → t .next < length part → getD part (t .next) 0 ≡ closes
-    → empty ≡ isEmpty (t .number) → empty ≡ false → v ≡ valueOf (t .number) → Cuts part from closes (At v (t .next + 1))
-cut-at part from closes t empty v e h b x y z =
-    cut (record { number = t; number-is = e; inside = h; byte = b; digits = sym x ∙ y; value = z; behind = refl })
-
-cut-number : {part : List ℕ} {from closes : ℕ} {r : Cut} {v next : ℕ} → Cuts part from closes r → r ≡ At v next → NumberAt part from closes v next
-cut-number {part} {from} {closes} {r} {v} {next} c e = go (rw e at c)
-  where
-    go : Cuts part from closes (At v next) → NumberAt part from closes v next
-    go (cut n) = n
-
-pub spotted-at : (part : List ℕ) (from : ℕ) (a b c : Cut) (d t p second third next : ℕ) → Cuts part from underscore a → a ≡ At d second → Cuts part second underscore b → b ≡ At t third
-    → Cuts part third space c → c ≡ At p next → Spots part from (Entry d t p next)
-spotted-at part from a b c d t p second third next x e y f z g =
-    spotted (record { second = second; third = third; departure = cut-number x e; travel = cut-number y f; profile = cut-number z g })
+-- ---- an entry that was spotted
 
 entry-of : {part : List ℕ} {from : ℕ} {r : Spotted} {d t p next : ℕ} → Spots part from r → r ≡ Entry d t p next → EntryAt part from d t p next
 entry-of {part} {from} {r} {d} {t} {p} {next} c e = go (rw e at c)
@@ -147,7 +128,5 @@ lists-none H part from table line b =
 
 pub begun : (part : List ℕ) (from : ℕ) (line : Line) → from ≤ length part → line .fault ≡ 0 → Begun part from line
 begun part from line h c = record { within = h; clear = c }
-
-pub ruleset looks = (missed, unspotted, cut-at, spotted-at)
 
 pub ruleset entering = (listing, listing-next, listing-less, listing-over, lists-none, begun)

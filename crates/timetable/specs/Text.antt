@@ -1,13 +1,12 @@
 -- How far a text is read: what the reader and the tables hold there, in the header, in a row, and after a fault.
 use Prim.Native.Nat.{ℕ, suc, _+_, _≤_, _<_}
 use mathlib.Core.Path.{_≡_}
-use mathlib.Core.Bool.{Bool, true, false, cond}
-use mathlib.Core.List.{List, [], _∷_}
+use mathlib.Core.Bool.{false}
+use mathlib.Core.List.{List}
 use mathlib.Core.Option.{none}
-use lib.Dec.{ltb, eqb}
-use lib.ListN.{length, getD, drop, replicate}
+use lib.ListN.{length, drop, replicate}
 use Rattle.rules.specs.Limits.{mostText}
-use Rattle.rules.specs.Answers.{right, timetableFile}
+use Rattle.rules.specs.Answers.{timetableFile}
 use Rattle.rules.specs.Timetable.{Row, timetableHeader}
 use Rattle.lines.specs.Fold.{fold}
 use Rattle.lines.specs.Number.{numberStep}
@@ -17,7 +16,6 @@ use Rattle.legs.specs.declared.number.Number.{Number}
 use Rattle.legs.specs.declared.number.Number.the-variants.{Empty}
 use Rattle.legs.specs.declared.line.Line.{Line}
 use Rattle.timetable.specs.declared.reader.Reader.{Reader}
-use Rattle.timetable.specs.declared.reader.Headed.{Headed}
 use Rattle.timetable.specs.declared.reader.Rows.{Rows}
 use Rattle.timetable.specs.Open.{Open, reach, reachedEnd}
 use Rattle.legs.specs.Digits.{mostHeld}
@@ -82,17 +80,6 @@ pub record Fed (H : ℕ) (reader : Reader) (part : List ℕ) (reader′ : Reader
   pub fed-to : reader′ .read ≡ reader .read + length part
   pub feeds : (lent : Tables) (reached : Progress Row Open) → Holds H lent (reader .read) (reader .number) (reader .line) now reached
       → Holds H lent (reader′ .read) (reader′ .number) (reader′ .line) now′ (fold (drafted H lent) reached part)
-
--- ---- the header: it goes on to a place of the part, right or not
-
-abbrev pub headed : (next : ℕ) (so-far : Bool) → Headed
-headed next so-far = record { next = next; right = so-far }
-
--- k bytes of the header went before; the part is at place i
-abbrev pub headedFrom : (k i : ℕ) → List ℕ → Headed
-headedFrom k i [] = headed i true
-headedFrom k i (b ∷ s) =
-    cond (ltb k (length timetableHeader)) (cond (eqb b (getD timetableHeader k 0)) (headedFrom (k + 1) (i + 1) s) (headed i false)) (headed i true)
 
 -- ---- the end of a text
 

@@ -1,59 +1,11 @@
 // Whole entries of a list at once: numbers in registers, the row touched at the spaces alone. What is no whole entry is left for the loop over numbers.
 ghost use mathlib.Core.Path.{_≡_};
 ghost use Rattle.legs.specs.Slots.{entrySlot};
-ghost use Rattle.timetable.specs.Entries.{Cuts, Spots, Lists, Begun};
+ghost use Rattle.timetable.specs.Entries.{Lists, Begun};
 use crate::row;
 use legs::line;
 use legs::line::Line;
-use legs::number;
-use legs::number::Number;
-
-// A number and the place behind the byte that closes it.
-pub enum Cut {
-    At(u32, usize),
-    Miss,
-}
-
-// The number that begins at a place.
-fn number_at(part: &[u8], from: usize, closes: u8) -> Cut
-    ensures { λ r. ⌜ Cuts (now (part .entry)) from closes r ⌝ }
-{
-    let taken = number::take(part, from, Number::Empty);
-    let number = taken.number;
-    let next = taken.next;
-    if part.len() <= next {
-        return Cut::Miss;
-    }
-    if part[next] != closes {
-        return Cut::Miss;
-    }
-    if number::is_empty(number) {
-        return Cut::Miss;
-    }
-    Cut::At(number::value(number), next + 1)
-}
-
-// An entry's three numbers, and the place behind its space.
-pub enum Spotted {
-    Entry(u32, u32, u32, usize),
-    Miss,
-}
-
-// The entry that begins at a place.
-fn entry_at(part: &[u8], from: usize) -> Spotted
-    ensures { λ r. ⌜ Spots (now (part .entry)) from r ⌝ }
-{
-    let Cut::At(d, second) = number_at(part, from, b'_') else {
-        return Spotted::Miss;
-    };
-    let Cut::At(t, third) = number_at(part, second, b'_') else {
-        return Spotted::Miss;
-    };
-    let Cut::At(p, next) = number_at(part, third, b' ') else {
-        return Spotted::Miss;
-    };
-    Spotted::Entry(d, t, p, next)
-}
+use spotted::Spotted;
 
 // The row after entries, and the place behind the last one's space.
 pub struct Listed {
@@ -69,7 +21,7 @@ fn run_entries(before: Line, part: &[u8], from: usize, h: u32, configurations: &
     let mut line = before;
     let mut i = from;
     while i < part.len() {
-        let Spotted::Entry(d, t, p, next) = entry_at(part, i) else {
+        let Spotted::Entry(d, t, p, next) = spotted::entry_at(part, i) else {
             return Listed { line, next: i };
         };
         line = row::listed(line, d, t, p, h, configurations);

@@ -6,7 +6,7 @@ ghost use Rattle.rules.specs.Limits.{mostText};
 ghost use Rattle.legs.specs.declared.number.Number.the-variants.{Empty};
 ghost use Rattle.timetable.specs.Held.{tables};
 ghost use Rattle.timetable.specs.Promise.{ReadAs};
-ghost use Rattle.timetable.specs.Text.{firstLine, headedFrom, Placed, Ran, Fed, Finished};
+ghost use Rattle.timetable.specs.Text.{firstLine, Placed, Ran, Fed, Finished};
 use crate::entries;
 use crate::row;
 use legs::line;
@@ -22,12 +22,6 @@ pub struct Reader {
     pub read: usize,
     pub number: Number,
     pub line: Line,
-}
-
-// How far a part goes on with the header, and whether it is right so far.
-pub struct Headed {
-    pub next: usize,
-    pub right: bool,
 }
 
 // The rows and configurations of a text, or its first fault.
@@ -63,47 +57,21 @@ pub fn start() -> Reader
     }
 }
 
-fn header(part: &[u8], read: usize) -> Headed
-    requires { ⌜ read + length (now part) ≤ mostText ⌝ }
-    ensures { λ r. ⌜ r ≡ headedFrom read 0 (now (part .entry)) ⌝ }
-{
-    let mut i = 0;
-    while i < part.len() {
-        let k = read + i;
-        if Leg::HEADER_LENGTH <= k {
-            return Headed {
-                next: i,
-                right: true,
-            };
-        }
-        if part[i] != Leg::HEADER[k] {
-            return Headed {
-                next: i,
-                right: false,
-            };
-        }
-        i += 1;
-    }
-    Headed {
-        next: i,
-        right: true,
-    }
-}
-
-// The rows of a part from a place on: the digits of a number in one loop, the byte that closes it, and then the entries that follow whole.
+// The rows of a part, which follows `gone` bytes, from a place on: the digits of a number in one loop, the byte that closes it, and then the entries that follow whole.
 pub fn run_rows(
     before: Line,
     unclosed: Number,
-    read: usize,
+    gone: usize,
     part: &[u8],
     from: usize,
     h: u32,
     legs: &mut [u32],
     configurations: &mut [u32],
 ) -> Reader
-    requires { ⌜ Placed read (now part) from before ⌝ }
-    ensures { λ r. ⌜ Ran h before unclosed read (now (part .entry)) from r (tables (now (legs .entry)) (now (configurations .entry))) (tables (now (legs .exit)) (now (configurations .exit))) ⌝ }
+    requires { ⌜ Placed gone (now part) from before ⌝ }
+    ensures { λ r. ⌜ Ran h before unclosed gone (now (part .entry)) from r (tables (now (legs .entry)) (now (configurations .entry))) (tables (now (legs .exit)) (now (configurations .exit))) ⌝ }
 {
+    let read = gone + part.len();
     let mut line = before;
     let mut number = unclosed;
     let mut i = from;
@@ -112,31 +80,19 @@ pub fn run_rows(
         let next = taken.next;
         number = taken.number;
         if part.len() <= next {
-            return Reader {
-                read: read + part.len(),
-                number,
-                line,
-            };
+            return Reader { read, number, line };
         }
-        let at = (read + next) as u32;
+        let at = (gone + next) as u32;
         line = row::sign(line, number, part[next], at, h, legs, configurations);
         number = Number::Empty;
         if line.fault != 0 {
-            return Reader {
-                read: read + part.len(),
-                number,
-                line,
-            };
+            return Reader { read, number, line };
         }
         let list = entries::run_list(line, part, next + 1, h, configurations);
         line = list.line;
         i = list.next;
     }
-    Reader {
-        read: read + part.len(),
-        number,
-        line,
-    }
+    Reader { read, number, line }
 }
 
 // A part of a text, however it is cut.
@@ -161,7 +117,7 @@ pub fn feed(
             line,
         };
     }
-    let head = header(part, read);
+    let head = headed::header(part, read);
     if head.right {
         let next = head.next;
         return run_rows(line, number, read, part, next, h, legs, configurations);

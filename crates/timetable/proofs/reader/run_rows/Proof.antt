@@ -8,19 +8,19 @@ use Rattle.timetable.proofs.reader.run_rows.Statement.{statement}
 use Rattle.timetable.proofs.reader.run_rows.Tie as tie
 
 abbrev Inv-loop : tie.InvT-loop
-Inv-loop read part from h legs₀ configurations₀ line₀ number₀ i₀ legs configurations line number i = Going h read part from legs₀ configurations₀ line₀ number₀ legs configurations line number i
+Inv-loop gone part from h legs₀ configurations₀ read line₀ number₀ i₀ legs configurations line number i = Going h gone part from legs₀ configurations₀ line₀ number₀ legs configurations line number i
 
 abbrev μ-loop : tie.MeasureT-loop
-μ-loop read part from h legs₀ configurations₀ line₀ number₀ i₀ legs configurations line number i = length part - i
+μ-loop gone part from h legs₀ configurations₀ read line₀ number₀ i₀ legs configurations line number i = length part - i
+
+add-read : tie.Need-add-read Inv-loop μ-loop
+add-read c = search needs
 
 loop-holds : tie.Need-loop-holds Inv-loop μ-loop
 loop-holds c = search (going, needs)
 
 take-requires : tie.Need-take-requires Inv-loop μ-loop
 take-requires c κs = search needs
-
-add-t19 : tie.Need-add-t19 Inv-loop μ-loop
-add-t19 c = search needs
 
 same-length : tie.Need-same-length Inv-loop μ-loop
 same-length c = search needs
@@ -42,9 +42,6 @@ shared-slice-read-sign c = search needs
 
 sign-requires : tie.Need-sign-requires Inv-loop μ-loop
 sign-requires c κs = search needs
-
-add-t27 : tie.Need-add-t27 Inv-loop μ-loop
-add-t27 c = search needs
 
 same-length-3 : tie.Need-same-length-3 Inv-loop μ-loop
 same-length-3 c = search needs
@@ -71,9 +68,6 @@ loop-again c =
     let took = c .before .before .before .before .before .before .before .before .before .before .before .before .before .before .before .before .take .ensures in
     search (goes-on, needs)
 
-add-t31 : tie.Need-add-t31 Inv-loop μ-loop
-add-t31 c = search needs
-
 same-length-5 : tie.Need-same-length-5 Inv-loop μ-loop
 same-length-5 c = search needs
 
@@ -89,9 +83,9 @@ run-rows-spec =
     (tie.spec
     Inv-loop
     μ-loop
+    add-read
     loop-holds
     take-requires
-    add-t19
     same-length
     same-length-2
     returns
@@ -99,7 +93,6 @@ run-rows-spec =
     cast-at
     shared-slice-read-sign
     sign-requires
-    add-t27
     same-length-3
     same-length-4
     returns-2
@@ -107,7 +100,6 @@ run-rows-spec =
     run-list-requires
     loop-less
     loop-again
-    add-t31
     same-length-5
     same-length-6
     returns-3)

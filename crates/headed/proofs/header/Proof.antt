@@ -3,10 +3,10 @@ use Prim.Native.Nat.{_+_, _-_}
 use mathlib.Core.Path.{_≡_}
 use lib.ListN.{length, drop}
 use borrow.Author.Needs.{needs}
-use Rattle.timetable.specs.Text.{headedFrom}
-use Rattle.timetable.proofs.Header.{head-begins, head-over, head-wrong, head-on, head-end}
-use Rattle.timetable.proofs.reader.header.Statement.{statement}
-use Rattle.timetable.proofs.reader.header.Tie as tie
+use Rattle.headed.specs.Heading.{headedFrom}
+use Rattle.headed.proofs.Heading.{head-begins, head-over, head-wrong, head-on, head-end}
+use Rattle.headed.proofs.header.Statement.{statement}
+use Rattle.headed.proofs.header.Tie as tie
 
 abbrev Inv-loop : tie.InvT-loop
 Inv-loop part read i₀ i = headedFrom (read + i) i (drop i part) ≡ headedFrom read 0 part

@@ -1,8 +1,8 @@
 -- Three numbers, each closed by its byte. Assumes nothing.
 use borrow.Author.Needs.{needs}
-use Rattle.timetable.proofs.Listing.{looks}
-use Rattle.timetable.proofs.entries.entry_at.Statement.{statement}
-use Rattle.timetable.proofs.entries.entry_at.Tie as tie
+use Rattle.spotted.proofs.Looks.{looks}
+use Rattle.spotted.proofs.entry_at.Statement.{statement}
+use Rattle.spotted.proofs.entry_at.Tie as tie
 
 number-at-requires : tie.Need-number-at-requires
 number-at-requires c κs = search needs

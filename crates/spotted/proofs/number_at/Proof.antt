@@ -1,8 +1,8 @@
 -- A number, where it has a digit and the byte closes it. Assumes nothing.
 use borrow.Author.Needs.{needs}
-use Rattle.timetable.proofs.Listing.{looks}
-use Rattle.timetable.proofs.entries.number_at.Statement.{statement}
-use Rattle.timetable.proofs.entries.number_at.Tie as tie
+use Rattle.spotted.proofs.Looks.{looks}
+use Rattle.spotted.proofs.number_at.Statement.{statement}
+use Rattle.spotted.proofs.number_at.Tie as tie
 
 take-requires : tie.Need-take-requires
 take-requires c κs = search needs

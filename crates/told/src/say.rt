@@ -47,12 +47,14 @@ fn front(line: &[u8], end: usize) {
     }
 }
 
+// A number as the word of a letter.
 fn word(letter: u8, n: u64) {
     let mut line = [0u8; LINE];
     let end = put(&mut line, letter, n);
     front(&line, end);
 }
 
+// The same, but in words where there are none.
 fn counted(letter: u8, n: u64) {
     if letter == COUNT && n == 0 {
         text(b"none");
@@ -119,5 +121,6 @@ pub fn answer(word: &[u8]) {
 // Where nothing was answered, why.
 pub fn no_answer(why: &[u8]) {
     text(why);
-    text(b"\nanswer: none\n");
+    text(b"\n");
+    answer(b"none");
 }

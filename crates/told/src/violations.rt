@@ -36,7 +36,7 @@ fn not_offered(v: Violation, legs: &[u32], choices: &[u32]) {
     chosen(choices, row);
 }
 
-// What was needed of the second leg. No inequality keeps an arrival early.
+// What was needed of the second leg. No inequality asks for an earlier arrival.
 fn asked(id: u32, bound: Bound, short: u32) {
     let numbers = [id as u64, bound.seconds, short as u64];
     if bound.arrival {

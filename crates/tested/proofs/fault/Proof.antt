@@ -1,6 +1,6 @@
 -- The row's fault is the lowest number whose test fails. Assumes nothing.
 use borrow.Author.Needs.{needs}
-use Rattle.legs.proofs.RowTests.{rowTests}
+use Rattle.faults.proofs.Tests.{tests}
 use Rattle.tested.proofs.Tests.{room-lacks, none-lacks}
 use Rattle.tested.proofs.fault.Statement.{statement}
 use Rattle.tested.proofs.fault.Tie as tie
@@ -9,13 +9,13 @@ out-of-range-requires : tie.Need-out-of-range-requires
 out-of-range-requires c κs = search needs
 
 returns : tie.Need-returns
-returns c = search (rowTests, needs)
+returns c = search (tests, needs)
 
 too-many-requires : tie.Need-too-many-requires
 too-many-requires c κs = search needs
 
 returns-2 : tie.Need-returns-2
-returns-2 c = search (rowTests, needs)
+returns-2 c = search (tests, needs)
 
 cast-is-new : tie.Need-cast-is-new
 cast-is-new c = search needs
@@ -27,19 +27,19 @@ is-new-requires : tie.Need-is-new-requires
 is-new-requires c κs = search needs
 
 returns-3 : tie.Need-returns-3
-returns-3 c = search (rowTests, needs)
+returns-3 c = search (tests, needs)
 
 cast-if5 : tie.Need-cast-if5
 cast-if5 c = search needs
 
 returns-4 : tie.Need-returns-4
-returns-4 c = search (rowTests, room-lacks, needs)
+returns-4 c = search (tests, room-lacks, needs)
 
 returns-5 : tie.Need-returns-5
-returns-5 c = search (rowTests, none-lacks, needs)
+returns-5 c = search (tests, none-lacks, needs)
 
 returns-6 : tie.Need-returns-6
-returns-6 c = search (rowTests, needs)
+returns-6 c = search (tests, needs)
 
 pub fault-spec : {M : Type 1} → statement M
 fault-spec =

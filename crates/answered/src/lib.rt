@@ -1,66 +1,8 @@
 // An entry, asked about the texts of a case.
-use asked::Entry;
 use asked::starts;
 use cases::block::Case;
-use joined::Joined;
-use judged::Reported;
-use rules::answers::Answer;
-
-// What it answers.
-pub enum Said {
-    Check(Answer),
-    Energy(Reported),
-    Merge(Joined),
-}
-
-// An entry of one solution: its verdict, or its energies.
-fn of_one(
-    case: Case,
-    timetable: &[u8],
-    profiles: &[u8],
-    constraints: &[u8],
-    solution: &[u8],
-    legs: &mut [u32],
-    configurations: &mut [u32],
-    profile_table: &mut [u32],
-    samples: &mut [i32],
-    constraint_table: &mut [u32],
-    tracks: &mut [u32],
-    choices: &mut [u32],
-) -> Said {
-    if case.entry == Entry::CHECK {
-        let answer = judged::check(
-            case,
-            timetable,
-            profiles,
-            constraints,
-            solution,
-            legs,
-            configurations,
-            profile_table,
-            samples,
-            constraint_table,
-            tracks,
-            choices,
-        );
-        return Said::Check(answer);
-    }
-    let reported = judged::energy(
-        case,
-        timetable,
-        profiles,
-        constraints,
-        solution,
-        legs,
-        configurations,
-        profile_table,
-        samples,
-        constraint_table,
-        tracks,
-        choices,
-    );
-    Said::Energy(reported)
-}
+use cases::block::Entry;
+use said::Said;
 
 fn takes_one(entry: u32) -> bool {
     entry == Entry::CHECK || entry == Entry::ENERGY
@@ -83,7 +25,7 @@ fn named(
     choices: &mut [u32],
 ) -> Said {
     if takes_one(case.entry) {
-        return of_one(
+        return judged::ask(
             case,
             timetable,
             profiles,

@@ -1,5 +1,4 @@
 // What an entry answered, as the beginning of a line.
-use answered::Said;
 use cases::block::Lent;
 use cases::digest;
 use cases::lines;
@@ -11,6 +10,7 @@ use reports::Report;
 use rules::answers::Answer;
 use rules::figures::Desk;
 use rules::figures::Figures;
+use said::Said;
 
 fn put_figures(line: &mut [u8], g: Figures, d: Desk) -> usize {
     // The greatest less the least, which is never below 0.

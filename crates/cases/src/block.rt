@@ -59,6 +59,21 @@ impl Case {
     pub const RULES: u32 = 0;
 }
 
+// The numbers by which a block names the entries.
+pub struct Entry {}
+
+impl Entry {
+    pub const CHECK: u32 = 1;
+
+    pub const ENERGY: u32 = 2;
+
+    pub const MERGE_EARLIER: u32 = 3;
+
+    pub const MERGE_LATER: u32 = 4;
+
+    pub const ROW: u32 = 5;
+}
+
 pub enum Block {
     Whole(Case),
     Bad,

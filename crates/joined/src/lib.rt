@@ -1,17 +1,11 @@
 // The two merges, with the rooms lent that only they take.
-use asked::Entry;
 use cases::block::Case;
+use cases::block::Entry;
 use cases::within::Room;
 use checker::merges;
 use lent::Before;
 use merging::Merged;
-
-// What a merge answered, and the digests of those rooms.
-pub struct Joined {
-    pub merged: Merged,
-    pub second: u64,
-    pub text: u64,
-}
+use said::Joined;
 
 // The one that the case names.
 fn either(

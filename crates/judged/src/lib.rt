@@ -1,50 +1,14 @@
 // A solution judged, and with `energy` its energies, with the room lent that only they take.
 use cases::block::Case;
+use cases::block::Entry;
 use cases::within::Room;
 use checker::energies;
 use checker::verdicts;
 use lent::Before;
-use reports::Report;
-use rules::answers::Answer;
+use said::Reported;
+use said::Said;
 
-// What the energies' entry answered, and the digest of that room.
-pub struct Reported {
-    pub report: Report,
-    pub curves: u64,
-}
-
-pub fn check(
-    case: Case,
-    timetable: &[u8],
-    profiles: &[u8],
-    constraints: &[u8],
-    solution: &[u8],
-    legs: &mut [u32],
-    configurations: &mut [u32],
-    profile_table: &mut [u32],
-    samples: &mut [i32],
-    constraint_table: &mut [u32],
-    tracks: &mut [u32],
-    choices: &mut [u32],
-) -> Answer {
-    let checked = verdicts::check(
-        case.h,
-        timetable,
-        profiles,
-        constraints,
-        solution,
-        legs,
-        configurations,
-        profile_table,
-        samples,
-        constraint_table,
-        tracks,
-        choices,
-    );
-    checked.answer
-}
-
-pub fn energy(
+fn energy(
     case: Case,
     timetable: &[u8],
     profiles: &[u8],
@@ -80,4 +44,53 @@ pub fn energy(
         report,
         curves: lent::curves_digest(l.curves, &curves),
     }
+}
+
+// The one that the case names.
+pub fn ask(
+    case: Case,
+    timetable: &[u8],
+    profiles: &[u8],
+    constraints: &[u8],
+    solution: &[u8],
+    legs: &mut [u32],
+    configurations: &mut [u32],
+    profile_table: &mut [u32],
+    samples: &mut [i32],
+    constraint_table: &mut [u32],
+    tracks: &mut [u32],
+    choices: &mut [u32],
+) -> Said {
+    if case.entry == Entry::CHECK {
+        let checked = verdicts::check(
+            case.h,
+            timetable,
+            profiles,
+            constraints,
+            solution,
+            legs,
+            configurations,
+            profile_table,
+            samples,
+            constraint_table,
+            tracks,
+            choices,
+        );
+        return Said::Check(checked.answer);
+    }
+    let reported = energy(
+        case,
+        timetable,
+        profiles,
+        constraints,
+        solution,
+        legs,
+        configurations,
+        profile_table,
+        samples,
+        constraint_table,
+        tracks,
+        choices,
+    );
+    Said::Energy(reported)
 }

@@ -1,9 +1,9 @@
 // The outcome of a case, with the rooms lent that every entry takes.
-use answered::Said;
 use cases::block::Case;
 use cases::within::Room;
 use lent::Before;
 use lent::ROOMS;
+use said::Said;
 
 // What an entry answered, and every room's digest.
 pub struct Outcome {

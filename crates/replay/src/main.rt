@@ -1,18 +1,16 @@
 // Many small cases in one run, for comparison with an independent program: each is a block of numbers and five texts, and is answered by one line.
-use asked::Entry;
 use asked::rows;
 use cases::block;
 use cases::block::Block;
 use cases::block::Case;
+use cases::block::Entry;
 use cases::block::Texts;
 use cases::lines;
 use cases::within;
 use cases::within::Room;
 use lent::ROOMS;
 use libc::STDOUT_FILENO;
-use pieces::Piece;
-
-mod pieces; // standard input
+use stdin::Piece;
 
 const MOST_CASES: u32 = 1_000_000;
 
@@ -56,7 +54,7 @@ fn bytes_of(t: Texts) -> u64 {
 fn skip(case: Case) -> Next {
     let mut buffer = [0u8; Room::BYTES];
     let texts = case.texts;
-    if pieces::skips(&mut buffer, bytes_of(texts)) {
+    if stdin::skips(&mut buffer, bytes_of(texts)) {
         io::write_all(STDOUT_FILENO, b"skipped\n");
         return Next::Answered;
     }
@@ -97,7 +95,7 @@ fn respond(case: Case, texts: &[u8]) {
 fn read_texts(case: Case, texts: &mut [u8]) -> Next {
     let t = case.texts;
     let end = lent::bytes(bytes_of(t) as usize, texts);
-    if !pieces::fills(&mut texts[..end]) {
+    if !stdin::fills(&mut texts[..end]) {
         return Next::Bad;
     }
     respond(case, texts);
@@ -112,7 +110,7 @@ fn serve(case: Case) -> Next {
 
 fn next_case() -> Next {
     let mut bytes = [0u8; Case::BYTES];
-    match pieces::read(&mut bytes) {
+    match stdin::read(&mut bytes) {
         Piece::Nothing => return Next::Ended,
         Piece::Broken => return Next::Bad,
         Piece::Whole => {}

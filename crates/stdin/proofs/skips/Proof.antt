@@ -1,9 +1,10 @@
--- `replay::pieces::skips` ends: each turn reads a whole buffer, which is not empty. Assumes nothing.
+-- `stdin::skips` ends: each turn reads a whole buffer, which is not empty. Assumes nothing.
 use borrow.Author.Needs.{needs}
 use mathlib.Core.Path.{_≡_}
 use lib.ListN.{length}
-use Rattle.replay.proofs.pieces.skips.Statement.{statement}
-use Rattle.replay.proofs.pieces.skips.Tie as tie
+use Rattle.input.proofs.Fronts.{counted}
+use Rattle.stdin.proofs.skips.Statement.{statement}
+use Rattle.stdin.proofs.skips.Tie as tie
 
 abbrev Inv-loop : tie.InvT-loop
 Inv-loop buffer₀ bytes left₀ buffer left = length buffer ≡ length buffer₀
@@ -35,14 +36,11 @@ loop-less c = search needs
 loop-again : tie.Need-loop-again Inv-loop μ-loop
 loop-again c = search needs
 
-bytes-requires : tie.Need-bytes-requires Inv-loop μ-loop
-bytes-requires c κs = search needs
-
 slice-relend-prefix-fills : tie.Need-slice-relend-prefix-fills Inv-loop μ-loop
 slice-relend-prefix-fills c = search needs
 
 slice-aggregate-fills : tie.Need-slice-aggregate-fills Inv-loop μ-loop
-slice-aggregate-fills c = search needs
+slice-aggregate-fills c = counted (c .before .before .loop .left) (c .before .before .loop .buffer) (search needs) .1
 
 fills-requires-2 : tie.Need-fills-requires-2 Inv-loop μ-loop
 fills-requires-2 c κs = search needs
@@ -67,7 +65,6 @@ skips-spec =
     sub-left
     loop-less
     loop-again
-    bytes-requires
     slice-relend-prefix-fills
     slice-aggregate-fills
     fills-requires-2

@@ -45,6 +45,5 @@ pub fn skips(buffer: &mut [u8], bytes: u64) -> bool {
         }
         left -= buffer.len() as u64;
     }
-    let last = lent::bytes(left as usize, buffer);
-    fills(&mut buffer[..last])
+    fills(&mut buffer[..left as usize])
 }

@@ -12,31 +12,53 @@ const LINE: usize = 128;
 // Stands in a sentence before the letter of a word.
 const MARK: u8 = b'%';
 
+// How a number stands in a sentence, by the letter after the mark.
+struct Letter {}
+
+impl Letter {
+    const NUMBER: u8 = b'n';
+
+    // How many there are, in words where there are none.
+    const COUNT: u8 = b'c';
+
+    const TIME: u8 = b't';
+
+    // Kilojoules as MWh.
+    const ENERGY: u8 = b'e';
+
+    const KIND: u8 = b'k';
+
+    const LIST: u8 = b'l';
+
+    // What a refusal's number means.
+    const MEANING: u8 = b'm';
+
+    const FILE: u8 = b'f';
+
+    const BYTE: u8 = b'b';
+}
+
 // A kind, a file, a refusal's number and a byte are below it.
 const BYTES: u64 = 256;
-
-// The letter of a number of things, in words where there are none.
-const COUNT: u8 = b'c';
-
-// The letter of a byte.
-const BYTE: u8 = b'b';
 
 pub fn text(s: &[u8]) {
     io::write_all(STDOUT_FILENO, s);
 }
 
-// A number as the word of a letter, at the front of a line; the place after it.
+// A number as the word of a letter, at the front of a line; the place after it. Another letter has no word.
 fn put(line: &mut [u8], letter: u8, n: u64) -> usize {
     let number = (n % BYTES) as u8;
     match letter {
-        b't' => times::put_time(line, 0, n),
-        b'e' => energies::put_mwh(line, 0, n),
-        b'k' => names::put_kind(line, 0, number),
-        b'l' => names::put_list(line, 0, number),
-        b'm' => names::put_meaning(line, 0, number),
-        b'f' => names::put_file(line, 0, number),
-        BYTE => escapes::put_shown(line, 0, number),
-        _ => numbers::put_whole(line, 0, n),
+        Letter::NUMBER => numbers::put_whole(line, 0, n),
+        Letter::COUNT => numbers::put_whole(line, 0, n),
+        Letter::TIME => times::put_time(line, 0, n),
+        Letter::ENERGY => energies::put_mwh(line, 0, n),
+        Letter::KIND => names::put_kind(line, 0, number),
+        Letter::LIST => names::put_list(line, 0, number),
+        Letter::MEANING => names::put_meaning(line, 0, number),
+        Letter::FILE => names::put_file(line, 0, number),
+        Letter::BYTE => escapes::put_shown(line, 0, number),
+        _ => 0,
     }
 }
 
@@ -56,15 +78,14 @@ fn word(letter: u8, n: u64) {
 
 // The same, but in words where there are none.
 fn counted(letter: u8, n: u64) {
-    if letter == COUNT && n == 0 {
+    if letter == Letter::COUNT && n == 0 {
         text(b"none");
         return;
     }
     word(letter, n);
 }
 
-// A sentence with a mark and a letter for each number: a time (t), an energy in MWh (e), a kind (k), a kind's list (l), a meaning (m), a file (f),
-// how many there are (c), or the number itself (n).
+// A sentence with a mark and a letter for each number.
 pub fn sentence(s: &[u8], numbers: &[u64]) {
     let mut start = 0;
     let mut k = 0;
@@ -101,7 +122,7 @@ pub fn formula(kind: u8, inequality: u8) {
 pub fn bytes(s: &[u8]) {
     let mut i = 0;
     while i < s.len() {
-        word(BYTE, s[i] as u64);
+        word(Letter::BYTE, s[i] as u64);
         i += 1;
     }
 }

@@ -1,6 +1,6 @@
 // All four files are read, the solution is judged, and its energies are worked out where it is accepted.
 ghost use Rattle.rules.specs.Entries.{tables};
-ghost use Rattle.files.specs.Promise.{texts};
+ghost use Rattle.filed.specs.Filing.{texts};
 ghost use Rattle.checker.specs.Reports.{Reports};
 use emptied::acceptance;
 use emptied::refusals;

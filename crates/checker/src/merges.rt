@@ -1,7 +1,7 @@
 // The two merges: one merged text a call, with `earlier` or `later` choices (document 01, "Merged texts").
 ghost use Rattle.rules.specs.Merge.{earlier, later};
 ghost use Rattle.rules.specs.Entries.{tables};
-ghost use Rattle.files.specs.Promise.{texts};
+ghost use Rattle.filed.specs.Filing.{texts};
 ghost use Rattle.merging.specs.Promise.{Merges};
 use either::Direction;
 

@@ -1,6 +1,6 @@
 // All four files are read, and the solution is judged.
 ghost use Rattle.rules.specs.Entries.{tables};
-ghost use Rattle.files.specs.Promise.{texts};
+ghost use Rattle.filed.specs.Filing.{texts};
 ghost use Rattle.checker.specs.Checks.{Checks};
 use emptied::refusals;
 use rules::answers::Answer;

@@ -1,6 +1,6 @@
 // `energy` for C.
 ghost use Rattle.rules.specs.Entries.{tables};
-ghost use Rattle.files.specs.Promise.{texts};
+ghost use Rattle.filed.specs.Filing.{texts};
 ghost use Rattle.checker.specs.Reports.{Reports};
 ghost use Rattle.numbers.specs.Numbers.{reportNumbers};
 ghost use Rattle.exports.specs.Exported.{Exported};

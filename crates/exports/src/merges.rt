@@ -1,7 +1,7 @@
 // The two merges for C.
 ghost use Rattle.rules.specs.Merge.{earlier, later};
 ghost use Rattle.rules.specs.Entries.{tables};
-ghost use Rattle.files.specs.Promise.{texts};
+ghost use Rattle.filed.specs.Filing.{texts};
 ghost use Rattle.merging.specs.Promise.{Merges};
 ghost use Rattle.numbers.specs.Numbers.{mergeNumbers};
 ghost use Rattle.exports.specs.Exported.{Exported};

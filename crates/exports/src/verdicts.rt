@@ -1,6 +1,6 @@
 // `check` for C.
 ghost use Rattle.rules.specs.Entries.{tables};
-ghost use Rattle.files.specs.Promise.{texts};
+ghost use Rattle.filed.specs.Filing.{texts};
 ghost use Rattle.checker.specs.Checks.{Checks};
 ghost use Rattle.numbers.specs.Numbers.{checkNumbers};
 ghost use Rattle.exports.specs.Exported.{Exported};

@@ -21,9 +21,10 @@ use Rattle.timetable.specs.declared.reader.Rows.{Rows}
 use Rattle.timetable.specs.declared.reader.Rows.the-variants.{Fault, Read}
 use Rattle.timetable.specs.Held.{tables}
 use Rattle.timetable.specs.Promise.{answerOf, ReadAs, Tabled}
-use Rattle.files.specs.declared.Filed.the-variants.{Whole, Refused}
+use Rattle.filed.specs.declared.Filed.the-variants.{Whole, Refused}
+use Rattle.filed.proofs.Filing.{same-refusal}
 use Rattle.files.specs.Parts.{draftOf, DraftRead}
-use Rattle.files.proofs.Parted.{same-refusal, part-refused, part-good}
+use Rattle.files.proofs.Parted.{part-refused, part-good}
 
 -- ---- H
 

@@ -17,13 +17,14 @@ use Rattle.laws.proofs.GoodText.{never-good}
 use Rattle.laws.proofs.GoodRows.{timetable-good}
 use Rattle.laws.proofs.GoodFiles.{good-first}
 use Rattle.laws.proofs.LawfulRows.{legs-most}
-use Rattle.files.specs.declared.Counts.{Counts}
-use Rattle.files.specs.declared.Filed.{Filed}
-use Rattle.files.specs.declared.Filed.the-variants.{Whole, Refused}
-use Rattle.files.specs.Promise.{texts, filedBy, filedOf, FilesRead}
+use Rattle.rows.proofs.Fronts.{front-held}
+use Rattle.filed.specs.declared.Counts.{Counts}
+use Rattle.filed.specs.declared.Filed.{Filed}
+use Rattle.filed.specs.declared.Filed.the-variants.{Whole, Refused}
+use Rattle.filed.specs.Filing.{texts, filedBy, filedOf}
+use Rattle.files.specs.Promise.{FilesRead}
 use Rattle.files.specs.Parts.{draftOf, powersOf, rulesOf, withRows, withCurves, withDocument, Draft, Lists, Drafted, Listed, Part, DraftRead, PowersRead, RulesRead}
 use Rattle.files.proofs.Parted.{WasGood, whole-good, refused-refused}
-use Rattle.files.proofs.Fronts.{front-held}
 
 -- ---- the definition, in parts
 

@@ -1,5 +1,4 @@
 pub mod Parted
-pub mod Fronts
 pub mod DraftWays
 pub mod PowerWays
 pub mod RuleWays

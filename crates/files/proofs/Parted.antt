@@ -2,19 +2,14 @@
 use Prim.Native.Nat.{ℕ}
 use mathlib.Core.Path.{_≡_, refl, sym, _∙_}
 use native.Mathlib.Omega.{arith}
-use Rattle.rules.specs.Answers.{refusal, Reading, refused, good}
+use Rattle.rules.specs.Answers.{Reading, refused, good}
 use Rattle.rules.specs.declared.answers.Refusal.{Refusal}
 use Rattle.laws.proofs.GoodText.{never-good}
-use Rattle.files.specs.declared.Counts.{Counts}
-use Rattle.files.specs.declared.Filed.{Filed}
-use Rattle.files.specs.declared.Filed.the-variants.{Whole, Refused}
-use Rattle.files.specs.Promise.{filedBy}
+use Rattle.filed.specs.declared.Counts.{Counts}
+use Rattle.filed.specs.declared.Filed.{Filed}
+use Rattle.filed.specs.declared.Filed.the-variants.{Whole, Refused}
+use Rattle.filed.specs.Filing.{filedBy}
 use Rattle.files.specs.Parts.{Part}
-
--- a refusal by its three numbers
-pub same-refusal : {A : Type 0} (r : Refusal) {number file place : ℕ} → number ≡ r .number → r .file ≡ file → place ≡ r .place
-    → _≡_ {A = Reading A} (refused r) (refused (refusal number file place))
-same-refusal r n f p i = refused (record { number = sym n i; file = f i; place = sym p i })
 
 -- what was read, by a reader's answer that is told of no refusal
 pub record WasRead {A B : Type 0} (tell : Reading A → B) (answer : B) (read : Reading A) : Type 0 where

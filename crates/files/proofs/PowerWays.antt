@@ -22,12 +22,12 @@ use Rattle.rows.specs.declared.lists.Fault.the-variants.{Row as AtRow, Nothing}
 use Rattle.profiles.specs.Reads.{rowsOf, Reads}
 use Rattle.samples.specs.Row.{profileTable}
 use Rattle.rows.specs.Counts.{Tables, Tabled, faultOf, FirstFault}
-use Rattle.rows.proofs.Holding.{tabled-tables}
-use Rattle.files.specs.declared.Counts.{Counts}
-use Rattle.files.specs.declared.Filed.the-variants.{Whole, Refused}
+use Rattle.rows.proofs.Holding.{front-records, tabled-tables}
+use Rattle.rows.proofs.Fronts.{front-held}
+use Rattle.filed.specs.declared.Counts.{Counts}
+use Rattle.filed.specs.declared.Filed.the-variants.{Whole, Refused}
 use Rattle.files.specs.Parts.{powersOf, Draft, Lists, Listed, PowersRead}
 use Rattle.files.proofs.Parted.{WasRead, was-read, part-refused, part-good}
-use Rattle.files.proofs.Fronts.{front-held, front-records}
 
 not-read : (o : Reading (List Curve)) (r : Refusal) → NotRead r ≡ rowsOf o → o ≡ refused r
 not-read (refused s) r e = cc

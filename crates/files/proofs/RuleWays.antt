@@ -21,11 +21,13 @@ use Rattle.constraints.specs.declared.Read.the-variants.{Whole as WholeText, Re
 use Rattle.constraints.specs.Tables.{readOf, reading, Reads}
 use Rattle.rows.specs.Subnets.{faultAt, Fifteen}
 use Rattle.constraints.proofs.Filling.{tracks-held}
-use Rattle.files.specs.declared.Counts.{Counts}
-use Rattle.files.specs.declared.Filed.the-variants.{Whole, Refused}
+use Rattle.rows.proofs.Holding.{front-records}
+use Rattle.rows.proofs.Fronts.{legs-records, legs-ids, legs-tracks}
+use Rattle.filed.specs.declared.Counts.{Counts}
+use Rattle.filed.specs.declared.Filed.the-variants.{Whole, Refused}
+use Rattle.filed.proofs.Filing.{same-refusal}
 use Rattle.files.specs.Parts.{rulesOf, Draft, Drafted, RulesRead}
-use Rattle.files.proofs.Parted.{WasRead, was-read, same-refusal, part-refused, part-good}
-use Rattle.files.proofs.Fronts.{front-records, legs-records, legs-ids, legs-tracks}
+use Rattle.files.proofs.Parted.{WasRead, was-read, part-refused, part-good}
 
 -- the constraints' refusals lie in the constraints
 own-file : (o : Reading Document) → Refuses (λ r. r .file ≡ constraintsFile) o → (number place : ℕ) → NotRead number place ≡ readOf o → o ≡ refused (refusal number constraintsFile place)

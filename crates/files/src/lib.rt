@@ -1,25 +1,10 @@
 // All that does not depend on a solution, in document 01's order: H; timetable; profiles; 12 and 13; constraints; 15.
 ghost use Rattle.rules.specs.Entries.{tables};
-ghost use Rattle.files.specs.Promise.{texts, FilesRead};
-use rules::answers::Refusal;
+ghost use Rattle.filed.specs.Filing.{texts};
+ghost use Rattle.files.specs.Promise.{FilesRead};
+use filed::Filed;
 
 pub mod parts; // the draft; profiles, 12 and 13; constraints, 15
-
-// How many entries the tables hold.
-pub struct Counts {
-    pub legs: usize,
-    pub configurations: usize,
-    pub profiles: usize,
-    pub samples: usize,
-    pub constraints: usize,
-    pub tracks: usize,
-    pub subnets: usize,
-}
-
-pub enum Filed {
-    Whole(Counts),
-    Refused(Refusal),
-}
 
 pub fn read_files(
     h: u32,

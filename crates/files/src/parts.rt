@@ -1,8 +1,8 @@
 // The reading in three parts. Each answers the counts so far, or the refusal that ends everything.
 ghost use Rattle.files.specs.Parts.{DraftRead, Listed, PowersRead, Drafted, RulesRead};
-use crate::Counts;
-use crate::Filed;
 use constraints::Read;
+use filed::Counts;
+use filed::Filed;
 use found::places;
 use ids::Found;
 use rows::lists;

@@ -11,12 +11,12 @@ use Rattle.rules.specs.Entries as entries
 use Rattle.rules.specs.declared.sizes.Configuration.{Configuration}
 use Rattle.rules.specs.declared.answers.Refusal.{Refusal}
 use Rattle.rules.specs.declared.answers.Answer.the-variants.{Refused}
-use Rattle.files.specs.declared.Counts.{Counts}
-use Rattle.files.specs.declared.Filed.{Filed}
-use Rattle.files.specs.declared.Filed.the-variants as Filings
+use Rattle.filed.specs.declared.Counts.{Counts}
+use Rattle.filed.specs.declared.Filed.{Filed}
+use Rattle.filed.specs.declared.Filed.the-variants as Filings
+use Rattle.filed.proofs.Filing.{WasFiled, was-filed, not-filed}
 use Rattle.files.specs.Promise.{FilesRead}
-use Rattle.tails.specs.Left.{Judgeable}
-use Rattle.tails.proofs.Checking.{WasFiled, was-filed, not-filed}
+use Rattle.chosen.specs.Left.{Judgeable}
 use Rattle.writer.specs.Merges.{mergeOf}
 use Rattle.either.specs.declared.Direction.{Direction}
 use Rattle.order.specs.Both.{solutionsRead}

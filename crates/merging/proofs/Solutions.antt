@@ -8,10 +8,10 @@ use Rattle.rules.specs.Reading.{Files}
 use Rattle.rules.specs.Entries.{verdictOf, Both, mergeFrom}
 use Rattle.rules.specs.declared.answers.Refusal.{Refusal}
 use Rattle.rules.specs.declared.answers.Answer.the-variants.{Refused}
-use Rattle.files.specs.declared.Counts.{Counts}
-use Rattle.tails.specs.declared.Chosen.{Chosen}
-use Rattle.tails.specs.declared.Chosen.the-variants as Choosings
-use Rattle.tails.specs.Left.{Judgeable, Choosable}
+use Rattle.filed.specs.declared.Counts.{Counts}
+use Rattle.chosen.specs.declared.Chosen.{Chosen}
+use Rattle.chosen.specs.declared.Chosen.the-variants as Choosings
+use Rattle.chosen.specs.Left.{Judgeable, Choosable}
 use Rattle.writer.specs.Merges.{mergeOf}
 use Rattle.either.specs.declared.Direction.{Direction}
 use Rattle.order.specs.Both.{BothChosen, ChoosesBoth, solutionsRead}

@@ -20,7 +20,7 @@ use Rattle.rules.specs.declared.answers.Answer.the-variants.{Accepted, Refused}
 use Rattle.laws.proofs.DocumentWords.{and-first}
 use Rattle.laws.proofs.GoodFiles.{choices-good}
 use Rattle.tables.specs.View.{configurationsIn}
-use Rattle.files.specs.declared.Counts.{Counts}
+use Rattle.filed.specs.declared.Counts.{Counts}
 use Rattle.verdict.proofs.GoodReading.{choices-many}
 use Rattle.bytes.specs.Written.{lastPlace, Written}
 use Rattle.writer.specs.Merges.{mergeOf, mergedIn}

@@ -9,8 +9,8 @@ use Rattle.rules.specs.Verdict.{Verdict, accepted, violated, answerOf}
 use Rattle.rules.specs.Entries.{verdictOf, mergeViolated, mergeSecond, mergeFirst}
 use Rattle.rules.specs.Entries as entries
 use Rattle.rules.specs.declared.answers.Answer.{Answer}
-use Rattle.files.specs.declared.Counts.{Counts}
-use Rattle.tails.specs.Left.{Judgeable, Ready}
+use Rattle.filed.specs.declared.Counts.{Counts}
+use Rattle.chosen.specs.Left.{Judgeable, Ready}
 use Rattle.writer.specs.Merges.{mergeOf}
 use Rattle.either.specs.declared.Direction.{Direction}
 use Rattle.order.specs.Order.{firstOf}

@@ -9,8 +9,8 @@ use Rattle.rules.specs.Merge.{unequalFrom}
 use Rattle.rules.specs.Entries.{writtenTables, verdictOf, Both, mergeTravel, mergeFirst, mergeFrom}
 use Rattle.rules.specs.Entries as entries
 use Rattle.rules.specs.declared.answers.Answer.{Answer}
-use Rattle.files.specs.declared.Counts.{Counts}
-use Rattle.tails.specs.Left.{Left, Judgeable}
+use Rattle.filed.specs.declared.Counts.{Counts}
+use Rattle.chosen.specs.Left.{Left, Judgeable}
 use Rattle.writer.specs.Merges.{mergeOf}
 use Rattle.either.specs.declared.Direction.{Direction}
 use Rattle.order.specs.Both.{BothChosen, solutionsRead}

@@ -1,14 +1,14 @@
 // Two solutions over files that were read: both verdicts, and then the merge.
-ghost use Rattle.tails.specs.Left.{Judgeable};
+ghost use Rattle.chosen.specs.Left.{Judgeable};
 ghost use Rattle.merging.specs.Left.{Disputable, Judges, Solves};
 use crate::Merged;
 use crate::not_written;
 use crate::writing;
+use chosen::Chosen;
 use either::Direction;
 use emptied::acceptance;
-use files::Counts;
+use filed::Counts;
 use rules::answers::Answer;
-use tails::Chosen;
 
 // Both are read.
 fn merge_chosen(

@@ -1,14 +1,14 @@
 // The merges (document 01, "Merged texts"): both solutions are read, then judged, and the earlier or the later choices are written as a timetable.
 ghost use mathlib.Core.Path.{_≡_};
 ghost use Rattle.rules.specs.Entries.{tables};
-ghost use Rattle.files.specs.Promise.{texts};
+ghost use Rattle.filed.specs.Filing.{texts};
 ghost use Rattle.writer.specs.Merges.{mergeOf};
 ghost use Rattle.merging.specs.Left.{notWritten};
 ghost use Rattle.merging.specs.Promise.{MergeRead, Merges};
 use either::Direction;
 use emptied::acceptance;
 use emptied::refusals;
-use files::Filed;
+use filed::Filed;
 use rules::answers::Answer;
 
 pub mod writing; // the text, 17, 16

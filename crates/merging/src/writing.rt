@@ -4,7 +4,7 @@ use crate::Merged;
 use crate::not_written;
 use either::Direction;
 use emptied::acceptance;
-use files::Counts;
+use filed::Counts;
 
 pub fn write_merge(
     direction: Direction,

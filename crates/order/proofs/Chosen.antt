@@ -8,11 +8,11 @@ use Rattle.rules.specs.Answers.{solutionFile, secondFile, good}
 use Rattle.rules.specs.Reading.{choicesRead}
 use Rattle.rules.specs.declared.sizes.Configuration.{Configuration}
 use Rattle.rules.specs.declared.answers.Refusal.{Refusal}
-use Rattle.files.specs.declared.Counts.{Counts}
-use Rattle.tails.specs.declared.Chosen.{Chosen}
-use Rattle.tails.specs.declared.Chosen.the-variants.{Whole, Refused}
-use Rattle.tails.specs.Left.{Choosable, Chooses}
-use Rattle.tails.proofs.Checking.{was-chosen, not-chosen}
+use Rattle.filed.specs.declared.Counts.{Counts}
+use Rattle.chosen.specs.declared.Chosen.{Chosen}
+use Rattle.chosen.specs.declared.Chosen.the-variants.{Whole, Refused}
+use Rattle.chosen.specs.Left.{Choosable, Chooses}
+use Rattle.chosen.proofs.Choosing.{was-chosen, not-chosen}
 use Rattle.order.specs.Both.{ChoosesBoth}
 
 module _ {H : ℕ} {counts : Counts} {first second legs c d : List ℕ} {p : Chosen} {c′ : List ℕ} (h : Chooses H solutionFile counts first legs c p c′) where

@@ -5,8 +5,8 @@ use mathlib.Core.Bool.{true, false, cond}
 use mathlib.Core.List.{List}
 use Rattle.rules.specs.Answers.{solutionFile, secondFile, isAccepted}
 use Rattle.rules.specs.declared.answers.Answer.{Answer}
-use Rattle.files.specs.declared.Counts.{Counts}
-use Rattle.tails.specs.Left.{Judges}
+use Rattle.filed.specs.declared.Counts.{Counts}
+use Rattle.chosen.specs.Left.{Judges}
 use Rattle.order.specs.Order.{firstOf}
 use Rattle.order.specs.Both.{verdictIn, JudgesBoth}
 

@@ -10,10 +10,10 @@ use Rattle.rules.specs.Entries.{writtenChoices, verdictOf, Both}
 use Rattle.rules.specs.declared.sizes.Configuration.{Configuration}
 use Rattle.rules.specs.declared.answers.Refusal.{Refusal}
 use Rattle.rules.specs.declared.answers.Answer.{Answer}
-use Rattle.files.specs.declared.Counts.{Counts}
-use Rattle.tails.specs.declared.Chosen.{Chosen}
-use Rattle.tails.specs.declared.Chosen.the-variants.{Whole, Refused}
-use Rattle.tails.specs.Left.{Choosable, Ready}
+use Rattle.filed.specs.declared.Counts.{Counts}
+use Rattle.chosen.specs.declared.Chosen.{Chosen}
+use Rattle.chosen.specs.declared.Chosen.the-variants.{Whole, Refused}
+use Rattle.chosen.specs.Left.{Choosable, Ready}
 use Rattle.order.specs.Order.{firstOf}
 
 -- ---- choosing

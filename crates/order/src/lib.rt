@@ -5,18 +5,18 @@ ghost use Prim.Native.Nat.{_≤_};
 ghost use lib.Dec.{leb};
 ghost use lib.ListN.{length};
 ghost use Rattle.rules.specs.Limits.{mostText};
-ghost use Rattle.tails.specs.Left.{Choosable};
+ghost use Rattle.chosen.specs.Left.{Choosable};
 ghost use Rattle.order.specs.Both.{BothReady, ChoosesBoth, JudgesBoth};
 ghost use Rattle.order.specs.Order.{travelAnswer, roomAnswer, firstOf};
+use chosen::Chosen;
 use either::Travels;
 use emptied::acceptance;
-use files::Counts;
+use filed::Counts;
 use found::places;
 use rules::answers::Answer;
 use rules::answers::File;
 use rules::answers::Refusal;
 use rules::sizes::Text;
-use tails::Chosen;
 
 // The second is read where the first is whole.
 pub fn choose_both(
@@ -31,9 +31,9 @@ pub fn choose_both(
     requires { ⌜ Choosable h counts (now legs) ⌝ }
     ensures { λ r. ⌜ ChoosesBoth h counts (now (first .entry)) (now (second .entry)) (now (legs .entry)) (now (choices .entry)) (now («second_choices» .entry)) r (now (choices .exit)) (now («second_choices» .exit)) ⌝ }
 {
-    match tails::choose(first, h, File::SOLUTION, counts, legs, choices) {
+    match chosen::choose(first, h, File::SOLUTION, counts, legs, choices) {
         Chosen::Refused(refusal) => Chosen::Refused(refusal),
-        Chosen::Whole => tails::choose(
+        Chosen::Whole => chosen::choose(
             second,
             h,
             File::SECOND_SOLUTION,
@@ -56,7 +56,7 @@ pub fn judge_both(
     requires { ⌜ BothReady counts (now legs) (now configurations) (now constraints) (now choices) (now «second_choices») ⌝ }
     ensures { λ r. ⌜ JudgesBoth counts (now (legs .entry)) (now (configurations .entry)) (now (constraints .entry)) (now (choices .entry)) (now («second_choices» .entry)) r ⌝ }
 {
-    let first = tails::judge_choices(
+    let first = chosen::judge_choices(
         counts,
         legs,
         configurations,
@@ -65,7 +65,7 @@ pub fn judge_both(
         File::SOLUTION,
     );
     if acceptance::is_accepted(first) {
-        let second = tails::judge_choices(
+        let second = chosen::judge_choices(
             counts,
             legs,
             configurations,

@@ -34,12 +34,12 @@ use Rattle.energy.specs.Exact.{Exact}
 use Rattle.figures.specs.Given.{given, curvesSeen, Readable}
 use Rattle.figures.specs.Worked.{figuresSeen, Worked}
 use Rattle.figures.proofs.Reading.{Counted, read as read-tables, curves-read, figures-read, reading-readable, figures-exact}
-use Rattle.files.specs.declared as files
+use Rattle.filed.specs.declared as filed
 use Rattle.reports.specs.declared.Report.{Report}
 use Rattle.reports.specs.Promise.{noReport}
 use Rattle.reports.specs.Left.{Left, Risen, Roomy, WorkedOut, Tested}
 
-module _ {H : ℕ} {counts : files.Counts.Counts} {choices legs profiles : List ℕ} {samples : List ℤ} {tracks : List ℕ}
+module _ {H : ℕ} {counts : filed.Counts.Counts} {choices legs profiles : List ℕ} {samples : List ℤ} {tracks : List ℕ}
     (l : Left H counts choices legs profiles samples tracks) where
   abbrev w : Whole
   w = l .whole
@@ -106,13 +106,13 @@ module _ {H : ℕ} {counts : files.Counts.Counts} {choices legs profiles : List 
       worked-out e q = record { answer = e; figures = worked-figures; desk = q ∙ ap deskOf worked-figures; curves = worked-curves }
 
 -- the curves' room, by either count of the subnets
-pub risen-room : {H : ℕ} {counts : files.Counts.Counts} {choices legs profiles : List ℕ} {samples : List ℤ} {tracks : List ℕ} {p : List ℤ} {k : Counts}
+pub risen-room : {H : ℕ} {counts : filed.Counts.Counts} {choices legs profiles : List ℕ} {samples : List ℤ} {tracks : List ℕ} {p : List ℤ} {k : Counts}
     → Roomy H counts choices legs profiles samples tracks p → Risen counts profiles tracks k → k .subnets * H ≤ length p
 risen-room r n = rw (n .subnets) (r .room)
 
 -- ---- the test for room
 
-module _ {H : ℕ} {counts : files.Counts.Counts} {choices legs profiles : List ℕ} {samples : List ℤ} {tracks : List ℕ}
+module _ {H : ℕ} {counts : filed.Counts.Counts} {choices legs profiles : List ℕ} {samples : List ℤ} {tracks : List ℕ}
     (l : Left H counts choices legs profiles samples tracks) where
   abbrev good-files : GoodFiles H (l .texts) (roomsOf (l .lent)) (l .whole .files)
   good-files = files-good H (l .texts) (roomsOf (l .lent)) (l .whole .files) (all-good H (l .texts) (l .solution) (roomsOf (l .lent)) (length (l .lentChoices)) (l .whole) (l .read) .0)

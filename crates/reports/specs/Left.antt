@@ -16,12 +16,12 @@ use Rattle.rules.specs.Entries.{Tables, roomsOf, writtenTables, writtenChoices,
 use Rattle.rules.specs.declared.answers.Answer.the-variants.{Accepted}
 use Rattle.ids.specs.Column.{Rising}
 use Rattle.energy.specs.declared.runs.Counts.{Counts}
-use Rattle.files.specs.Promise.{countsOf}
-use Rattle.files.specs.declared as files
+use Rattle.filed.specs.Filing.{countsOf}
+use Rattle.filed.specs.declared as filed
 use Rattle.reports.specs.declared.Report.{Report}
 
 -- an accepted solution, and the tables with what was read at their front
-pub record Left (H : ℕ) (counts : files.Counts.Counts) (choices legs profiles : List ℕ) (samples : List ℤ) (tracks : List ℕ) : Type 0 where
+pub record Left (H : ℕ) (counts : filed.Counts.Counts) (choices legs profiles : List ℕ) (samples : List ℤ) (tracks : List ℕ) : Type 0 where
   pub texts : Texts
   pub solution : List ℕ
   pub lent : Tables
@@ -37,7 +37,7 @@ pub record Left (H : ℕ) (counts : files.Counts.Counts) (choices legs profiles 
   pub tracks-are : tracks ≡ writtenTables (whole .files) lent .tracks
 
 -- the counts as the energies take them: how far the ids of profiles and tracks rise, too
-pub record Risen (counts : files.Counts.Counts) (profiles tracks : List ℕ) (k : Counts) : Type 0 where
+pub record Risen (counts : filed.Counts.Counts) (profiles tracks : List ℕ) (k : Counts) : Type 0 where
   pub legs : k .legs ≡ counts .legs
   pub profiles-many : k .profiles .count ≡ counts .profiles
   pub tracks-many : k .tracks .count ≡ counts .tracks
@@ -53,12 +53,12 @@ pub record WorkedOut (H : ℕ) (w : Whole) (p : List ℤ) (r : Report) (p′ : L
   pub curves : p′ ≡ over (curvesOf H (w .files) (w .choices)) p
 
 -- and the curve table has room
-pub record Roomy (H : ℕ) (counts : files.Counts.Counts) (choices legs profiles : List ℕ) (samples : List ℤ) (tracks : List ℕ) (p : List ℤ) : Type 0 where
+pub record Roomy (H : ℕ) (counts : filed.Counts.Counts) (choices legs profiles : List ℕ) (samples : List ℤ) (tracks : List ℕ) (p : List ℤ) : Type 0 where
   pub left : Left H counts choices legs profiles samples tracks
   pub room : counts .subnets * H ≤ length p
 
 -- whatever solution it is that left them
-abbrev pub Works : (H : ℕ) (counts : files.Counts.Counts) (choices legs profiles : List ℕ) (samples : List ℤ) (tracks : List ℕ) (p : List ℤ) (r : Report) (p′ : List ℤ) → Type 0
+abbrev pub Works : (H : ℕ) (counts : filed.Counts.Counts) (choices legs profiles : List ℕ) (samples : List ℤ) (tracks : List ℕ) (p : List ℤ) (r : Report) (p′ : List ℤ) → Type 0
 Works H counts choices legs profiles samples tracks p r p′ =
     (l : Left H counts choices legs profiles samples tracks) → WorkedOut H (l .whole) p r p′
 
@@ -71,6 +71,6 @@ pub record Tested (fits : Bool) (H : ℕ) (w : Whole) (t : Tables) (c : List ℕ
   pub desk : r .desk ≡ reportAccepted fits H w t c p .desk
   pub curves : isAccepted (r .answer) ≡ true → p′ ≡ reportAccepted fits H w t c p .curves
 
-abbrev pub Tests : (H : ℕ) (counts : files.Counts.Counts) (choices legs profiles : List ℕ) (samples : List ℤ) (tracks : List ℕ) (p : List ℤ) (r : Report) (p′ : List ℤ) → Type 0
+abbrev pub Tests : (H : ℕ) (counts : filed.Counts.Counts) (choices legs profiles : List ℕ) (samples : List ℤ) (tracks : List ℕ) (p : List ℤ) (r : Report) (p′ : List ℤ) → Type 0
 Tests H counts choices legs profiles samples tracks p r p′ =
     (l : Left H counts choices legs profiles samples tracks) → Tested (leb (l .whole .files .document .opened * H) (length p)) H (l .whole) (l .lent) (l .lentChoices) p r p′

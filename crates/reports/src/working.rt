@@ -14,7 +14,7 @@ use rules::sizes::Profile;
 use rules::sizes::Track;
 
 // The counts, with how far the ids of profiles and tracks rise.
-fn risen(counts: files::Counts, profiles: &[u32], tracks: &[u32]) -> Counts
+fn risen(counts: filed::Counts, profiles: &[u32], tracks: &[u32]) -> Counts
     requires { ⌜ Records profileWidth (counts .profiles) (now profiles) × Records trackWidth (counts .tracks) (now tracks) ⌝ }
     ensures { λ r. ⌜ Risen counts (now (profiles .entry)) (now (tracks .entry)) r ⌝ }
 {
@@ -37,7 +37,7 @@ fn risen(counts: files::Counts, profiles: &[u32], tracks: &[u32]) -> Counts
 // The curve table has room for them.
 fn work_out(
     h: u32,
-    counts: files::Counts,
+    counts: filed::Counts,
     choices: &[u32],
     legs: &[u32],
     profiles: &[u32],
@@ -70,7 +70,7 @@ fn work_out(
 // "Less room is 16 (file 0, place 0), after acceptance."
 pub fn report_accepted(
     h: u32,
-    counts: files::Counts,
+    counts: filed::Counts,
     choices: &[u32],
     legs: &[u32],
     profiles: &[u32],

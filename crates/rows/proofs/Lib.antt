@@ -1,3 +1,4 @@
 pub mod Counts
 pub mod Holding
 pub mod Fifteen
+pub mod Fronts

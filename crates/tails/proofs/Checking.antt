@@ -1,11 +1,10 @@
 -- Each way out of reading the files and a solution, and judging it. Assumes nothing.
 use Prim.Native.Nat.{ℕ}
-use mathlib.Core.Path.{_≡_, refl, sym, ap, _∙_}
+use mathlib.Core.Path.{_≡_, sym, ap, _∙_}
 use mathlib.Core.List.{List}
-use native.Mathlib.Omega.{arith}
 use lib.ListN.{length}
 use Rattle.rules.specs.Answers.{solutionFile, Reading, refused, good}
-use Rattle.rules.specs.Reading.{Texts, Files, filesOf, choicesRead}
+use Rattle.rules.specs.Reading.{Texts, filesOf, choicesRead}
 use Rattle.rules.specs.Entries.{Tables, Whole, roomsOf, writtenTables, writtenChoices, allRead, checked}
 use Rattle.rules.specs.declared.sizes.Configuration.{Configuration}
 use Rattle.rules.specs.declared.answers.Refusal.{Refusal}
@@ -13,41 +12,17 @@ use Rattle.rules.specs.declared.answers.Answer.{Answer}
 use Rattle.rules.specs.declared.answers.Answer.the-variants.{Refused}
 use Rattle.laws.proofs.GoodText.{never-good}
 use Rattle.laws.proofs.GoodFiles.{good-all}
-use Rattle.files.specs.declared.Counts.{Counts}
-use Rattle.files.specs.declared.Filed.{Filed}
-use Rattle.files.specs.declared.Filed.the-variants as Filings
-use Rattle.files.specs.Promise.{countsOf, filedOf, FilesRead}
+use Rattle.filed.specs.declared.Counts.{Counts}
+use Rattle.filed.specs.declared.Filed.{Filed}
+use Rattle.filed.specs.declared.Filed.the-variants as Filings
+use Rattle.filed.proofs.Filing.{WasFiled, was-filed, not-filed}
+use Rattle.files.specs.Promise.{FilesRead}
+use Rattle.chosen.specs.declared.Chosen.{Chosen}
+use Rattle.chosen.specs.declared.Chosen.the-variants as Choosings
+use Rattle.chosen.specs.Left.{Left, Choosable, Ready, Chooses, Judges}
+use Rattle.chosen.proofs.Choosing.{was-chosen, not-chosen}
 use Rattle.tails.specs.declared.Judged.{Judged}
-use Rattle.tails.specs.declared.Chosen.{Chosen}
-use Rattle.tails.specs.declared.Chosen.the-variants as Choosings
-use Rattle.tails.specs.Left.{Left, Choosable, Ready, chosenOf, Chooses, Judges}
 use Rattle.tails.specs.Promise.{ReadAndJudged}
-
--- ---- what was read, by the answers
-
--- the files, and that the counts are theirs
-pub record WasFiled (o : Reading Files) (k : Counts) : Type 0 where
-  pub files : Files
-  pub was : o ≡ good files
-  pub counted : k ≡ countsOf files
-
-pub was-filed : (o : Reading Files) (k : Counts) → Filings.Whole k ≡ filedOf o → WasFiled o k
-was-filed (refused r) k e = let z : _≡_ {A = ℕ} 0 1 = cc in absurd (omega arith)
-was-filed (good f) k e = record { files = f; was = refl; counted = cc }
-
-pub not-filed : (o : Reading Files) (r : Refusal) → Filings.Refused r ≡ filedOf o → o ≡ refused r
-not-filed (refused s) r e = cc
-not-filed (good f) r e = let z : _≡_ {A = ℕ} 0 1 = cc in absurd (omega arith)
-
-pub was-chosen : (o : Reading (List Configuration)) → Choosings.Whole ≡ chosenOf o → (cs : List Configuration) × (o ≡ good cs)
-was-chosen (refused r) e = let z : _≡_ {A = ℕ} 0 1 = cc in absurd (omega arith)
-was-chosen (good cs) e = (cs, refl)
-
-pub not-chosen : (o : Reading (List Configuration)) (r : Refusal) → Choosings.Refused r ≡ chosenOf o → o ≡ refused r
-not-chosen (refused s) r e = cc
-not-chosen (good cs) r e = let z : _≡_ {A = ℕ} 0 1 = cc in absurd (omega arith)
-
--- ---- the ways out
 
 module _ (H : ℕ) (x : Texts) (s : List ℕ) (t : Tables) (c : List ℕ) where
   abbrev all : Reading Whole

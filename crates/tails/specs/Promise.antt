@@ -6,7 +6,7 @@ use lib.ListN.{length}
 use Rattle.rules.specs.Answers.{good}
 use Rattle.rules.specs.Reading.{Texts}
 use Rattle.rules.specs.Entries.{Tables, Whole, roomsOf, writtenTables, writtenChoices, allRead, checked}
-use Rattle.files.specs.Promise.{countsOf}
+use Rattle.filed.specs.Filing.{countsOf}
 use Rattle.tails.specs.declared.Judged.{Judged}
 
 pub record ReadAndJudged (H : ℕ) (x : Texts) (solution : List ℕ) (t : Tables) (c : List ℕ) (r : Judged) (t′ : Tables) (c′ : List ℕ) : Type 0 where

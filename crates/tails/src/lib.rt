@@ -1,57 +1,14 @@
-// What follows the files, shared by the entries: a solution is chosen from, and judged.
+// What follows the files, shared by the check and the energies: a solution is chosen from, and judged.
 ghost use mathlib.Core.Path.{_≡_};
 ghost use Rattle.rules.specs.Entries.{tables};
-ghost use Rattle.files.specs.Promise.{texts};
-ghost use Rattle.tails.specs.Left.{Choosable, Chooses, Ready, Judges};
+ghost use Rattle.filed.specs.Filing.{texts};
 ghost use Rattle.tails.specs.Promise.{ReadAndJudged};
-use beside::Choices;
-use files::Counts;
-use files::Filed;
+use chosen::Chosen;
+use filed::Counts;
+use filed::Filed;
 use rules::answers::Answer;
 use rules::answers::File;
 use rules::answers::Refusal;
-use solution::reader;
-
-pub enum Chosen {
-    Whole,
-    Refused(Refusal),
-}
-
-// A solution's text against the draft; its refusals lie in `file`.
-pub fn choose(
-    text: &[u8],
-    h: u32,
-    file: u8,
-    counts: Counts,
-    legs: &[u32],
-    choices: &mut [u32],
-) -> Chosen
-    requires { ⌜ Choosable h counts (now legs) ⌝ }
-    ensures { λ r. ⌜ Chooses h file counts (now (text .entry)) (now (legs .entry)) (now (choices .entry)) r (now (choices .exit)) ⌝ }
-{
-    let n = counts.legs;
-    match reader::read_choices(text, h, legs, n, choices) {
-        Choices::Fault(number, place) => Chosen::Refused(Refusal::new(number, file, place)),
-        Choices::Read(_) => Chosen::Whole,
-    }
-}
-
-// The verdict over choices that were read; a violation names `file`.
-pub fn judge_choices(
-    counts: Counts,
-    legs: &[u32],
-    configurations: &[u32],
-    constraints: &[u32],
-    choices: &[u32],
-    file: u8,
-) -> Answer
-    requires { ⌜ Ready counts (now legs) (now configurations) (now constraints) (now choices) ⌝ }
-    ensures { λ r. ⌜ Judges counts (now (legs .entry)) (now (configurations .entry)) (now (constraints .entry)) (now (choices .entry)) file r ⌝ }
-{
-    let n = counts.legs;
-    let m = counts.constraints;
-    verdict::judge(legs, n, configurations, constraints, m, choices, file)
-}
 
 // The answer, and the counts where nothing is refused.
 pub struct Judged {
@@ -107,10 +64,17 @@ pub fn read_and_judge(
     );
     match filed {
         Filed::Refused(refusal) => refused(refusal),
-        Filed::Whole(counts) => match choose(solution, h, File::SOLUTION, counts, legs, choices) {
+        Filed::Whole(counts) => match chosen::choose(
+            solution,
+            h,
+            File::SOLUTION,
+            counts,
+            legs,
+            choices,
+        ) {
             Chosen::Refused(refusal) => refused(refusal),
             Chosen::Whole => Judged {
-                answer: judge_choices(
+                answer: chosen::judge_choices(
                     counts,
                     legs,
                     configurations,

@@ -2,7 +2,7 @@
 use mathlib.Core.Path.{_∙_}
 use borrow.Author.Needs.{needs}
 use Rattle.rules.specs.Entries.{tables}
-use Rattle.files.specs.Promise.{texts}
+use Rattle.filed.specs.Filing.{texts}
 use Rattle.writer.specs.Merges.{mergeOf}
 use Rattle.merging.proofs.Ends.{merge-ends}
 use Rattle.merging.proofs.merge.Statement.{statement}

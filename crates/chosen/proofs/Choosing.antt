@@ -16,11 +16,11 @@ use Rattle.laws.proofs.GoodFiles.{files-good}
 use Rattle.beside.specs.declared.Choices.{Choices}
 use Rattle.beside.specs.declared.Choices.the-variants.{Fault, Read}
 use Rattle.solution.specs.Promise.{Able, HoldsRows, choicesAnswer, ChoicesRead}
-use Rattle.files.specs.declared.Counts.{Counts}
-use Rattle.files.proofs.Parted.{same-refusal}
-use Rattle.files.proofs.Fronts.{front-held, legs-records}
-use Rattle.tails.specs.declared.Chosen.the-variants.{Whole, Refused}
-use Rattle.tails.specs.Left.{Choosable, Chooses, chosenOf}
+use Rattle.filed.specs.declared.Counts.{Counts}
+use Rattle.filed.proofs.Filing.{same-refusal}
+use Rattle.rows.proofs.Fronts.{front-held, legs-records}
+use Rattle.chosen.specs.declared.Chosen.the-variants.{Whole, Refused}
+use Rattle.chosen.specs.Left.{Choosable, Chooses, chosenOf}
 
 module _ {H : ℕ} {counts : Counts} {legs : List ℕ} (k : Choosable H counts legs) where
   held : HoldsRows legs (counts .legs) (k .left .files .rows)
@@ -69,3 +69,13 @@ module _ (H file : ℕ) (counts : Counts) (text legs lent : List ℕ) {answer : 
 
   pub choose-whole : {n : ℕ} → answer ≡ Read n → Chooses H file counts text legs lent Whole choices
   choose-whole {n} a = record { answers = λ k. was-read (outcome k) n (sym a ∙ said k); chooses = written }
+
+-- ---- what was chosen, by the answer
+
+pub was-chosen : (o : Reading (List Configuration)) → Whole ≡ chosenOf o → (cs : List Configuration) × (o ≡ good cs)
+was-chosen (refused r) e = let z : _≡_ {A = ℕ} 0 1 = cc in absurd (omega arith)
+was-chosen (good cs) e = (cs, refl)
+
+pub not-chosen : (o : Reading (List Configuration)) (r : Refusal) → Refused r ≡ chosenOf o → o ≡ refused r
+not-chosen (refused s) r e = cc
+not-chosen (good cs) r e = let z : _≡_ {A = ℕ} 0 1 = cc in absurd (omega arith)

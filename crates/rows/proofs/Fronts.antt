@@ -13,8 +13,8 @@ use Rattle.rules.specs.Reading.{legIds}
 use Rattle.rules.specs.declared.sizes.Leg.{Leg}
 use Rattle.ids.specs.Column.{Records, column}
 use Rattle.ids.proofs.Written.{column-written}
 use Rattle.rows.specs.Subnets.{legTracks}
-pub use Rattle.rows.proofs.Holding.{front-records}
+use Rattle.rows.proofs.Holding.{front-records}
 use Rattle.tables.specs.View.{legAt}
 use Rattle.tables.proofs.Tabulated.{tabulate-map}
 use Rattle.tables.proofs.Offers.{legs-length, legs-seen}

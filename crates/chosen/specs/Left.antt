@@ -9,10 +9,10 @@ use Rattle.rules.specs.Verdict.{answerOf}
 use Rattle.rules.specs.Entries.{Tables, roomsOf, writtenTables, writtenChoices, verdictOf}
 use Rattle.rules.specs.declared.sizes.Configuration.{Configuration}
 use Rattle.rules.specs.declared.answers.Answer.{Answer}
-use Rattle.files.specs.declared.Counts.{Counts}
-use Rattle.files.specs.Promise.{countsOf}
-use Rattle.tails.specs.declared.Chosen.{Chosen}
-use Rattle.tails.specs.declared.Chosen.the-variants.{Whole, Refused}
+use Rattle.filed.specs.declared.Counts.{Counts}
+use Rattle.filed.specs.Filing.{countsOf}
+use Rattle.chosen.specs.declared.Chosen.{Chosen}
+use Rattle.chosen.specs.declared.Chosen.the-variants.{Whole, Refused}
 
 -- counts by value, and tables of which a tail takes those that it needs
 pub record Left (H : ℕ) (counts : Counts) : Type 0 where

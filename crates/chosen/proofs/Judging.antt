@@ -9,8 +9,8 @@ use Rattle.rules.specs.declared.answers.Answer.{Answer}
 use Rattle.tables.specs.View.{offersIn, constraintsIn, configurationsIn}
 use Rattle.verdict.specs.Within.{Within}
 use Rattle.verdict.proofs.GoodReading.{tables-within, tables-judged}
-use Rattle.files.specs.declared.Counts.{Counts}
-use Rattle.tails.specs.Left.{Ready, Judges}
+use Rattle.filed.specs.declared.Counts.{Counts}
+use Rattle.chosen.specs.Left.{Ready, Judges}
 
 module _ {counts : Counts} {legs configurations constraints choices : List ℕ} (k : Ready counts legs configurations constraints choices) where
   abbrev n : ℕ

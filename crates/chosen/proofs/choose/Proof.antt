@@ -1,8 +1,8 @@
--- `tails::choose` meets its contract: each way out by its law. Assumes nothing.
+-- `chosen::choose` meets its contract: each way out by its law. Assumes nothing.
 use borrow.Author.Needs.{needs}
-use Rattle.tails.proofs.Choosing.{choose-able, choose-fault, choose-whole}
-use Rattle.tails.proofs.choose.Statement.{statement}
-use Rattle.tails.proofs.choose.Tie as tie
+use Rattle.chosen.proofs.Choosing.{choose-able, choose-fault, choose-whole}
+use Rattle.chosen.proofs.choose.Statement.{statement}
+use Rattle.chosen.proofs.choose.Tie as tie
 
 read-choices-requires : tie.Need-read-choices-requires
 read-choices-requires c κs = choose-able (c .before .before .before .before .pre)

@@ -76,7 +76,8 @@ pub fn ask(
             tracks,
             choices,
         );
-        return Said::Check(checked.answer);
+        let answer = checked.answer;
+        return Said::Check(answer);
     }
     let reported = energy(
         case,

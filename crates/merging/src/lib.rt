@@ -1,7 +1,6 @@
 // The merges (document 01, "Merged texts"): both solutions are read, then judged, and the earlier or the later choices are written as a timetable.
 ghost use mathlib.Core.Path.{_≡_};
-ghost use Rattle.rules.specs.Entries.{tables};
-ghost use Rattle.filed.specs.Filing.{texts};
+ghost use Rattle.filed.specs.Lent.{given, before, after};
 ghost use Rattle.writer.specs.Merges.{mergeOf};
 ghost use Rattle.merging.specs.Left.{notWritten};
 ghost use Rattle.merging.specs.Promise.{MergeRead, Merges};
@@ -45,7 +44,9 @@ fn read_and_merge(
     second_choices: &mut [u32],
     text: &mut [u8],
 ) -> Merged
-    ensures { λ r. ⌜ MergeRead (mergeOf direction) h (texts (now (timetable .entry)) (now (profiles .entry)) (now (constraints .entry))) (now (first .entry)) (now (second .entry)) (tables (now (legs .entry)) (now (configurations .entry)) (now («profile_table» .entry)) (now (samples .entry)) (now («constraint_table» .entry)) (now (tracks .entry))) (now (choices .entry)) (now («second_choices» .entry)) (now (text .entry)) r (tables (now (legs .exit)) (now (configurations .exit)) (now («profile_table» .exit)) (now (samples .exit)) (now («constraint_table» .exit)) (now (tracks .exit))) (now (choices .exit)) (now («second_choices» .exit)) (now (text .exit)) ⌝ }
+    ensures { λ r. ⌜ MergeRead (mergeOf direction) h (given timetable profiles constraints) (now (first .entry)) (now (second .entry))
+        (before legs configurations «profile_table» samples «constraint_table» tracks) (now (choices .entry)) (now («second_choices» .entry)) (now (text .entry))
+        r (after legs configurations «profile_table» samples «constraint_table» tracks) (now (choices .exit)) (now («second_choices» .exit)) (now (text .exit)) ⌝ }
 {
     match files::read_files(
         h,
@@ -95,7 +96,9 @@ pub fn merge(
     second_choices: &mut [u32],
     text: &mut [u8],
 ) -> Merged
-    ensures { λ r. ⌜ Merges (mergeOf direction) h (texts (now (timetable .entry)) (now (profiles .entry)) (now (constraints .entry))) (now (first .entry)) (now (second .entry)) (tables (now (legs .entry)) (now (configurations .entry)) (now («profile_table» .entry)) (now (samples .entry)) (now («constraint_table» .entry)) (now (tracks .entry))) (now (choices .entry)) (now («second_choices» .entry)) (now (text .entry)) r (tables (now (legs .exit)) (now (configurations .exit)) (now («profile_table» .exit)) (now (samples .exit)) (now («constraint_table» .exit)) (now (tracks .exit))) (now (choices .exit)) (now («second_choices» .exit)) (now (text .exit)) ⌝ }
+    ensures { λ r. ⌜ Merges (mergeOf direction) h (given timetable profiles constraints) (now (first .entry)) (now (second .entry))
+        (before legs configurations «profile_table» samples «constraint_table» tracks) (now (choices .entry)) (now («second_choices» .entry)) (now (text .entry))
+        r (after legs configurations «profile_table» samples «constraint_table» tracks) (now (choices .exit)) (now («second_choices» .exit)) (now (text .exit)) ⌝ }
 {
     let made = read_and_merge(
         direction,

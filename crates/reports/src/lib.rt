@@ -1,7 +1,6 @@
 // The energies of texts that are read and judged: figures for accepted solutions only.
 ghost use mathlib.Core.Path.{_≡_};
-ghost use Rattle.rules.specs.Entries.{tables};
-ghost use Rattle.filed.specs.Filing.{texts};
+ghost use Rattle.filed.specs.Lent.{given, before, after};
 ghost use Rattle.reports.specs.Promise.{noReport, ReportRead};
 use emptied::acceptance;
 use energy::desk;
@@ -57,7 +56,9 @@ pub fn read_and_report(
     choices: &mut [u32],
     curves: &mut [i32],
 ) -> Report
-    ensures { λ r. ⌜ ReportRead h (texts (now (timetable .entry)) (now (profiles .entry)) (now (constraints .entry))) (now (solution .entry)) (tables (now (legs .entry)) (now (configurations .entry)) (now («profile_table» .entry)) (now (samples .entry)) (now («constraint_table» .entry)) (now (tracks .entry))) (now (choices .entry)) (now (curves .entry)) r (tables (now (legs .exit)) (now (configurations .exit)) (now («profile_table» .exit)) (now (samples .exit)) (now («constraint_table» .exit)) (now (tracks .exit))) (now (choices .exit)) (now (curves .exit)) ⌝ }
+    ensures { λ r. ⌜ ReportRead h (given timetable profiles constraints) (now (solution .entry))
+        (before legs configurations «profile_table» samples «constraint_table» tracks) (now (choices .entry)) (now (curves .entry))
+        r (after legs configurations «profile_table» samples «constraint_table» tracks) (now (choices .exit)) (now (curves .exit)) ⌝ }
 {
     let judged = tails::read_and_judge(
         h,

@@ -1,7 +1,6 @@
 // What follows the files, shared by the check and the energies: a solution is chosen from, and judged.
 ghost use mathlib.Core.Path.{_≡_};
-ghost use Rattle.rules.specs.Entries.{tables};
-ghost use Rattle.filed.specs.Filing.{texts};
+ghost use Rattle.filed.specs.Lent.{given, before, after};
 ghost use Rattle.tails.specs.Promise.{ReadAndJudged};
 use chosen::Chosen;
 use filed::Counts;
@@ -48,7 +47,9 @@ pub fn read_and_judge(
     tracks: &mut [u32],
     choices: &mut [u32],
 ) -> Judged
-    ensures { λ r. ⌜ ReadAndJudged h (texts (now (timetable .entry)) (now (profiles .entry)) (now (constraints .entry))) (now (solution .entry)) (tables (now (legs .entry)) (now (configurations .entry)) (now («profile_table» .entry)) (now (samples .entry)) (now («constraint_table» .entry)) (now (tracks .entry))) (now (choices .entry)) r (tables (now (legs .exit)) (now (configurations .exit)) (now («profile_table» .exit)) (now (samples .exit)) (now («constraint_table» .exit)) (now (tracks .exit))) (now (choices .exit)) ⌝ }
+    ensures { λ r. ⌜ ReadAndJudged h (given timetable profiles constraints) (now (solution .entry))
+        (before legs configurations «profile_table» samples «constraint_table» tracks) (now (choices .entry))
+        r (after legs configurations «profile_table» samples «constraint_table» tracks) (now (choices .exit)) ⌝ }
 {
     let filed = files::read_files(
         h,

@@ -1,9 +1,9 @@
 // All four files are read, the solution is judged, and its energies are worked out where it is accepted.
-ghost use Rattle.filed.specs.Lent.{given, before, after};
+ghost use Rattle.tables_lent.specs.Lent.{given, before, after};
 ghost use Rattle.checker.specs.Reports.{Reports};
-use emptied::acceptance;
-use emptied::refusals;
-use reports::Report;
+use checker_after::acceptance;
+use checker_after::refusals;
+use energy_report::Report;
 
 pub fn energy(
     h: u32,
@@ -24,7 +24,7 @@ pub fn energy(
         (before legs configurations «profile_table» samples «constraint_table» tracks) (now (choices .entry)) (now (curves .entry))
         r (after legs configurations «profile_table» samples «constraint_table» tracks) (now (choices .exit)) (now (curves .exit)) ⌝ }
 {
-    let report = reports::read_and_report(
+    let report = energy_report::read_and_report(
         h,
         timetable,
         profiles,

@@ -1,10 +1,10 @@
 // The two merges: one merged text a call, with `earlier` or `later` choices (document 01, "Merged texts").
 ghost use Rattle.rules.specs.Merge.{earlier, later};
-ghost use Rattle.filed.specs.Lent.{given, before, after};
-ghost use Rattle.merging.specs.Promise.{Merges};
-use either::Direction;
+ghost use Rattle.tables_lent.specs.Lent.{given, before, after};
+ghost use Rattle.merge.specs.Promise.{Merges};
+use merge_choice::Direction;
 
-pub type Merged = merging::Merged;
+pub type Merged = merge::Merged;
 
 // The earlier choice at each leg; at equal departures the first file's.
 pub fn merge_earlier(
@@ -28,7 +28,7 @@ pub fn merge_earlier(
         (before legs configurations «profile_table» samples «constraint_table» tracks) (now (choices .entry)) (now («second_choices» .entry)) (now (text .entry))
         r (after legs configurations «profile_table» samples «constraint_table» tracks) (now (choices .exit)) (now («second_choices» .exit)) (now (text .exit)) ⌝ }
 {
-    merging::merge(
+    merge::merge(
         Direction::Earlier,
         h,
         timetable,
@@ -70,7 +70,7 @@ pub fn merge_later(
         (before legs configurations «profile_table» samples «constraint_table» tracks) (now (choices .entry)) (now («second_choices» .entry)) (now (text .entry))
         r (after legs configurations «profile_table» samples «constraint_table» tracks) (now (choices .exit)) (now («second_choices» .exit)) (now (text .exit)) ⌝ }
 {
-    merging::merge(
+    merge::merge(
         Direction::Later,
         h,
         timetable,

@@ -1,7 +1,7 @@
 // All four files are read, and the solution is judged.
-ghost use Rattle.filed.specs.Lent.{given, before, after};
+ghost use Rattle.tables_lent.specs.Lent.{given, before, after};
 ghost use Rattle.checker.specs.Checks.{Checks};
-use emptied::refusals;
+use checker_after::refusals;
 use rules::answers::Answer;
 
 pub struct Checked {
@@ -26,7 +26,7 @@ pub fn check(
         (before legs configurations «profile_table» samples «constraint_table» tracks) (now (choices .entry))
         r (after legs configurations «profile_table» samples «constraint_table» tracks) (now (choices .exit)) ⌝ }
 {
-    let judged = tails::read_and_judge(
+    let judged = checker_judge::read_and_judge(
         h,
         timetable,
         profiles,

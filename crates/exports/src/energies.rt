@@ -1,11 +1,11 @@
 // `energy` for C.
-ghost use Rattle.filed.specs.Lent.{given, before, after};
+ghost use Rattle.tables_lent.specs.Lent.{given, before, after};
 ghost use Rattle.checker.specs.Reports.{Reports};
-ghost use Rattle.numbers.specs.Numbers.{reportNumbers};
+ghost use Rattle.exports_numbers.specs.Numbers.{reportNumbers};
 ghost use Rattle.exports.specs.Exported.{Exported};
 use checker::energies;
-use numbers::Numbers;
-use numbers::figures;
+use exports_numbers::Numbers;
+use exports_numbers::figures;
 
 #[no_mangle]
 pub extern "C" fn wagontulip_energy(

@@ -1,12 +1,12 @@
 // The two merges for C.
 ghost use Rattle.rules.specs.Merge.{earlier, later};
-ghost use Rattle.filed.specs.Lent.{given, before, after};
-ghost use Rattle.merging.specs.Promise.{Merges};
-ghost use Rattle.numbers.specs.Numbers.{mergeNumbers};
+ghost use Rattle.tables_lent.specs.Lent.{given, before, after};
+ghost use Rattle.merge.specs.Promise.{Merges};
+ghost use Rattle.exports_numbers.specs.Numbers.{mergeNumbers};
 ghost use Rattle.exports.specs.Exported.{Exported};
 use checker::merges;
-use numbers::Numbers;
-use numbers::answers;
+use exports_numbers::Numbers;
+use exports_numbers::answers;
 
 #[no_mangle]
 pub extern "C" fn wagontulip_merge_earlier(

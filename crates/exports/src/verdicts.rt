@@ -1,11 +1,11 @@
 // `check` for C.
-ghost use Rattle.filed.specs.Lent.{given, before, after};
+ghost use Rattle.tables_lent.specs.Lent.{given, before, after};
 ghost use Rattle.checker.specs.Checks.{Checks};
-ghost use Rattle.numbers.specs.Numbers.{checkNumbers};
+ghost use Rattle.exports_numbers.specs.Numbers.{checkNumbers};
 ghost use Rattle.exports.specs.Exported.{Exported};
 use checker::verdicts;
-use numbers::Numbers;
-use numbers::answers;
+use exports_numbers::Numbers;
+use exports_numbers::answers;
 
 #[no_mangle]
 pub extern "C" fn wagontulip_check(

@@ -9,10 +9,10 @@ use Rattle.rules.specs.Answers.{isRefusal, solutionFile, Reading, refused, good
 use Rattle.rules.specs.Reading.{Texts}
 use Rattle.rules.specs.Verdict.{Verdict, accepted, violated, answerOf}
 use Rattle.rules.specs.Entries.{Tables, Whole, roomsOf, filled, filledTables, verdictOf, allRead, checked}
-use Rattle.tails.specs.declared.Judged.{Judged}
-use Rattle.tails.specs.Promise.{ReadAndJudged}
-use Rattle.emptied.specs.After.{tablesAfter, choicesAfter}
-use Rattle.emptied.proofs.Filled.{SameLengths, filled-alike, tables-filled-alike}
+use Rattle.checker_judge.specs.declared.Judged.{Judged}
+use Rattle.checker_judge.specs.Promise.{ReadAndJudged}
+use Rattle.checker_after.specs.After.{tablesAfter, choicesAfter}
+use Rattle.checker_after.proofs.Filled.{SameLengths, filled-alike, tables-filled-alike}
 use Rattle.checker.specs.Checks.{Checks}
 
 -- a verdict is no refusal

@@ -14,12 +14,12 @@ use Rattle.rules.specs.Verdict.{Verdict, accepted, violated}
 use Rattle.rules.specs.Entries.{Tables, Whole, roomsOf, filled, verdictOf, allRead, reportAccepted, reportJudged, reportFrom, reported}
 use Rattle.rules.specs.declared.answers.Answer.{Answer}
 use Rattle.rules.specs.declared.answers.Answer.the-variants.{Accepted, Violated, Refused}
-use Rattle.laws.specs.Demands.{IsRefused, EmptiedReport}
-use Rattle.laws.proofs.DemandOne.{report-demand-one}
-use Rattle.reports.specs.declared.Report.{Report}
-use Rattle.reports.specs.Promise.{ReportRead}
-use Rattle.emptied.specs.After.{tablesAfter, choicesAfter, curvesAfter}
-use Rattle.emptied.proofs.Filled.{SameLengths, tables-after, choices-after, curves-after}
+use Rattle.rules_theorems.specs.Demands.{IsRefused, EmptiedReport}
+use Rattle.rules_theorems.proofs.DemandOne.{report-demand-one}
+use Rattle.energy_report.specs.declared.Report.{Report}
+use Rattle.energy_report.specs.Promise.{ReportRead}
+use Rattle.checker_after.specs.After.{tablesAfter, choicesAfter, curvesAfter}
+use Rattle.checker_after.proofs.Filled.{SameLengths, tables-after, choices-after, curves-after}
 use Rattle.checker.specs.Reports.{Reports}
 
 is-refused : (a : Answer) → isRefusal a ≡ true → IsRefused a

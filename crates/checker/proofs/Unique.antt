@@ -6,10 +6,10 @@ use lib.IntN.{ℤ}
 use Rattle.rules.specs.Reading.{Texts}
 use Rattle.rules.specs.Entries.{Tables}
 use Rattle.rules.specs.declared.sizes.Configuration.{Configuration}
-use Rattle.merging.specs.declared.Merged.{Merged}
-use Rattle.merging.specs.Promise.{Merges}
+use Rattle.merge.specs.declared.Merged.{Merged}
+use Rattle.merge.specs.Promise.{Merges}
 use Rattle.checker.specs.declared.verdicts.Checked.{Checked}
-use Rattle.reports.specs.declared.Report.{Report}
+use Rattle.energy_report.specs.declared.Report.{Report}
 use Rattle.checker.specs.Checks.{Checks}
 use Rattle.checker.specs.Reports.{Reports}
 

@@ -5,7 +5,7 @@ use mathlib.Core.List.{List}
 use lib.IntN.{ℤ}
 use Rattle.rules.specs.Reading.{Texts}
 use Rattle.rules.specs.Entries.{Tables, reported}
-use Rattle.reports.specs.declared.Report.{Report}
+use Rattle.energy_report.specs.declared.Report.{Report}
 
 pub record Reports (H : ℕ) (x : Texts) (solution : List ℕ) (t : Tables) (c : List ℕ) (p : List ℤ) (r : Report) (t′ : Tables) (c′ : List ℕ) (p′ : List ℤ) : Type 0 where
   pub answer : r .answer ≡ reported H x solution t c p .answer

@@ -6,12 +6,12 @@ ghost use Rattle.rules.specs.Display.{startsRow, rowAt};
 pub fn starts_row(s: &[u8], place: usize) -> bool
     ensures { λ r. ⌜ r ≡ startsRow (now (s .entry)) place ⌝ }
 {
-    found::starts_row(s, place)
+    csv_lines::starts_row(s, place)
 }
 
 // The row that starts there, without its LF; empty where none does.
 pub fn row_at<'a>(draft: &'a [u8], solution: &'a [u8], file: u8, place: u32) -> &'a [u8]
     ensures { λ r. ⌜ now r ≡ rowAt (now (draft .entry)) (now (solution .entry)) file place ⌝ }
 {
-    found::row_at(draft, solution, file, place)
+    csv_lines::row_at(draft, solution, file, place)
 }

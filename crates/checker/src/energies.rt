@@ -1,10 +1,9 @@
 // All four files are read, the solution is judged, and its energies are worked out where it is accepted.
-ghost use Rattle.rules.specs.Entries.{tables};
-ghost use Rattle.filed.specs.Filing.{texts};
+ghost use Rattle.tables_lent.specs.Lent.{given, before, after};
 ghost use Rattle.checker.specs.Reports.{Reports};
-use emptied::acceptance;
-use emptied::refusals;
-use reports::Report;
+use checker_after::acceptance;
+use checker_after::refusals;
+use energy_report::Report;
 
 pub fn energy(
     h: u32,
@@ -21,9 +20,11 @@ pub fn energy(
     choices: &mut [u32],
     curves: &mut [i32],
 ) -> Report
-    ensures { λ r. ⌜ Reports h (texts (now (timetable .entry)) (now (profiles .entry)) (now (constraints .entry))) (now (solution .entry)) (tables (now (legs .entry)) (now (configurations .entry)) (now («profile_table» .entry)) (now (samples .entry)) (now («constraint_table» .entry)) (now (tracks .entry))) (now (choices .entry)) (now (curves .entry)) r (tables (now (legs .exit)) (now (configurations .exit)) (now («profile_table» .exit)) (now (samples .exit)) (now («constraint_table» .exit)) (now (tracks .exit))) (now (choices .exit)) (now (curves .exit)) ⌝ }
+    ensures { λ r. ⌜ Reports h (given timetable profiles constraints) (now (solution .entry))
+        (before legs configurations «profile_table» samples «constraint_table» tracks) (now (choices .entry)) (now (curves .entry))
+        r (after legs configurations «profile_table» samples «constraint_table» tracks) (now (choices .exit)) (now (curves .exit)) ⌝ }
 {
-    let report = reports::read_and_report(
+    let report = energy_report::read_and_report(
         h,
         timetable,
         profiles,

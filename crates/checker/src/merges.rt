@@ -1,11 +1,10 @@
 // The two merges: one merged text a call, with `earlier` or `later` choices (document 01, "Merged texts").
 ghost use Rattle.rules.specs.Merge.{earlier, later};
-ghost use Rattle.rules.specs.Entries.{tables};
-ghost use Rattle.filed.specs.Filing.{texts};
-ghost use Rattle.merging.specs.Promise.{Merges};
-use either::Direction;
+ghost use Rattle.tables_lent.specs.Lent.{given, before, after};
+ghost use Rattle.merge.specs.Promise.{Merges};
+use merge_choice::Direction;
 
-pub type Merged = merging::Merged;
+pub type Merged = merge::Merged;
 
 // The earlier choice at each leg; at equal departures the first file's.
 pub fn merge_earlier(
@@ -25,9 +24,11 @@ pub fn merge_earlier(
     second_choices: &mut [u32],
     text: &mut [u8],
 ) -> Merged
-    ensures { λ r. ⌜ Merges earlier h (texts (now (timetable .entry)) (now (profiles .entry)) (now (constraints .entry))) (now (first .entry)) (now (second .entry)) (tables (now (legs .entry)) (now (configurations .entry)) (now («profile_table» .entry)) (now (samples .entry)) (now («constraint_table» .entry)) (now (tracks .entry))) (now (choices .entry)) (now («second_choices» .entry)) (now (text .entry)) r (tables (now (legs .exit)) (now (configurations .exit)) (now («profile_table» .exit)) (now (samples .exit)) (now («constraint_table» .exit)) (now (tracks .exit))) (now (choices .exit)) (now («second_choices» .exit)) (now (text .exit)) ⌝ }
+    ensures { λ r. ⌜ Merges earlier h (given timetable profiles constraints) (now (first .entry)) (now (second .entry))
+        (before legs configurations «profile_table» samples «constraint_table» tracks) (now (choices .entry)) (now («second_choices» .entry)) (now (text .entry))
+        r (after legs configurations «profile_table» samples «constraint_table» tracks) (now (choices .exit)) (now («second_choices» .exit)) (now (text .exit)) ⌝ }
 {
-    merging::merge(
+    merge::merge(
         Direction::Earlier,
         h,
         timetable,
@@ -65,9 +66,11 @@ pub fn merge_later(
     second_choices: &mut [u32],
     text: &mut [u8],
 ) -> Merged
-    ensures { λ r. ⌜ Merges later h (texts (now (timetable .entry)) (now (profiles .entry)) (now (constraints .entry))) (now (first .entry)) (now (second .entry)) (tables (now (legs .entry)) (now (configurations .entry)) (now («profile_table» .entry)) (now (samples .entry)) (now («constraint_table» .entry)) (now (tracks .entry))) (now (choices .entry)) (now («second_choices» .entry)) (now (text .entry)) r (tables (now (legs .exit)) (now (configurations .exit)) (now («profile_table» .exit)) (now (samples .exit)) (now («constraint_table» .exit)) (now (tracks .exit))) (now (choices .exit)) (now («second_choices» .exit)) (now (text .exit)) ⌝ }
+    ensures { λ r. ⌜ Merges later h (given timetable profiles constraints) (now (first .entry)) (now (second .entry))
+        (before legs configurations «profile_table» samples «constraint_table» tracks) (now (choices .entry)) (now («second_choices» .entry)) (now (text .entry))
+        r (after legs configurations «profile_table» samples «constraint_table» tracks) (now (choices .exit)) (now («second_choices» .exit)) (now (text .exit)) ⌝ }
 {
-    merging::merge(
+    merge::merge(
         Direction::Later,
         h,
         timetable,

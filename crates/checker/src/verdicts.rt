@@ -1,8 +1,7 @@
 // All four files are read, and the solution is judged.
-ghost use Rattle.rules.specs.Entries.{tables};
-ghost use Rattle.filed.specs.Filing.{texts};
+ghost use Rattle.tables_lent.specs.Lent.{given, before, after};
 ghost use Rattle.checker.specs.Checks.{Checks};
-use emptied::refusals;
+use checker_after::refusals;
 use rules::answers::Answer;
 
 pub struct Checked {
@@ -23,9 +22,11 @@ pub fn check(
     tracks: &mut [u32],
     choices: &mut [u32],
 ) -> Checked
-    ensures { λ r. ⌜ Checks h (texts (now (timetable .entry)) (now (profiles .entry)) (now (constraints .entry))) (now (solution .entry)) (tables (now (legs .entry)) (now (configurations .entry)) (now («profile_table» .entry)) (now (samples .entry)) (now («constraint_table» .entry)) (now (tracks .entry))) (now (choices .entry)) r (tables (now (legs .exit)) (now (configurations .exit)) (now («profile_table» .exit)) (now (samples .exit)) (now («constraint_table» .exit)) (now (tracks .exit))) (now (choices .exit)) ⌝ }
+    ensures { λ r. ⌜ Checks h (given timetable profiles constraints) (now (solution .entry))
+        (before legs configurations «profile_table» samples «constraint_table» tracks) (now (choices .entry))
+        r (after legs configurations «profile_table» samples «constraint_table» tracks) (now (choices .exit)) ⌝ }
 {
-    let judged = tails::read_and_judge(
+    let judged = checker_judge::read_and_judge(
         h,
         timetable,
         profiles,

@@ -16,21 +16,21 @@ use Rattle.rules.specs.Answers.{refusal, tooLong, constraintsFile, Reading, ref
 use Rattle.rules.specs.Constraints.{Document, empty, start, plainRules, run, constraintsOf, ordered, constraintNumbers, trackNumbers}
 use Rattle.rules.specs.declared.sizes.Constraint.{Constraint}
 use Rattle.rules.specs.Verdict.{All}
-use Rattle.laws.specs.LawfulDocument.{LawfulConstraint, LawfulDocument}
-use Rattle.laws.proofs.All.{all-at}
-use Rattle.laws.proofs.Ordered.{OfKind, ordered-length}
-use Rattle.laws.proofs.Documents.{good-is-lawful}
-use Rattle.ids.specs.Column.{Records, column}
-use Rattle.steps.specs.declared.Counts.{Counts}
+use Rattle.rules_theorems.specs.LawfulDocument.{LawfulConstraint, LawfulDocument}
+use Rattle.rules_theorems.proofs.All.{all-at}
+use Rattle.rules_theorems.proofs.Ordered.{OfKind, ordered-length}
+use Rattle.rules_theorems.proofs.Documents.{good-is-lawful}
+use Rattle.tables_ids.specs.Column.{Records, column}
+use Rattle.constraints_states.specs.declared.Counts.{Counts}
 use Rattle.rules.proofs.Lists.{flat-length, over-length}
 use Rattle.constraints.specs.declared.walks.Walked.{Walked}
 use Rattle.constraints.specs.declared.walks.Walked.the-variants.{Good, Refused}
 use Rattle.constraints.specs.declared.Read.the-variants.{Whole, Refused as NotRead}
-use Rattle.steps.specs.Steps.{countsOf}
-use Rattle.stored.specs.Places.{nexts, Upward, beforeLast, startsOf}
-use Rattle.stored.proofs.Places.{constraint-long}
-use Rattle.stored.proofs.InOrder.{upward-ordered}
-use Rattle.stored.proofs.ByKind.{none, counted, all-counted, by-kind}
+use Rattle.constraints_states.specs.Steps.{countsOf}
+use Rattle.constraints_tables.specs.Places.{nexts, Upward, beforeLast, startsOf}
+use Rattle.constraints_tables.proofs.Places.{constraint-long}
+use Rattle.constraints_tables.proofs.InOrder.{upward-ordered}
+use Rattle.constraints_tables.proofs.ByKind.{none, counted, all-counted, by-kind}
 use Rattle.constraints.specs.Tables.{outcome, Filled, Walks, Able, reading, readOf, Tables, Reads}
 
 kinds-known : (legs : List ℕ) (cs : List Constraint) → All (LawfulConstraint legs) cs → All OfKind cs

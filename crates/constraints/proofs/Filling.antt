@@ -9,10 +9,10 @@ use Rattle.rules.specs.Limits.{trackWidth}
 use Rattle.rules.specs.Lists.{flat, over}
 use Rattle.rules.specs.Constraints.{trackNumbers}
 use Rattle.rules.specs.declared.sizes.Track.{Track}
-use Rattle.ids.specs.Column.{column, trackIdsOf}
-use Rattle.ids.proofs.Column.{column-length, column-at}
-use Rattle.ids.proofs.Written.{column-written}
-use Rattle.steps.specs.Steps.{idWidth}
+use Rattle.tables_ids.specs.Column.{column, trackIdsOf}
+use Rattle.tables_ids.proofs.Column.{column-length, column-at}
+use Rattle.tables_ids.proofs.Written.{column-written}
+use Rattle.constraints_states.specs.Steps.{idWidth}
 
 -- ---- the tracks
 

@@ -18,25 +18,25 @@ use Rattle.rules.specs.declared.tokens.Phase.{Phase}
 use Rattle.rules.specs.declared.tokens.Phase.the-variants.{Document as Text, FirstName, Name, NameColon, ListOpen, AfterList, FirstRecord, Record, AfterRecord, FirstKey, NextKey, KeyColon, Value, AfterValue, FirstTrack, NextTrack, AfterTrack, Done}
 use Rattle.rules.specs.declared.tokens.State.{State}
 use Rattle.rules.specs.Verdict.{All}
-use Rattle.laws.specs.LawfulDocument.{LawfulDocument, LawfulTrack}
-use Rattle.laws.proofs.Phases.{Holds, Keeps}
-use Rattle.laws.proofs.Run.{Safe, goes-on}
-use Rattle.laws.proofs.Documents.{turn-keeps, start-keeps}
+use Rattle.rules_theorems.specs.LawfulDocument.{LawfulDocument, LawfulTrack}
+use Rattle.rules_theorems.proofs.Phases.{Holds, Keeps}
+use Rattle.rules_theorems.proofs.Run.{Safe, goes-on}
+use Rattle.rules_theorems.proofs.Documents.{turn-keeps, start-keeps}
 use Rattle.rules.proofs.TokenLaws.{tokens-start}
-use Rattle.ids.specs.Column.{column}
-use Rattle.tokens.specs.declared.Token.{Token as Found}
-use Rattle.tokens.specs.Seen.{tokensAt, found, isEnd, Seen, Within}
-use Rattle.steps.specs.declared.Counts.{Counts}
-use Rattle.steps.specs.declared.Step.{Step}
-use Rattle.steps.specs.declared.Step.the-variants.{On, Emit, Opened, Named, Listed, Finish, Fault}
+use Rattle.tables_ids.specs.Column.{column}
+use Rattle.constraints_tokens.specs.declared.Token.{Token as Found}
+use Rattle.constraints_tokens.specs.Seen.{tokensAt, found, isEnd, Seen, Within}
+use Rattle.constraints_states.specs.declared.Counts.{Counts}
+use Rattle.constraints_states.specs.declared.Step.{Step}
+use Rattle.constraints_states.specs.declared.Step.the-variants.{On, Emit, Opened, Named, Listed, Finish, Fault}
 use Rattle.rules.proofs.Lists.{flat-append, flat-length, over-length, over-more}
 use Rattle.constraints.specs.declared.walks.Walked.the-variants.{Good, Refused}
 use Rattle.rules.specs.declared.sizes.Track.{Track}
-use Rattle.steps.specs.Steps.{turned, countsOf, Tied, Ready}
-use Rattle.stored.specs.Places.{bumped, nexts, written}
-use Rattle.stored.proofs.Places.{nexts-more, nexts-low, nexts-length, written-more, written-length}
+use Rattle.constraints_states.specs.Steps.{turned, countsOf, Tied, Ready}
+use Rattle.constraints_tables.specs.Places.{bumped, nexts, written}
+use Rattle.constraints_tables.proofs.Places.{nexts-more, nexts-low, nexts-length, written-more, written-length}
 use Rattle.constraints.specs.Tables.{outcome, Able, Walks}
-use Rattle.turns.proofs.ByAction.{past-found}
+use Rattle.constraints_turn.proofs.ByAction.{past-found}
 use Rattle.constraints.proofs.Filling.{track-long, tracks-held, ids-held, id-held}
 
 -- ---- no token comes after the text's end

@@ -9,9 +9,9 @@ use Rattle.rules.specs.Lists.{flat, over}
 use Rattle.rules.specs.Answers.{Reading, refused, good}
 use Rattle.rules.specs.Tokens.{tokensOf}
 use Rattle.rules.specs.Constraints.{Document, empty, start, plainRules, run, constraintsOf, ordered, constraintNumbers, trackNumbers}
-use Rattle.ids.specs.Column.{Records, column}
-use Rattle.steps.specs.Steps.{countsOf}
-use Rattle.stored.specs.Places.{nexts, written}
+use Rattle.tables_ids.specs.Column.{Records, column}
+use Rattle.constraints_states.specs.Steps.{countsOf}
+use Rattle.constraints_tables.specs.Places.{nexts, written}
 use Rattle.constraints.specs.declared.walks.Walked.{Walked}
 use Rattle.constraints.specs.declared.walks.Walked.the-variants.{Good, Refused}
 use Rattle.constraints.specs.declared.Read.{Read}

@@ -7,9 +7,9 @@ ghost use lib.ListN.{length, getD, set};
 ghost use lib.Seq.{sets};
 ghost use Rattle.rules.specs.Limits.{constraintWidth, trackWidth, mostConstraints, mostSubnets, mostTracks};
 ghost use Rattle.rules.specs.Constraints.{constraintNumbers};
-ghost use Rattle.stored.specs.Places.{bumped};
+ghost use Rattle.constraints_tables.specs.Places.{bumped};
+use constraints_tables::put_track;
 use rules::tokens::State;
-use stored::put_track;
 
 // The constraint that is whole.
 pub fn emit(
@@ -22,7 +22,7 @@ pub fn emit(
     requires { ⌜ (getD (now next) (after .entry .kind) 0 ≤ mostConstraints + mostConstraints) × (now count ≤ mostConstraints) ⌝ }
     ensures { λ r. ⌜ (now (constraints .exit) ≡ sets (now (constraints .entry)) (cond sorts (getD (now (next .entry)) (after .entry .kind) 0) (now (count .entry)) * constraintWidth) (constraintNumbers (after .entry))) × (now (next .exit) ≡ bumped (now (next .entry)) (after .entry .kind)) × (now (count .exit) ≡ now (count .entry) + 1) × (r ≡ after) ⌝ }
 {
-    stored::emit(sorts, constraints, next, *count, after.entry);
+    constraints_tables::emit(sorts, constraints, next, *count, after.entry);
     *count += 1;
     after
 }

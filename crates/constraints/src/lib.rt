@@ -1,13 +1,13 @@
 // constraints.json read into its two tables.
 ghost use Prim.Native.Nat.{_≤_};
 ghost use Rattle.rules.specs.Limits.{legWidth, mostLegs};
-ghost use Rattle.ids.specs.Column.{Records};
+ghost use Rattle.tables_ids.specs.Column.{Records};
 ghost use Rattle.constraints.specs.Tables.{reading, Reads};
+use constraints_tables::PLACES;
+use constraints_tables::in_order;
+use constraints_tables::starts_of;
 use rules::answers::Refusal;
 use rules::sizes::Text;
-use stored::PLACES;
-use stored::in_order;
-use stored::starts_of;
 use walks::Walked;
 use walks::walk;
 

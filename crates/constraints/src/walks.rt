@@ -3,13 +3,13 @@ ghost use Rattle.constraints.specs.Tables.{Able, outcome, Walks};
 use crate::effects::emit;
 use crate::effects::list;
 use crate::effects::name;
+use constraints_states::Counts;
+use constraints_states::Room;
+use constraints_states::Step;
+use constraints_states::states::starting;
+use constraints_tokens::token_at;
+use constraints_turn::turn;
 use rules::sizes::Subnet;
-use steps::Counts;
-use steps::Room;
-use steps::Step;
-use steps::states::starting;
-use tokens::token_at;
-use turns::turn;
 
 pub enum Walked {
     Good(Counts),

@@ -6,10 +6,10 @@ use lib.IntN.{ℤ}
 use Rattle.rules.specs.Reading.{Texts}
 use Rattle.rules.specs.Entries.{Tables, Reported, checked, reported, merged}
 use Rattle.rules.specs.declared.sizes.Configuration.{Configuration}
-use Rattle.merging.specs.Promise.{Merges}
+use Rattle.merge.specs.Promise.{Merges}
 use Rattle.checker.specs.Checks.{Checks}
 use Rattle.checker.specs.Reports.{Reports}
-use Rattle.numbers.specs.Numbers.{acceptedNumbers, answerNumbers, checkNumbers, reportNumbers, mergeNumbers}
+use Rattle.exports_numbers.specs.Numbers.{acceptedNumbers, answerNumbers, checkNumbers, reportNumbers, mergeNumbers}
 use Rattle.exports.specs.Exported.{Exported}
 
 -- what the definition's report is in numbers

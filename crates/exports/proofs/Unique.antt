@@ -8,13 +8,13 @@ use Rattle.rules.specs.Reading.{Texts}
 use Rattle.rules.specs.Display.{rowAt}
 use Rattle.rules.specs.Entries.{Tables}
 use Rattle.rules.specs.declared.sizes.Configuration.{Configuration}
-use Rattle.merging.specs.Promise.{Merges}
+use Rattle.merge.specs.Promise.{Merges}
 use Rattle.checker.specs.Checks.{Checks}
 use Rattle.checker.specs.Reports.{Reports}
 use Rattle.checker.proofs.Unique.{check-unique, energy-unique, merge-unique}
-use Rattle.numbers.specs.Numbers.{checkNumbers, reportNumbers, mergeNumbers, rowNumbers}
+use Rattle.exports_numbers.specs.Numbers.{checkNumbers, reportNumbers, mergeNumbers, rowNumbers}
 use Rattle.exports.specs.Exported.{Exported}
-use Rattle.found.specs.Starts.{startAt}
+use Rattle.csv_lines.specs.Starts.{startAt}
 
 -- one outcome gives one list of numbers
 one-told : {R : Type 0} {P Q : R → Type 0} {f : R → List ℕ} {n₁ n₂ : List ℕ} (a : Exported P f n₁) (b : Exported Q f n₂) → a .outcome ≡ b .outcome → n₁ ≡ n₂

@@ -2,10 +2,10 @@
 ghost use mathlib.Core.Path.{_≡_};
 ghost use lib.ListN.{length};
 ghost use Rattle.rules.specs.Display.{rowAt};
-ghost use Rattle.found.specs.Starts.{startAt};
-ghost use Rattle.numbers.specs.Numbers.{rowNumbers};
-use numbers::Numbers;
-use numbers::answers;
+ghost use Rattle.csv_lines.specs.Starts.{startAt};
+ghost use Rattle.exports_numbers.specs.Numbers.{rowNumbers};
+use exports_numbers::Numbers;
+use exports_numbers::answers;
 
 #[no_mangle]
 pub extern "C" fn wagontulip_row<'a>(
@@ -17,7 +17,7 @@ pub extern "C" fn wagontulip_row<'a>(
 )
     ensures { λ _. ⌜ now (answer .exit) ≡ rowNumbers (startAt (now (draft .entry)) (now (solution .entry)) file place) (length (rowAt (now (draft .entry)) (now (solution .entry)) file place)) ⌝ }
 {
-    let start = found::start_at(draft, solution, file, place);
-    let row = found::row_at(draft, solution, file, place);
+    let start = csv_lines::start_at(draft, solution, file, place);
+    let row = csv_lines::row_at(draft, solution, file, place);
     *answer = answers::of_row(start, row.len());
 }

@@ -1,12 +1,11 @@
 // `energy` for C.
-ghost use Rattle.rules.specs.Entries.{tables};
-ghost use Rattle.filed.specs.Filing.{texts};
+ghost use Rattle.tables_lent.specs.Lent.{given, before, after};
 ghost use Rattle.checker.specs.Reports.{Reports};
-ghost use Rattle.numbers.specs.Numbers.{reportNumbers};
+ghost use Rattle.exports_numbers.specs.Numbers.{reportNumbers};
 ghost use Rattle.exports.specs.Exported.{Exported};
 use checker::energies;
-use numbers::Numbers;
-use numbers::figures;
+use exports_numbers::Numbers;
+use exports_numbers::figures;
 
 #[no_mangle]
 pub extern "C" fn wagontulip_energy(
@@ -25,7 +24,9 @@ pub extern "C" fn wagontulip_energy(
     curves: &mut [i32],
     answer: &mut Numbers,
 )
-    ensures { λ _. ⌜ Exported (λ r. Reports h (texts (now (timetable .entry)) (now (profiles .entry)) (now (constraints .entry))) (now (solution .entry)) (tables (now (legs .entry)) (now (configurations .entry)) (now («profile_table» .entry)) (now (samples .entry)) (now («constraint_table» .entry)) (now (tracks .entry))) (now (choices .entry)) (now (curves .entry)) r (tables (now (legs .exit)) (now (configurations .exit)) (now («profile_table» .exit)) (now (samples .exit)) (now («constraint_table» .exit)) (now (tracks .exit))) (now (choices .exit)) (now (curves .exit))) reportNumbers (now (answer .exit)) ⌝ }
+    ensures { λ _. ⌜ Exported (λ r. Reports h (given timetable profiles constraints) (now (solution .entry))
+        (before legs configurations «profile_table» samples «constraint_table» tracks) (now (choices .entry)) (now (curves .entry))
+        r (after legs configurations «profile_table» samples «constraint_table» tracks) (now (choices .exit)) (now (curves .exit))) reportNumbers (now (answer .exit)) ⌝ }
 {
     let report = energies::energy(
         h,

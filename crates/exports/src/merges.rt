@@ -1,13 +1,12 @@
 // The two merges for C.
 ghost use Rattle.rules.specs.Merge.{earlier, later};
-ghost use Rattle.rules.specs.Entries.{tables};
-ghost use Rattle.filed.specs.Filing.{texts};
-ghost use Rattle.merging.specs.Promise.{Merges};
-ghost use Rattle.numbers.specs.Numbers.{mergeNumbers};
+ghost use Rattle.tables_lent.specs.Lent.{given, before, after};
+ghost use Rattle.merge.specs.Promise.{Merges};
+ghost use Rattle.exports_numbers.specs.Numbers.{mergeNumbers};
 ghost use Rattle.exports.specs.Exported.{Exported};
 use checker::merges;
-use numbers::Numbers;
-use numbers::answers;
+use exports_numbers::Numbers;
+use exports_numbers::answers;
 
 #[no_mangle]
 pub extern "C" fn wagontulip_merge_earlier(
@@ -28,7 +27,9 @@ pub extern "C" fn wagontulip_merge_earlier(
     text: &mut [u8],
     answer: &mut Numbers,
 )
-    ensures { λ _. ⌜ Exported (λ r. Merges earlier h (texts (now (timetable .entry)) (now (profiles .entry)) (now (constraints .entry))) (now (first .entry)) (now (second .entry)) (tables (now (legs .entry)) (now (configurations .entry)) (now («profile_table» .entry)) (now (samples .entry)) (now («constraint_table» .entry)) (now (tracks .entry))) (now (choices .entry)) (now («second_choices» .entry)) (now (text .entry)) r (tables (now (legs .exit)) (now (configurations .exit)) (now («profile_table» .exit)) (now (samples .exit)) (now («constraint_table» .exit)) (now (tracks .exit))) (now (choices .exit)) (now («second_choices» .exit)) (now (text .exit))) mergeNumbers (now (answer .exit)) ⌝ }
+    ensures { λ _. ⌜ Exported (λ r. Merges earlier h (given timetable profiles constraints) (now (first .entry)) (now (second .entry))
+        (before legs configurations «profile_table» samples «constraint_table» tracks) (now (choices .entry)) (now («second_choices» .entry)) (now (text .entry))
+        r (after legs configurations «profile_table» samples «constraint_table» tracks) (now (choices .exit)) (now («second_choices» .exit)) (now (text .exit))) mergeNumbers (now (answer .exit)) ⌝ }
 {
     let merged = merges::merge_earlier(
         h,
@@ -69,7 +70,9 @@ pub extern "C" fn wagontulip_merge_later(
     text: &mut [u8],
     answer: &mut Numbers,
 )
-    ensures { λ _. ⌜ Exported (λ r. Merges later h (texts (now (timetable .entry)) (now (profiles .entry)) (now (constraints .entry))) (now (first .entry)) (now (second .entry)) (tables (now (legs .entry)) (now (configurations .entry)) (now («profile_table» .entry)) (now (samples .entry)) (now («constraint_table» .entry)) (now (tracks .entry))) (now (choices .entry)) (now («second_choices» .entry)) (now (text .entry)) r (tables (now (legs .exit)) (now (configurations .exit)) (now («profile_table» .exit)) (now (samples .exit)) (now («constraint_table» .exit)) (now (tracks .exit))) (now (choices .exit)) (now («second_choices» .exit)) (now (text .exit))) mergeNumbers (now (answer .exit)) ⌝ }
+    ensures { λ _. ⌜ Exported (λ r. Merges later h (given timetable profiles constraints) (now (first .entry)) (now (second .entry))
+        (before legs configurations «profile_table» samples «constraint_table» tracks) (now (choices .entry)) (now («second_choices» .entry)) (now (text .entry))
+        r (after legs configurations «profile_table» samples «constraint_table» tracks) (now (choices .exit)) (now («second_choices» .exit)) (now (text .exit))) mergeNumbers (now (answer .exit)) ⌝ }
 {
     let merged = merges::merge_later(
         h,

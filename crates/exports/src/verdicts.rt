@@ -1,12 +1,11 @@
 // `check` for C.
-ghost use Rattle.rules.specs.Entries.{tables};
-ghost use Rattle.filed.specs.Filing.{texts};
+ghost use Rattle.tables_lent.specs.Lent.{given, before, after};
 ghost use Rattle.checker.specs.Checks.{Checks};
-ghost use Rattle.numbers.specs.Numbers.{checkNumbers};
+ghost use Rattle.exports_numbers.specs.Numbers.{checkNumbers};
 ghost use Rattle.exports.specs.Exported.{Exported};
 use checker::verdicts;
-use numbers::Numbers;
-use numbers::answers;
+use exports_numbers::Numbers;
+use exports_numbers::answers;
 
 #[no_mangle]
 pub extern "C" fn wagontulip_check(
@@ -24,7 +23,9 @@ pub extern "C" fn wagontulip_check(
     choices: &mut [u32],
     answer: &mut Numbers,
 )
-    ensures { λ _. ⌜ Exported (λ r. Checks h (texts (now (timetable .entry)) (now (profiles .entry)) (now (constraints .entry))) (now (solution .entry)) (tables (now (legs .entry)) (now (configurations .entry)) (now («profile_table» .entry)) (now (samples .entry)) (now («constraint_table» .entry)) (now (tracks .entry))) (now (choices .entry)) r (tables (now (legs .exit)) (now (configurations .exit)) (now («profile_table» .exit)) (now (samples .exit)) (now («constraint_table» .exit)) (now (tracks .exit))) (now (choices .exit))) checkNumbers (now (answer .exit)) ⌝ }
+    ensures { λ _. ⌜ Exported (λ r. Checks h (given timetable profiles constraints) (now (solution .entry))
+        (before legs configurations «profile_table» samples «constraint_table» tracks) (now (choices .entry))
+        r (after legs configurations «profile_table» samples «constraint_table» tracks) (now (choices .exit))) checkNumbers (now (answer .exit)) ⌝ }
 {
     let checked = verdicts::check(
         h,

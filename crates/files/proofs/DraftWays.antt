@@ -16,13 +16,13 @@ use Rattle.rules.specs.declared.sizes.Horizon.{Horizon}
 use Rattle.rules.specs.declared.sizes.HorizonMade.{HorizonMade}
 use Rattle.rules.specs.declared.sizes.HorizonMade.the-variants.{Within, OutOfRange}
 use Rattle.rules.specs.declared.answers.Refusal.{Refusal}
-use Rattle.laws.proofs.FileRefusals.{Refuses, refuses, timetable-refuses}
+use Rattle.rules_theorems.proofs.FileRefusals.{Refuses, refuses, timetable-refuses}
 use Rattle.timetable.specs.declared.reader.Rows.{Rows}
 use Rattle.timetable.specs.declared.reader.Rows.the-variants.{Fault, Read}
 use Rattle.timetable.specs.Held.{tables}
 use Rattle.timetable.specs.Promise.{answerOf, ReadAs, Tabled}
-use Rattle.filed.specs.declared.Filed.the-variants.{Whole, Refused}
-use Rattle.filed.proofs.Filing.{same-refusal}
+use Rattle.tables_lent.specs.declared.Filed.the-variants.{Whole, Refused}
+use Rattle.tables_lent.proofs.Filing.{same-refusal}
 use Rattle.files.specs.Parts.{draftOf, DraftRead}
 use Rattle.files.proofs.Parted.{part-refused, part-good}
 

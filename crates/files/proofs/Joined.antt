@@ -13,15 +13,15 @@ use Rattle.rules.specs.Constraints.{Document, ordered, constraintNumbers, track
 use Rattle.rules.specs.Reading.{Texts, Files, Rooms, horizonOf, filesOf}
 use Rattle.rules.specs.Entries.{Tables, tables, roomsOf, writtenTables}
 use Rattle.rules.specs.declared.answers.Refusal.{Refusal}
-use Rattle.laws.proofs.GoodText.{never-good}
-use Rattle.laws.proofs.GoodRows.{timetable-good}
-use Rattle.laws.proofs.GoodFiles.{good-first}
-use Rattle.laws.proofs.LawfulRows.{legs-most}
-use Rattle.rows.proofs.Fronts.{front-held}
-use Rattle.filed.specs.declared.Counts.{Counts}
-use Rattle.filed.specs.declared.Filed.{Filed}
-use Rattle.filed.specs.declared.Filed.the-variants.{Whole, Refused}
-use Rattle.filed.specs.Filing.{texts, filedBy, filedOf}
+use Rattle.rules_theorems.proofs.GoodText.{never-good}
+use Rattle.rules_theorems.proofs.GoodRows.{timetable-good}
+use Rattle.rules_theorems.proofs.GoodFiles.{good-first}
+use Rattle.rules_theorems.proofs.LawfulRows.{legs-most}
+use Rattle.files_tests.proofs.Fronts.{front-held}
+use Rattle.tables_lent.specs.declared.Counts.{Counts}
+use Rattle.tables_lent.specs.declared.Filed.{Filed}
+use Rattle.tables_lent.specs.declared.Filed.the-variants.{Whole, Refused}
+use Rattle.tables_lent.specs.Filing.{texts, filedBy, filedOf}
 use Rattle.files.specs.Promise.{FilesRead}
 use Rattle.files.specs.Parts.{draftOf, powersOf, rulesOf, withRows, withCurves, withDocument, Draft, Lists, Drafted, Listed, Part, DraftRead, PowersRead, RulesRead}
 use Rattle.files.proofs.Parted.{WasGood, whole-good, refused-refused}

@@ -4,11 +4,11 @@ use mathlib.Core.Path.{_≡_, refl, sym, _∙_}
 use native.Mathlib.Omega.{arith}
 use Rattle.rules.specs.Answers.{Reading, refused, good}
 use Rattle.rules.specs.declared.answers.Refusal.{Refusal}
-use Rattle.laws.proofs.GoodText.{never-good}
-use Rattle.filed.specs.declared.Counts.{Counts}
-use Rattle.filed.specs.declared.Filed.{Filed}
-use Rattle.filed.specs.declared.Filed.the-variants.{Whole, Refused}
-use Rattle.filed.specs.Filing.{filedBy}
+use Rattle.rules_theorems.proofs.GoodText.{never-good}
+use Rattle.tables_lent.specs.declared.Counts.{Counts}
+use Rattle.tables_lent.specs.declared.Filed.{Filed}
+use Rattle.tables_lent.specs.declared.Filed.the-variants.{Whole, Refused}
+use Rattle.tables_lent.specs.Filing.{filedBy}
 use Rattle.files.specs.Parts.{Part}
 
 -- what was read, by a reader's answer that is told of no refusal

@@ -13,19 +13,19 @@ use Rattle.rules.specs.Rows.{RowFault, firstFault, placeOfRow}
 use Rattle.rules.specs.Timetable.{Row}
 use Rattle.rules.specs.Profiles.{Curve, profilesOf, profilesFrom, profileNumbers, profileFault}
 use Rattle.rules.specs.declared.answers.Refusal.{Refusal}
-use Rattle.ids.specs.Column.{Records}
-use Rattle.ids.proofs.Curves.{profiles-length}
+use Rattle.tables_ids.specs.Column.{Records}
+use Rattle.tables_ids.proofs.Curves.{profiles-length}
 use Rattle.profiles.specs.declared.reader.Rows.{Rows}
 use Rattle.profiles.specs.declared.reader.Rows.the-variants.{Refused as NotRead, Read}
-use Rattle.rows.specs.declared.lists.Fault.{Fault}
-use Rattle.rows.specs.declared.lists.Fault.the-variants.{Row as AtRow, Nothing}
+use Rattle.files_tests.specs.declared.lists.Fault.{Fault}
+use Rattle.files_tests.specs.declared.lists.Fault.the-variants.{Row as AtRow, Nothing}
 use Rattle.profiles.specs.Reads.{rowsOf, Reads}
-use Rattle.samples.specs.Row.{profileTable}
-use Rattle.rows.specs.Counts.{Tables, Tabled, faultOf, FirstFault}
-use Rattle.rows.proofs.Holding.{front-records, tabled-tables}
-use Rattle.rows.proofs.Fronts.{front-held}
-use Rattle.filed.specs.declared.Counts.{Counts}
-use Rattle.filed.specs.declared.Filed.the-variants.{Whole, Refused}
+use Rattle.profiles_row.specs.Row.{profileTable}
+use Rattle.files_tests.specs.Counts.{Tables, Tabled, faultOf, FirstFault}
+use Rattle.files_tests.proofs.Holding.{front-records, tabled-tables}
+use Rattle.files_tests.proofs.Fronts.{front-held}
+use Rattle.tables_lent.specs.declared.Counts.{Counts}
+use Rattle.tables_lent.specs.declared.Filed.the-variants.{Whole, Refused}
 use Rattle.files.specs.Parts.{powersOf, Draft, Lists, Listed, PowersRead}
 use Rattle.files.proofs.Parted.{WasRead, was-read, part-refused, part-good}
 

@@ -12,20 +12,20 @@ use Rattle.rules.specs.Timetable.{Row}
 use Rattle.rules.specs.Constraints.{Document, plainRules, constraintsOf, subnetFault, trackNumbers}
 use Rattle.rules.specs.Reading.{legIds}
 use Rattle.rules.specs.declared.answers.Refusal.{Refusal}
-use Rattle.laws.proofs.FileRefusals.{Refuses, refuses, constraints-refuse}
-use Rattle.ids.specs.declared.Found.{Found}
-use Rattle.ids.specs.declared.Found.the-variants.{At, Nothing}
-use Rattle.ids.specs.Column.{Records, column}
+use Rattle.rules_theorems.proofs.FileRefusals.{Refuses, refuses, constraints-refuse}
+use Rattle.tables_ids.specs.declared.Found.{Found}
+use Rattle.tables_ids.specs.declared.Found.the-variants.{At, Nothing}
+use Rattle.tables_ids.specs.Column.{Records, column}
 use Rattle.constraints.specs.declared.Read.{Read}
 use Rattle.constraints.specs.declared.Read.the-variants.{Whole as WholeText, Refused as NotRead}
 use Rattle.constraints.specs.Tables.{readOf, reading, Reads}
-use Rattle.rows.specs.Subnets.{faultAt, Fifteen}
+use Rattle.files_tests.specs.Subnets.{faultAt, Fifteen}
 use Rattle.constraints.proofs.Filling.{tracks-held}
-use Rattle.rows.proofs.Holding.{front-records}
-use Rattle.rows.proofs.Fronts.{legs-records, legs-ids, legs-tracks}
-use Rattle.filed.specs.declared.Counts.{Counts}
-use Rattle.filed.specs.declared.Filed.the-variants.{Whole, Refused}
-use Rattle.filed.proofs.Filing.{same-refusal}
+use Rattle.files_tests.proofs.Holding.{front-records}
+use Rattle.files_tests.proofs.Fronts.{legs-records, legs-ids, legs-tracks}
+use Rattle.tables_lent.specs.declared.Counts.{Counts}
+use Rattle.tables_lent.specs.declared.Filed.the-variants.{Whole, Refused}
+use Rattle.tables_lent.proofs.Filing.{same-refusal}
 use Rattle.files.specs.Parts.{rulesOf, Draft, Drafted, RulesRead}
 use Rattle.files.proofs.Parted.{WasRead, was-read, part-refused, part-good}
 

@@ -12,9 +12,9 @@ use Rattle.rules.specs.Timetable.{Row, listed, legsOf, legNumbers, configuratio
 use Rattle.rules.specs.Profiles.{Curve, sampled, profilesOf, profileFault, profilesFrom, profileNumbers, sampleTable}
 use Rattle.rules.specs.Constraints.{Document, plainRules, constraintsOf, subnetFault, ordered, constraintNumbers, trackNumbers}
 use Rattle.rules.specs.Reading.{horizonOf, legIds}
-use Rattle.filed.specs.declared.Counts.{Counts}
-use Rattle.filed.specs.declared.Filed.{Filed}
-use Rattle.filed.specs.Filing.{filedBy}
+use Rattle.tables_lent.specs.declared.Counts.{Counts}
+use Rattle.tables_lent.specs.declared.Filed.{Filed}
+use Rattle.tables_lent.specs.Filing.{filedBy}
 
 -- ---- what each part reads; room is in numbers
 

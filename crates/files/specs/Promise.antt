@@ -4,8 +4,8 @@ use mathlib.Core.Path.{_≡_}
 use Rattle.rules.specs.Answers.{good}
 use Rattle.rules.specs.Reading.{Texts, Files, filesOf}
 use Rattle.rules.specs.Entries.{Tables, roomsOf, writtenTables}
-use Rattle.filed.specs.declared.Filed.{Filed}
-use Rattle.filed.specs.Filing.{filedOf}
+use Rattle.tables_lent.specs.declared.Filed.{Filed}
+use Rattle.tables_lent.specs.Filing.{filedOf}
 
 pub record FilesRead (H : ℕ) (x : Texts) (t : Tables) (answer : Filed) (t′ : Tables) : Type 0 where
   pub answers : answer ≡ filedOf (filesOf H x (roomsOf t))

@@ -1,8 +1,7 @@
 // All that does not depend on a solution, in document 01's order: H; timetable; profiles; 12 and 13; constraints; 15.
-ghost use Rattle.rules.specs.Entries.{tables};
-ghost use Rattle.filed.specs.Filing.{texts};
+ghost use Rattle.tables_lent.specs.Lent.{given, before, after};
 ghost use Rattle.files.specs.Promise.{FilesRead};
-use filed::Filed;
+use tables_lent::Filed;
 
 pub mod parts; // the draft; profiles, 12 and 13; constraints, 15
 
@@ -18,7 +17,9 @@ pub fn read_files(
     constraint_table: &mut [u32],
     tracks: &mut [u32],
 ) -> Filed
-    ensures { λ r. ⌜ FilesRead h (texts (now (timetable .entry)) (now (profiles .entry)) (now (constraints .entry))) (tables (now (legs .entry)) (now (configurations .entry)) (now («profile_table» .entry)) (now (samples .entry)) (now («constraint_table» .entry)) (now (tracks .entry))) r (tables (now (legs .exit)) (now (configurations .exit)) (now («profile_table» .exit)) (now (samples .exit)) (now («constraint_table» .exit)) (now (tracks .exit))) ⌝ }
+    ensures { λ r. ⌜ FilesRead h (given timetable profiles constraints)
+        (before legs configurations «profile_table» samples «constraint_table» tracks)
+        r (after legs configurations «profile_table» samples «constraint_table» tracks) ⌝ }
 {
     let draft = parts::read_draft(h, timetable, legs, configurations);
     let Filed::Whole(drafted) = draft else {

@@ -1,17 +1,17 @@
 // The reading in three parts. Each answers the counts so far, or the refusal that ends everything.
 ghost use Rattle.files.specs.Parts.{DraftRead, Listed, PowersRead, Drafted, RulesRead};
 use constraints::Read;
-use filed::Counts;
-use filed::Filed;
-use found::places;
-use ids::Found;
-use rows::lists;
-use rows::lists::Fault;
-use rows::subnets;
+use csv_lines::places;
+use files_tests::lists;
+use files_tests::lists::Fault;
+use files_tests::subnets;
 use rules::answers::File;
 use rules::answers::Refusal;
 use rules::sizes::Horizon;
 use rules::sizes::HorizonMade;
+use tables_ids::Found;
+use tables_lent::Counts;
+use tables_lent::Filed;
 
 // H, and the timetable.
 pub fn read_draft(h: u32, timetable: &[u8], legs: &mut [u32], configurations: &mut [u32]) -> Filed

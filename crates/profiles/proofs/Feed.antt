@@ -10,29 +10,29 @@ use lib.IntN.{ℤ}
 use Rattle.rules.specs.Limits.{mostText, profileWidth}
 use Rattle.rules.specs.Answers.{profilesFile}
 use Rattle.rules.specs.Profiles.{profilesHeader, judgeForm}
-use Rattle.lines.specs.Fold.{fold}
-use Rattle.lines.specs.Machine.{stopped}
-use Rattle.lines.proofs.Fold.{fold-drop, fold-end}
-use Rattle.lines.proofs.Machine.{stopped-stays}
-use Rattle.samples.specs.declared.number.Number.{Number}
-use Rattle.samples.specs.declared.number.Number.the-variants.{Empty}
-use Rattle.quick.specs.declared.Spaced.{Spaced}
-use Rattle.quick.specs.declared.Spaced.the-variants.{At}
-use Rattle.samples.specs.declared.row.Past.{Past}
-use Rattle.samples.specs.declared.row.Listed.{Listed}
-use Rattle.samples.specs.declared.sample.Tail.{Tail}
-use Rattle.powers.specs.declared.state.State.{State}
-use Rattle.powers.specs.declared.state.State.the-variants.{Whole, Stopped}
+use Rattle.csv_machine.specs.Fold.{fold}
+use Rattle.csv_machine.specs.Machine.{stopped}
+use Rattle.csv_machine.proofs.Fold.{fold-drop, fold-end}
+use Rattle.csv_machine.proofs.Machine.{stopped-stays}
+use Rattle.profiles_row.specs.declared.number.Number.{Number}
+use Rattle.profiles_row.specs.declared.number.Number.the-variants.{Empty}
+use Rattle.profiles_sample.specs.declared.Spaced.{Spaced}
+use Rattle.profiles_sample.specs.declared.Spaced.the-variants.{At}
+use Rattle.profiles_row.specs.declared.row.Past.{Past}
+use Rattle.profiles_row.specs.declared.row.Listed.{Listed}
+use Rattle.profiles_row.specs.declared.sample.Tail.{Tail}
+use Rattle.profiles_state.specs.declared.state.State.{State}
+use Rattle.profiles_state.specs.declared.state.State.the-variants.{Whole, Stopped}
 use Rattle.profiles.specs.declared.reader.Reader.{Reader}
 use Rattle.profiles.specs.declared.reader.Many.{Many}
 use Rattle.profiles.specs.declared.reader.Moved.{Moved}
-use Rattle.powers.specs.Open.{start, openStep, openEnd, Reached, reach}
-use Rattle.samples.specs.Row.{ClosesTo}
-use Rattle.powers.specs.Holds.{Holds, in-header, in-id, in-whole, in-fraction, at-stop, Live, Steps, reading, Leads, Leap}
+use Rattle.profiles_state.specs.Open.{start, openStep, openEnd, Reached, reach}
+use Rattle.profiles_row.specs.Row.{ClosesTo}
+use Rattle.profiles_state.specs.Holds.{Holds, in-header, in-id, in-whole, in-fraction, at-stop, Live, Steps, reading, Leads, Leap}
 use Rattle.profiles.specs.Feeds.{Feeds, countIn, ManyRead, Skips, Quickens}
-use Rattle.quick.specs.Quick.{Samples, lasting}
-use Rattle.powers.proofs.Fraction.{fraction-space}
-use Rattle.powers.proofs.Leaps.{leap-none, leap-then, leap-step}
+use Rattle.profiles_sample.specs.Quick.{Samples, lasting}
+use Rattle.profiles_state.proofs.Fraction.{fraction-space}
+use Rattle.profiles_state.proofs.Leaps.{leap-none, leap-then, leap-step}
 
 -- ---- whole samples
 

@@ -13,24 +13,24 @@ use Rattle.rules.specs.Lists.{over}
 use Rattle.rules.specs.Answers.{refused, good, refusal, tooLong, badHeader, badRow, profilesFile}
 use Rattle.rules.specs.Rows.{csvOf}
 use Rattle.rules.specs.Profiles.{Curve, profilesOf, profilesHeader, judgeForm, formOf, sampleTable}
-use Rattle.lines.specs.Fold.{fold}
-use Rattle.lines.specs.Machine.{inHeader}
-use Rattle.lines.proofs.Machine.{csv-by-bytes}
-use Rattle.samples.specs.declared.number.Number.{Number}
-use Rattle.samples.specs.declared.row.Past.{Past}
-use Rattle.samples.specs.declared.row.Listed.{Listed}
-use Rattle.samples.specs.declared.sample.Tail.{Tail}
-use Rattle.powers.specs.declared.state.State.{State}
-use Rattle.powers.specs.declared.state.State.the-variants.{Header, Id, Whole, Fraction, Stopped}
+use Rattle.csv_machine.specs.Fold.{fold}
+use Rattle.csv_machine.specs.Machine.{inHeader}
+use Rattle.csv_machine.proofs.Machine.{csv-by-bytes}
+use Rattle.profiles_row.specs.declared.number.Number.{Number}
+use Rattle.profiles_row.specs.declared.row.Past.{Past}
+use Rattle.profiles_row.specs.declared.row.Listed.{Listed}
+use Rattle.profiles_row.specs.declared.sample.Tail.{Tail}
+use Rattle.profiles_state.specs.declared.state.State.{State}
+use Rattle.profiles_state.specs.declared.state.State.the-variants.{Header, Id, Whole, Fraction, Stopped}
 use Rattle.profiles.specs.declared.reader.Reader.{Reader}
 use Rattle.profiles.specs.declared.reader.Rows.{Rows}
 use Rattle.profiles.specs.declared.reader.Rows.the-variants.{Refused, Read}
-use Rattle.powers.specs.Open.{start, openStep, openEnd, Reached, reach, reachedEnd}
-use Rattle.samples.specs.Row.{profileTable}
-use Rattle.powers.specs.Holds.{Holds, in-header, in-id, in-whole, in-fraction, at-stop, Live}
+use Rattle.profiles_state.specs.Open.{start, openStep, openEnd, Reached, reach, reachedEnd}
+use Rattle.profiles_row.specs.Row.{profileTable}
+use Rattle.profiles_state.specs.Holds.{Holds, in-header, in-id, in-whole, in-fraction, at-stop, Live}
 use Rattle.profiles.specs.Feeds.{Feeds}
 use Rattle.profiles.specs.Reads.{rowsOf, Starts, Finishes, Reads}
-use Rattle.powers.proofs.Form.{form-run}
+use Rattle.profiles_state.proofs.Form.{form-run}
 
 -- the profiles of a text, or its first fault in file order, byte by byte
 pub profiles-by-bytes : (profiles samples : ℕ) (s : List ℕ) → length s ≤ mostText

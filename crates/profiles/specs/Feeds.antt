@@ -6,14 +6,14 @@ use mathlib.Core.List.{List}
 use lib.ListN.{length}
 use lib.IntN.{ℤ}
 use Rattle.rules.specs.Limits.{profileWidth}
-use Rattle.lines.specs.Fold.{fold}
-use Rattle.samples.specs.declared.number.Number.the-variants.{Empty}
-use Rattle.samples.specs.declared.row.Past.{Past}
-use Rattle.samples.specs.declared.row.Listed.{Listed}
-use Rattle.powers.specs.declared.state.State.{State}
-use Rattle.powers.specs.declared.state.State.the-variants.{Header, Id, Whole as InWhole, Fraction, Stopped}
-use Rattle.powers.specs.Open.{Reached, reach}
-use Rattle.powers.specs.Holds.{Holds, Leap, Jump}
+use Rattle.csv_machine.specs.Fold.{fold}
+use Rattle.profiles_row.specs.declared.number.Number.the-variants.{Empty}
+use Rattle.profiles_row.specs.declared.row.Past.{Past}
+use Rattle.profiles_row.specs.declared.row.Listed.{Listed}
+use Rattle.profiles_state.specs.declared.state.State.{State}
+use Rattle.profiles_state.specs.declared.state.State.the-variants.{Header, Id, Whole as InWhole, Fraction, Stopped}
+use Rattle.profiles_state.specs.Open.{Reached, reach}
+use Rattle.profiles_state.specs.Holds.{Holds, Leap, Jump}
 use Rattle.profiles.specs.declared.reader.Reader.{Reader}
 use Rattle.profiles.specs.declared.reader.Many.{Many}
 use Rattle.profiles.specs.declared.reader.Moved.{Moved}

@@ -8,13 +8,13 @@ use Rattle.rules.specs.Limits.{profileWidth}
 use Rattle.rules.specs.Lists.{over}
 use Rattle.rules.specs.Answers.{Reading, refused, good}
 use Rattle.rules.specs.Profiles.{Curve, sampled, profilesOf, sampleTable}
-use Rattle.lines.specs.Machine.{inHeader}
+use Rattle.csv_machine.specs.Machine.{inHeader}
 use Rattle.profiles.specs.declared.reader.Reader.{Reader}
 use Rattle.profiles.specs.declared.reader.Rows.{Rows}
 use Rattle.profiles.specs.declared.reader.Rows.the-variants.{Refused, Read}
-use Rattle.powers.specs.Open.{Reached, reachedEnd}
-use Rattle.samples.specs.Row.{profileTable}
-use Rattle.powers.specs.Holds.{Holds}
+use Rattle.profiles_state.specs.Open.{Reached, reachedEnd}
+use Rattle.profiles_row.specs.Row.{profileTable}
+use Rattle.profiles_state.specs.Holds.{Holds}
 
 -- the refusal, or the counts
 abbrev pub rowsOf : Reading (List Curve) → Rows

@@ -1,20 +1,20 @@
 // The text of profiles.csv, whole or in parts.
-use powers::state;
-use powers::state::State;
-use quick::Spaced;
+use profiles_row::number::Number;
+use profiles_row::row::Listed;
+use profiles_row::row::Past;
+use profiles_row::sample;
+use profiles_sample::Spaced;
+use profiles_state::state;
+use profiles_state::state::State;
 use rules::answers::File;
 use rules::answers::Refusal;
 use rules::sizes::Text;
-use samples::number::Number;
-use samples::row::Listed;
-use samples::row::Past;
-use samples::sample;
 ghost use mathlib.Core.Path.{_≡_};
 ghost use Prim.Native.Nat.{_+_, _≤_};
 ghost use lib.ListN.{length};
 ghost use Rattle.rules.specs.Limits.{mostText};
 ghost use Rattle.rules.specs.Answers.{refusal, profilesFile};
-ghost use Rattle.powers.specs.Holds.{Live};
+ghost use Rattle.profiles_state.specs.Holds.{Live};
 ghost use Rattle.profiles.specs.Feeds.{Feeds, countIn, ManyRead, Skips, Quickens};
 ghost use Rattle.profiles.specs.Reads.{Starts, Finishes, Reads};
 
@@ -32,7 +32,7 @@ fn samples_run(past: Past, l: Listed, part: &[u8], from: usize, samples: &mut [i
     let mut cur = l;
     let mut i = from;
     while i < part.len() {
-        let Spaced::At(tail, next) = quick::sample_at(part, i) else {
+        let Spaced::At(tail, next) = profiles_sample::sample_at(part, i) else {
             return Many { l: cur, next: i };
         };
         cur = sample::close_sample(past, cur, tail, samples);

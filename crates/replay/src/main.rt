@@ -1,16 +1,16 @@
 // Many small cases in one run, for comparison with an independent program: each is a block of numbers and five texts, and is answered by one line.
-use asked::rows;
-use cases::block;
-use cases::block::Block;
-use cases::block::Case;
-use cases::block::Entry;
-use cases::block::Texts;
-use cases::lines;
-use cases::within;
-use cases::within::Room;
-use lent::ROOMS;
 use libc::STDOUT_FILENO;
-use stdin::Piece;
+use replay_case::block;
+use replay_case::block::Block;
+use replay_case::block::Case;
+use replay_case::block::Entry;
+use replay_case::block::Texts;
+use replay_case::lines;
+use replay_case::within;
+use replay_case::within::Room;
+use replay_input::Piece;
+use replay_rooms::ROOMS;
+use replay_texts::rows;
 
 const MOST_CASES: u32 = 1_000_000;
 
@@ -54,7 +54,7 @@ fn bytes_of(t: Texts) -> u64 {
 fn skip(case: Case) -> Next {
     let mut buffer = [0u8; Room::BYTES];
     let texts = case.texts;
-    if stdin::skips(&mut buffer, bytes_of(texts)) {
+    if replay_input::skips(&mut buffer, bytes_of(texts)) {
         io::write_all(STDOUT_FILENO, b"skipped\n");
         return Next::Answered;
     }
@@ -68,8 +68,8 @@ fn put_digests(line: &mut [u8], at: usize, digests: &[u64; ROOMS]) -> usize {
 // The line of a case that takes no room, and the place after it.
 fn put_row(line: &mut [u8], case: Case, texts: &[u8]) -> usize {
     let l = case.lent;
-    let after = begun::put_row(line, rows::row(case, texts));
-    let digests = lent::all_idle(l);
+    let after = replay_line::put_row(line, rows::row(case, texts));
+    let digests = replay_rooms::all_idle(l);
     put_digests(line, after, &digests)
 }
 
@@ -77,10 +77,10 @@ fn put(line: &mut [u8], case: Case, texts: &[u8]) -> usize {
     if case.entry == Entry::ROW {
         return put_row(line, case, texts);
     }
-    let outcome = outcomes::of_case(case, texts);
+    let outcome = replay_outcome::of_case(case, texts);
     let said = outcome.said;
     let digests = outcome.digests;
-    let after = begun::put(line, said);
+    let after = replay_line::put(line, said);
     put_digests(line, after, &digests)
 }
 
@@ -88,14 +88,14 @@ fn put(line: &mut [u8], case: Case, texts: &[u8]) -> usize {
 fn respond(case: Case, texts: &[u8]) {
     let mut line = [0u8; LINE];
     let end = put(&mut line, case, texts);
-    let n = lent::bytes(end, &line);
+    let n = replay_rooms::bytes(end, &line);
     io::write_all(STDOUT_FILENO, &line[..n]);
 }
 
 fn read_texts(case: Case, texts: &mut [u8]) -> Next {
     let t = case.texts;
-    let end = lent::bytes(bytes_of(t) as usize, texts);
-    if !stdin::fills(&mut texts[..end]) {
+    let end = replay_rooms::bytes(bytes_of(t) as usize, texts);
+    if !replay_input::fills(&mut texts[..end]) {
         return Next::Bad;
     }
     respond(case, texts);
@@ -110,7 +110,7 @@ fn serve(case: Case) -> Next {
 
 fn next_case() -> Next {
     let mut bytes = [0u8; Case::BYTES];
-    match stdin::read(&mut bytes) {
+    match replay_input::read(&mut bytes) {
         Piece::Nothing => return Next::Ended,
         Piece::Broken => return Next::Bad,
         Piece::Whole => {}

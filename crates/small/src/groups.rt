@@ -1,18 +1,18 @@
 // The groups: what a group's word asks for, its files read, and the entry called.
 ghost use Prim.Native.Nat.{_+_, _<_, _^_};
 ghost use Rattle.io.specs.Counts.{Counts};
-ghost use Rattle.grouped.specs.Words.{ofSolution, ofTwo};
-use either::Direction;
-use given::arguments;
-use given::arguments::Given;
-use given::files;
-use given::files::Loaded;
-use given::rooms;
-use grouped::Words;
+ghost use Rattle.small_words.specs.Words.{ofSolution, ofTwo};
+use merge_choice::Direction;
 use rules::answers::File;
-use shown::checks;
-use shown::energies;
-use told::say;
+use say_answers::say;
+use small_check::checks;
+use small_check::energies;
+use small_input::arguments;
+use small_input::arguments::Given;
+use small_input::files;
+use small_input::files::Loaded;
+use small_input::rooms;
+use small_words::Words;
 
 pub enum Asked {
     Verdict,
@@ -125,7 +125,7 @@ fn merge_two<'a>(
     out: usize,
 ) {
     if let Ready::At(h) = ready {
-        handed::merge(
+        small_merge::merge(
             direction,
             h,
             timetable,

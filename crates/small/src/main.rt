@@ -7,11 +7,11 @@
 mod groups; // the groups
 
 ghost use Prim.Native.Nat.{_+_, _<_, _^_};
-use either::Direction;
-use grouped::Words;
 use groups::Asked;
 use groups::Entry;
-use told::say;
+use merge_choice::Direction;
+use say_answers::say;
+use small_words::Words;
 
 // The group that starts at argument `at`, of the `left` that are left: how many it takes.
 fn solution_group(at: usize, left: usize, asked: Asked) -> usize
@@ -19,7 +19,7 @@ fn solution_group(at: usize, left: usize, asked: Asked) -> usize
     requires { ⌜ at + left < 2 ^ 64 ⌝ }
     ensures { λ r. ⌜ 0 < r ⌝ }
 {
-    if grouped::is_whole(Words::OF_SOLUTION, left) {
+    if small_words::is_whole(Words::OF_SOLUTION, left) {
         groups::answer_solution(at, asked);
         return Words::OF_SOLUTION;
     }
@@ -34,7 +34,7 @@ fn merge_group(at: usize, left: usize, direction: Direction) -> usize
     requires { ⌜ at + left < 2 ^ 64 ⌝ }
     ensures { λ r. ⌜ 0 < r ⌝ }
 {
-    if grouped::is_whole(Words::OF_TWO, left) {
+    if small_words::is_whole(Words::OF_TWO, left) {
         groups::answer_two(at, direction);
         return Words::OF_TWO;
     }

@@ -17,12 +17,12 @@ use Rattle.rules.specs.Rows.{placeOfRow}
 use Rattle.rules.specs.Timetable.{Row, idsOf, legsFrom, legsOf, legNumbers, choicesOf}
 use Rattle.rules.specs.Reading.{sameLeg, differsFrom, matched}
 use Rattle.rules.proofs.Truth.{and-true}
-use Rattle.legs.specs.Slots.{heldIds}
+use Rattle.timetable_row.specs.Slots.{heldIds}
 use Rattle.timetable.proofs.Words.{length-snoc}
-use Rattle.beside.specs.declared.Compared.{Compared}
-use Rattle.beside.specs.declared.Choices.{Choices}
-use Rattle.beside.specs.declared.Choices.the-variants.{Fault, Read}
-use Rattle.beside.specs.Against.{sameAt, differsAt, comparedWith, comparedAnswer}
+use Rattle.solution_draft.specs.declared.Compared.{Compared}
+use Rattle.solution_draft.specs.declared.Choices.{Choices}
+use Rattle.solution_draft.specs.declared.Choices.the-variants.{Fault, Read}
+use Rattle.solution_draft.specs.Against.{sameAt, differsAt, comparedWith, comparedAnswer}
 use Rattle.solution.specs.Promise.{HoldsRows, choicesAnswer}
 use Rattle.solution.specs.Whole.{choicesAfter}
 

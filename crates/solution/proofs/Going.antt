@@ -17,16 +17,16 @@ use Rattle.rules.specs.Timetable.{Row, rowOf, solutionFits, timetableHeader}
 use Rattle.rules.proofs.Pieces.{split-not-empty, split-free}
 use Rattle.rules.proofs.Lists.{over-length}
 use Rattle.rules.proofs.Truth.{and-first, and-second}
-use Rattle.text.specs.Places.{upTo}
-use Rattle.text.proofs.Laws.{pieces-next, pieces-last}
-use Rattle.legs.specs.declared.line.Line.{Line}
+use Rattle.text_read.specs.Places.{upTo}
+use Rattle.text_read.proofs.Laws.{pieces-next, pieces-last}
+use Rattle.timetable_row.specs.declared.line.Line.{Line}
 use Rattle.timetable.specs.Text.{firstLine}
 use Rattle.timetable.proofs.Words.{length-snoc}
-use Rattle.beside.specs.declared.Compared.{Compared}
-use Rattle.beside.specs.declared.Choices.{Choices}
-use Rattle.beside.specs.declared.Choices.the-variants.{Fault}
-use Rattle.tested.specs.Tests.{Roomy}
-use Rattle.beside.specs.Against.{noneDiffers, comparedWith, comparedAnswer}
+use Rattle.solution_draft.specs.declared.Compared.{Compared}
+use Rattle.solution_draft.specs.declared.Choices.{Choices}
+use Rattle.solution_draft.specs.declared.Choices.the-variants.{Fault}
+use Rattle.solution_row.specs.Tests.{Roomy}
+use Rattle.solution_draft.specs.Against.{noneDiffers, comparedWith, comparedAnswer}
 use Rattle.solution.specs.Said.{Alone}
 use Rattle.solution.specs.Before.{packedRow, Counted, AfterRow, Turned}
 use Rattle.solution.specs.Promise.{HoldsRows}

@@ -19,15 +19,15 @@ use Rattle.rules.specs.Timetable.{Row, formOf, idsOf, inRange, offers, listed, 
 use Rattle.rules.specs.declared.sizes.Configuration.{Configuration}
 use Rattle.rules.proofs.Truth.{all-append, all-map, and-first, and-second}
 use Rattle.rules.proofs.Lists.{flat-append, flat-length, over-more, over-length}
-use Rattle.ids.specs.Column.{column, isNew}
-use Rattle.ids.proofs.Written.{column-written, new-among}
-use Rattle.legs.specs.declared.line.Line.{Line}
-use Rattle.legs.specs.RowOver.{stoppedWith, storedAt, rangeHolds, countsHold, lowest, Bounded, nextLine}
-use Rattle.legs.specs.Slots.{nominalOf, heldIds}
+use Rattle.tables_ids.specs.Column.{column, isNew}
+use Rattle.tables_ids.proofs.Written.{column-written, new-among}
+use Rattle.timetable_row.specs.declared.line.Line.{Line}
+use Rattle.timetable_row.specs.RowOver.{stoppedWith, storedAt, rangeHolds, countsHold, lowest, Bounded, nextLine}
+use Rattle.timetable_row.specs.Slots.{nominalOf, heldIds}
 use Rattle.timetable.proofs.Words.{length-snoc, stored-fits}
 use Rattle.timetable.proofs.Judge.{outcome, judge-lowest, lowest-zero, any-below}
 use Rattle.timetable.proofs.Accept.{listed-more, above-grows}
-use Rattle.tested.specs.Tests.{newAfter, choiceTests, Roomy}
+use Rattle.solution_row.specs.Tests.{newAfter, choiceTests, Roomy}
 use Rattle.solution.specs.Said.{Alone, rangeOf, Said, SaidOf}
 use Rattle.solution.specs.Before.{travels, packed, packedRow, countedAs, Counted, AfterRow, Turned}
 

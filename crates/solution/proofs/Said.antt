@@ -18,20 +18,20 @@ use Rattle.rules.specs.Timetable.{Row, formOf, configuration, idsOf, judgeForm,
 use Rattle.rules.specs.Verdict.{All}
 use Rattle.rules.specs.declared.sizes.Configuration.{Configuration}
 use Rattle.rules.proofs.Truth.{and-first, and-second}
-use Rattle.lines.specs.Fold.{fold, run}
-use Rattle.lines.specs.Number as Row
-use Rattle.lines.specs.Machine.{Progress, inRow, stopped}
-use Rattle.lines.proofs.Lines.{Unbroken}
-use Rattle.lines.proofs.Machine.{in-line, opened}
-use Rattle.legs.specs.declared.line.Line.{Line}
-use Rattle.legs.specs.declared.number.Number.{Number}
-use Rattle.legs.specs.declared.number.Number.the-variants.{Empty}
+use Rattle.csv_machine.specs.Fold.{fold, run}
+use Rattle.csv_machine.specs.Number as Row
+use Rattle.csv_machine.specs.Machine.{Progress, inRow, stopped}
+use Rattle.csv_machine.proofs.Lines.{Unbroken}
+use Rattle.csv_machine.proofs.Machine.{in-line, opened}
+use Rattle.timetable_row.specs.declared.line.Line.{Line}
+use Rattle.timetable_row.specs.declared.number.Number.{Number}
+use Rattle.timetable_row.specs.declared.number.Number.the-variants.{Empty}
 use Rattle.timetable.specs.declared.reader.Reader.{Reader}
 use Rattle.timetable.specs.Held.{numberHeld, Shaped, inHead, inFirst, inSecond, inThird, Tables, tables, InLine, Entered}
-use Rattle.legs.specs.Digits.{isEmpty, valueOf}
+use Rattle.timetable_row.specs.Digits.{isEmpty, valueOf}
 use Rattle.timetable.specs.Open.{Open, partly, start, openStep, openEnd, reach}
-use Rattle.legs.specs.Slots.{lastSlot, entrySlot, nominalOf, heldIds}
-use Rattle.legs.specs.RowOver.{stoppedWith}
+use Rattle.timetable_row.specs.Slots.{lastSlot, entrySlot, nominalOf, heldIds}
+use Rattle.timetable_row.specs.RowOver.{stoppedWith}
 use Rattle.timetable.specs.Ended.{draftRoom}
 use Rattle.timetable.specs.Text.{firstLine, Holds, drafted, Placed, Ran}
 use Rattle.timetable.proofs.Words.{exact}

@@ -17,7 +17,7 @@ use Rattle.rules.specs.Verdict.{All}
 use Rattle.rules.specs.declared.sizes.Configuration.{Configuration}
 use Rattle.rules.proofs.Lists.{tabulate-length, tabulate-ext, tabulate-more, flat-append, flat-length, over-more, over-length}
 use Rattle.rules.proofs.Truth.{and-first, and-second}
-use Rattle.legs.specs.RowOver.{storedAt}
+use Rattle.timetable_row.specs.RowOver.{storedAt}
 use Rattle.timetable.proofs.Words.{stored-fits}
 use Rattle.solution.specs.Before.{travels, timesAt, profileAt, packedRow}
 use Rattle.solution.specs.Whole.{unpackedAt, unpacked}

@@ -11,8 +11,8 @@ use Rattle.rules.specs.Answers.{Judged, wrong, right}
 use Rattle.rules.specs.Timetable.{Row, idsOf, inRange, listed, rowOf, solutionFits}
 use Rattle.rules.specs.Verdict.{All}
 use Rattle.rules.specs.declared.sizes.Configuration.{Configuration}
-use Rattle.legs.specs.declared.line.Line.{Line}
-use Rattle.legs.specs.Slots.{heldIds}
+use Rattle.timetable_row.specs.declared.line.Line.{Line}
+use Rattle.timetable_row.specs.Slots.{heldIds}
 
 -- more than any travel time
 abbrev pub travels : ℕ

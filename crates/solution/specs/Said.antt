@@ -12,12 +12,12 @@ use Rattle.rules.specs.Answers.{badRow}
 use Rattle.rules.specs.Bytes.{lineFeed}
 use Rattle.rules.specs.Timetable.{Row, idsOf, inRange, offers, timetableHeader}
 use Rattle.rules.specs.Verdict.{All}
-use Rattle.legs.specs.declared.line.Line.{Line}
-use Rattle.legs.specs.declared.number.Number.{Number}
+use Rattle.timetable_row.specs.declared.line.Line.{Line}
+use Rattle.timetable_row.specs.declared.number.Number.{Number}
 use Rattle.timetable.specs.Held.{numberHeld, Tables, tables, InLine}
 use Rattle.timetable.specs.Open.{Open, openEnd}
-use Rattle.legs.specs.Slots.{nominalOf, heldIds}
-use Rattle.legs.specs.RowOver.{rangeHolds}
+use Rattle.timetable_row.specs.Slots.{nominalOf, heldIds}
+use Rattle.timetable_row.specs.RowOver.{rangeHolds}
 
 -- a line of a text that is not too long, under a horizon
 pub record Alone (H : ℕ) (line : List ℕ) : Type 0 where

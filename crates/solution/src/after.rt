@@ -1,13 +1,13 @@
 // A row after those before it: what is counted, and its place in the table.
 ghost use mathlib.Core.Path.{_≡_};
-ghost use Rattle.tested.specs.Tests.{Roomy};
+ghost use Rattle.solution_row.specs.Tests.{Roomy};
 ghost use Rattle.solution.specs.Said.{Alone};
 ghost use Rattle.solution.specs.Before.{countedAs, Turned};
 use crate::row;
-use legs::line;
-use legs::line::Line;
 use rules::sizes::Configuration;
 use rules::sizes::Leg;
+use timetable_row::line;
+use timetable_row::line::Line;
 
 // More than any travel time.
 pub const TRAVELS: u32 = Configuration::MOST_TRAVEL + 1;
@@ -35,7 +35,7 @@ pub fn turn(bytes: &[u8], h: u32, before: Line, choices: &mut [u32]) -> Line
         return alone;
     }
     let line = counted_as(alone, before);
-    let number = tested::fault(line, h, choices);
+    let number = solution_row::fault(line, h, choices);
     if number != 0 {
         return line::stopped(line, number);
     }

@@ -6,15 +6,15 @@ ghost use Rattle.rules.specs.Limits.{configurationWidth};
 ghost use Rattle.solution.specs.Promise.{Able, ChoicesRead};
 ghost use Rattle.solution.specs.Whole.{Headed, RowsRead, unpacked};
 use crate::after;
-use beside::Choices;
-use legs::line;
 use rules::answers::Refusal;
 use rules::sizes::Choice;
 use rules::sizes::Configuration;
 use rules::sizes::Leg;
 use rules::sizes::Text;
-use text::words;
+use solution_draft::Choices;
+use text_read::words;
 use timetable::reader;
+use timetable_row::line;
 
 // The rows after the header. The table holds ids and choices, packed.
 fn read_rows(text: &[u8], h: u32, legs: &[u32], n: usize, choices: &mut [u32]) -> Choices
@@ -22,11 +22,11 @@ fn read_rows(text: &[u8], h: u32, legs: &[u32], n: usize, choices: &mut [u32]) -
     ensures { λ r. ⌜ RowsRead h (now (text .entry)) (now (legs .entry)) n (now (choices .entry)) r (now (choices .exit)) ⌝ }
 {
     let mut line = reader::first_line();
-    let mut compared = beside::none_differs();
+    let mut compared = solution_draft::none_differs();
     let mut i = Leg::HEADER_LENGTH;
     while i < text.len() {
         let place = i as u32;
-        let e = ends::line_end(text, i);
+        let e = csv_line_end::line_end(text, i);
         if text.len() <= e {
             return Choices::Fault(Refusal::ROW_FORM, place);
         }
@@ -36,10 +36,10 @@ fn read_rows(text: &[u8], h: u32, legs: &[u32], n: usize, choices: &mut [u32]) -
             return Choices::Fault(line.fault, place);
         }
         let numbers = line.numbers;
-        compared = beside::compared_with(compared, numbers, legs, n, row, place);
+        compared = solution_draft::compared_with(compared, numbers, legs, n, row, place);
         i = e + 1;
     }
-    beside::compared_answer(compared, line.rows, n, text.len())
+    solution_draft::compared_answer(compared, line.rows, n, text.len())
 }
 
 // The choices of n rows, out of ids and choices.

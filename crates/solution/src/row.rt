@@ -1,13 +1,13 @@
 // A line by itself: the timetable's machine reads it, after no rows and into no tables.
 ghost use Rattle.rules.specs.Timetable.{formOf};
 ghost use Rattle.solution.specs.Said.{Alone, SaidOf, RowClosed};
-use legs::line;
-use legs::line::Line;
-use legs::number;
-use legs::number::Number;
 use rules::answers::Refusal;
 use rules::sizes::Leg;
 use timetable::reader;
+use timetable_row::line;
+use timetable_row::line::Line;
+use timetable_row::number;
+use timetable_row::number::Number;
 
 // The line is over: its last number is closed.
 fn close_row(row: Line, unclosed: Number, h: u32, entries: &mut [u32]) -> Line

@@ -16,10 +16,10 @@ use Rattle.rules.specs.declared.sizes.Leg.{Leg}
 use Rattle.rules.specs.declared.sizes.Configuration.{Configuration}
 use Rattle.rules.proofs.Truth.{all-append, all-map, and-first, and-second}
 use Rattle.rules.proofs.Lists.{flat-append, over-more}
-use Rattle.legs.specs.declared.line.Line.{Line}
-use Rattle.legs.specs.Slots.{entrySlot, nominalOf}
+use Rattle.timetable_row.specs.declared.line.Line.{Line}
+use Rattle.timetable_row.specs.Slots.{entrySlot, nominalOf}
 use Rattle.timetable.specs.Held.{inHead, Rowed, Tables, tables, InLine}
-use Rattle.legs.specs.RowOver.{storedAt, lineTests, lowest, heldLeg, nextLine}
+use Rattle.timetable_row.specs.RowOver.{storedAt, lineTests, lowest, heldLeg, nextLine}
 use Rattle.timetable.specs.Ended.{draftRoom}
 use Rattle.timetable.proofs.Words.{length-snoc, stored-fits}
 use Rattle.timetable.proofs.Judge.{rowFrom, legs-written, legs-long, faultless, leg-held, leg-is, list-right, ranged, counted}

@@ -17,14 +17,14 @@ use Rattle.rules.specs.Bytes.{isDigit, space, underscore}
 use Rattle.rules.specs.Timetable.{Row, configuration}
 use Rattle.rules.specs.Verdict.{All}
 use Rattle.rules.specs.declared.sizes.Configuration.{Configuration}
-use Rattle.lines.specs.Number.{Number, empty, numberStep, numberEnd}
-use Rattle.legs.specs.declared.line.Line.{Line}
-use Rattle.legs.specs.Digits.{held}
+use Rattle.csv_machine.specs.Number.{Number, empty, numberStep, numberEnd}
+use Rattle.timetable_row.specs.declared.line.Line.{Line}
+use Rattle.timetable_row.specs.Digits.{held}
 use Rattle.timetable.specs.Open.{Open, partly, separate, openStep}
-use Rattle.legs.specs.Slots.{separators, lastSlot, entrySlot, separatorOf, nominalOf}
+use Rattle.timetable_row.specs.Slots.{separators, lastSlot, entrySlot, separatorOf, nominalOf}
 use Rattle.timetable.specs.Held.{Shaped, inHead, inFirst, inSecond, inThird, lineWith, leading, sameHeld, Opened, Tables, tables, InLine, AfterByte, Entered, Closed}
-use Rattle.legs.specs.RowOver.{stoppedWith}
-use Rattle.legs.proofs.Leaves.{getD-inside}
+use Rattle.timetable_row.specs.RowOver.{stoppedWith}
+use Rattle.timetable_row.proofs.Leaves.{getD-inside}
 use Rattle.timetable.proofs.Words.{length-snoc}
 
 -- ---- which byte closes a number

@@ -18,16 +18,16 @@ use Rattle.rules.specs.declared.sizes.Configuration.{Configuration}
 use Rattle.rules.specs.declared.sizes.LegMade.{LegMade}
 use Rattle.rules.specs.declared.sizes.LegMade.the-variants.{Within}
 use Rattle.rules.proofs.Truth.{and-first, and-second}
-use Rattle.lines.specs.Number as Row
-use Rattle.lines.specs.Machine.{onByte, onLine}
-use Rattle.legs.specs.declared.line.Line.{Line}
-use Rattle.legs.specs.declared.number.Number.{Number}
-use Rattle.legs.specs.declared.number.Number.the-variants.{Empty}
-use Rattle.legs.specs.Digits.{held, isEmpty, valueOf}
+use Rattle.csv_machine.specs.Number as Row
+use Rattle.csv_machine.specs.Machine.{onByte, onLine}
+use Rattle.timetable_row.specs.declared.line.Line.{Line}
+use Rattle.timetable_row.specs.declared.number.Number.{Number}
+use Rattle.timetable_row.specs.declared.number.Number.the-variants.{Empty}
+use Rattle.timetable_row.specs.Digits.{held, isEmpty, valueOf}
 use Rattle.timetable.specs.Held.{numberHeld, Shaped, inHead, inFirst, inSecond, inThird, Tables, tables, InLine, AfterByte, Entered, Closed}
 use Rattle.timetable.specs.Open.{Open, partly, start, openStep, openEnd, reach}
-use Rattle.legs.specs.Slots.{lastSlot, entrySlot, nominalOf, heldIds}
-use Rattle.legs.specs.RowOver.{stoppedWith, storedAt, rangeHolds, countsHold, isNew, roomHolds, lineTests, lowest, heldLeg, legHeld, storedLeg, legOf, Bounded, nextLine}
+use Rattle.timetable_row.specs.Slots.{lastSlot, entrySlot, nominalOf, heldIds}
+use Rattle.timetable_row.specs.RowOver.{stoppedWith, storedAt, rangeHolds, countsHold, isNew, roomHolds, lineTests, lowest, heldLeg, legHeld, storedLeg, legOf, Bounded, nextLine}
 use Rattle.timetable.specs.Ended.{draftRoom, AfterLine, Ended}
 use Rattle.timetable.specs.Text.{Holds, Signed}
 use Rattle.timetable.proofs.Words.{ids-low}

@@ -12,11 +12,11 @@ use Rattle.rules.specs.Lists.{every, flat, over}
 use Rattle.rules.specs.Timetable.{Row, configuration, inRange, same, listed, configurationsOf, configurationNumbers}
 use Rattle.rules.specs.declared.sizes.Configuration.{Configuration}
 use Rattle.rules.proofs.Lists.{every-more, flat-append, flat-length, over-more}
-use Rattle.legs.specs.declared.line.Line.{Line}
-use Rattle.legs.specs.Digits.{mostHeld, held}
-use Rattle.legs.specs.Slots.{nominalSlot, nominalTravelSlot, nominalProfileSlot, entrySlot, entryTravelSlot, lastSlot, nominalOf, entryOf}
+use Rattle.timetable_row.specs.declared.line.Line.{Line}
+use Rattle.timetable_row.specs.Digits.{mostHeld, held}
+use Rattle.timetable_row.specs.Slots.{nominalSlot, nominalTravelSlot, nominalProfileSlot, entrySlot, entryTravelSlot, lastSlot, nominalOf, entryOf}
 use Rattle.timetable.specs.Held.{Shaped, inFirst, inThird, lineWith, sameHeld, Opened, Kept, Entered}
-use Rattle.legs.specs.RowOver.{storedAt}
+use Rattle.timetable_row.specs.RowOver.{storedAt}
 use Rattle.timetable.proofs.Words.{length-snoc, every-front, every-last, leading-snoc, configurations-length, stored-fits, held-all, range-held, exact}
 
 -- ---- the numbers of a row whose entry lacks its third number

@@ -11,16 +11,16 @@ use borrow.Author.Tests.{ltb-true, ltb-false, lt-ltb, le-ltb, eq-eqb, ne-eqb}
 use Rattle.rules.specs.Lists.{over}
 use Rattle.rules.specs.Answers.{badHeader, badRow, timetableFile}
 use Rattle.rules.specs.Timetable.{Row, timetableHeader}
-use Rattle.lines.specs.Fold.{fold}
-use Rattle.lines.specs.Machine.{Progress, inHeader, inRow, stopped}
-use Rattle.legs.specs.declared.line.Line.{Line}
-use Rattle.legs.specs.declared.number.Number.{Number}
-use Rattle.legs.specs.declared.number.Number.the-variants.{Empty}
-use Rattle.headed.specs.declared.Headed.{Headed}
-use Rattle.headed.specs.Heading.{headedFrom}
+use Rattle.csv_machine.specs.Fold.{fold}
+use Rattle.csv_machine.specs.Machine.{Progress, inHeader, inRow, stopped}
+use Rattle.timetable_row.specs.declared.line.Line.{Line}
+use Rattle.timetable_row.specs.declared.number.Number.{Number}
+use Rattle.timetable_row.specs.declared.number.Number.the-variants.{Empty}
+use Rattle.timetable_header.specs.declared.Headed.{Headed}
+use Rattle.timetable_header.specs.Heading.{headedFrom}
 use Rattle.timetable.specs.declared.reader.Reader.{Reader}
 use Rattle.timetable.specs.declared.reader.Rows.the-variants.{Fault, Read}
-use Rattle.legs.specs.Digits.{mostHeld}
+use Rattle.timetable_row.specs.Digits.{mostHeld}
 use Rattle.timetable.specs.Open.{Open, start, reachedEnd}
 use Rattle.timetable.specs.Held.{inHead, Tables, InLine}
 use Rattle.timetable.specs.Ended.{draftRoom}

@@ -15,11 +15,11 @@ use Rattle.rules.specs.Timetable.{Row, row, configuration, threeOf, configurati
 use Rattle.rules.specs.Verdict.{All}
 use Rattle.rules.specs.declared.sizes.Configuration.{Configuration}
 use Rattle.rules.proofs.Pieces.{Free, split-cons, split-free, joined-split}
-use Rattle.lines.specs.Fold.{run}
-use Rattle.lines.specs.Number.{Number, empty, numberStep, numberEnd}
-use Rattle.lines.proofs.Number.{no-step, number-is-whole}
+use Rattle.csv_machine.specs.Fold.{run}
+use Rattle.csv_machine.specs.Number.{Number, empty, numberStep, numberEnd}
+use Rattle.csv_machine.proofs.Number.{no-step, number-is-whole}
 use Rattle.timetable.specs.Open.{Open, partly, start, separate, openStep, closeLast, openEnd}
-use Rattle.legs.specs.Slots.{separators}
+use Rattle.timetable_row.specs.Slots.{separators}
 
 -- ---- what may be missing
 

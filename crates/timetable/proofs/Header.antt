@@ -12,11 +12,11 @@ use borrow.Author.Tests.{ltb-true, ltb-false}
 use Rattle.rules.specs.Limits.{mostText}
 use Rattle.rules.specs.Answers.{badHeader, timetableFile}
 use Rattle.rules.specs.Timetable.{Row, timetableHeader, judgeForm}
-use Rattle.lines.specs.Fold.{fold}
-use Rattle.lines.specs.Machine.{Progress, stopped, begun}
-use Rattle.legs.specs.declared.line.Line.{Line}
-use Rattle.headed.specs.declared.Headed.{Headed}
-use Rattle.headed.specs.Heading.{headed, headedFrom}
+use Rattle.csv_machine.specs.Fold.{fold}
+use Rattle.csv_machine.specs.Machine.{Progress, stopped, begun}
+use Rattle.timetable_row.specs.declared.line.Line.{Line}
+use Rattle.timetable_header.specs.declared.Headed.{Headed}
+use Rattle.timetable_header.specs.Heading.{headed, headedFrom}
 use Rattle.timetable.specs.Open.{Open, start, openStep, openEnd, reach}
 use Rattle.timetable.specs.Held.{Tables}
 use Rattle.timetable.specs.Ended.{draftRoom}

@@ -17,12 +17,12 @@ use Rattle.rules.specs.Verdict.{All}
 use Rattle.rules.specs.declared.sizes.Configuration.{Configuration}
 use Rattle.rules.proofs.Lists.{over-length, flat-length}
 use Rattle.rules.proofs.Truth.{and-first, and-second}
-use Rattle.legs.specs.declared.line.Line.{Line}
-use Rattle.legs.specs.Digits.{held}
+use Rattle.timetable_row.specs.declared.line.Line.{Line}
+use Rattle.timetable_row.specs.Digits.{held}
 use Rattle.timetable.specs.Open.{rowOf}
-use Rattle.legs.specs.Slots.{nominalSlot, nominalTravelSlot, nominalProfileSlot, entrySlot, nominalOf}
+use Rattle.timetable_row.specs.Slots.{nominalSlot, nominalTravelSlot, nominalProfileSlot, entrySlot, nominalOf}
 use Rattle.timetable.specs.Held.{leading, sameHeld, Opened, Rowed, Tables, InLine}
-use Rattle.legs.specs.RowOver.{idsIn, rangeHolds, countsHold, isNew, roomHolds, lineTests, lowest, heldLeg}
+use Rattle.timetable_row.specs.RowOver.{idsIn, rangeHolds, countsHold, isNew, roomHolds, lineTests, lowest, heldLeg}
 use Rattle.timetable.specs.Ended.{draftRoom}
 use Rattle.timetable.proofs.Words.{held-all, range-held, exact, leb-alike, ids-low}
 

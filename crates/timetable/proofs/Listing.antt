@@ -7,12 +7,12 @@ use native.Mathlib.Omega.{arith}
 use lib.ListN.{length, getD, set}
 use Rattle.rules.specs.Bytes.{lineFeed, space, underscore}
 use Rattle.rules.specs.Timetable.{timetableHeader}
-use Rattle.legs.specs.declared.line.Line.{Line}
-use Rattle.legs.specs.declared.number.Number.the-variants.{Empty}
-use Rattle.spotted.specs.declared.Spotted.{Spotted}
-use Rattle.spotted.specs.declared.Spotted.the-variants.{Entry}
-use Rattle.spotted.specs.Spots.{NumberAt, EntryAt, Spots, spotted}
-use Rattle.legs.specs.Slots.{entrySlot, separatorOf}
+use Rattle.timetable_row.specs.declared.line.Line.{Line}
+use Rattle.timetable_row.specs.declared.number.Number.the-variants.{Empty}
+use Rattle.timetable_entry.specs.declared.Spotted.{Spotted}
+use Rattle.timetable_entry.specs.declared.Spotted.the-variants.{Entry}
+use Rattle.timetable_entry.specs.Spots.{NumberAt, EntryAt, Spots, spotted}
+use Rattle.timetable_row.specs.Slots.{entrySlot, separatorOf}
 use Rattle.timetable.specs.Held.{lineWith, openEntry, tables, Entered, Closed}
 use Rattle.timetable.specs.Text.{Signed, Leads}
 use Rattle.timetable.specs.Entries.{Begun, Lists}

@@ -5,11 +5,11 @@ use mathlib.Core.List.{List}
 use native.Mathlib.Omega.{arith}
 use lib.ListN.{length, getD, drop}
 use Rattle.rules.specs.Timetable.{timetableHeader}
-use Rattle.legs.specs.declared.line.Line.{Line}
-use Rattle.legs.specs.declared.number.Number.{Number}
-use Rattle.legs.specs.declared.number.Number.the-variants.{Empty}
-use Rattle.legs.specs.declared.number.Taken.{Taken}
-use Rattle.legs.specs.Digits.{takenFrom}
+use Rattle.timetable_row.specs.declared.line.Line.{Line}
+use Rattle.timetable_row.specs.declared.number.Number.{Number}
+use Rattle.timetable_row.specs.declared.number.Number.the-variants.{Empty}
+use Rattle.timetable_row.specs.declared.number.Taken.{Taken}
+use Rattle.timetable_row.specs.Digits.{takenFrom}
 use Rattle.timetable.specs.Held.{tables}
 use Rattle.timetable.specs.Text.{Signed, Leads, Placed, Ran}
 use Rattle.timetable.specs.declared.entries.Listed.{Listed}

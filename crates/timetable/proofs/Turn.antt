@@ -15,14 +15,14 @@ use Rattle.rules.specs.Bytes.{isDigit, digitZero, digitNine, lineFeed}
 use Rattle.rules.specs.Timetable.{Row, timetableHeader}
 use Rattle.rules.specs.declared.sizes.Configuration.{Configuration}
 use Rattle.rules.proofs.Truth.{and-second}
-use Rattle.lines.specs.Fold.{fold}
-use Rattle.lines.specs.Number as Row
-use Rattle.lines.specs.Machine.{Progress, inHeader, inRow, stopped}
-use Rattle.legs.specs.declared.line.Line.{Line}
-use Rattle.legs.specs.declared.number.Number.{Number}
-use Rattle.legs.specs.declared.number.Number.the-variants.{Empty, Zero, Digits}
-use Rattle.legs.specs.declared.number.Taken.{Taken}
-use Rattle.legs.specs.Digits.{held, taken, digitsFrom, firstFrom, takenFrom}
+use Rattle.csv_machine.specs.Fold.{fold}
+use Rattle.csv_machine.specs.Number as Row
+use Rattle.csv_machine.specs.Machine.{Progress, inHeader, inRow, stopped}
+use Rattle.timetable_row.specs.declared.line.Line.{Line}
+use Rattle.timetable_row.specs.declared.number.Number.{Number}
+use Rattle.timetable_row.specs.declared.number.Number.the-variants.{Empty, Zero, Digits}
+use Rattle.timetable_row.specs.declared.number.Taken.{Taken}
+use Rattle.timetable_row.specs.Digits.{held, taken, digitsFrom, firstFrom, takenFrom}
 use Rattle.timetable.specs.Held.{numberHeld, Tables, InLine}
 use Rattle.timetable.specs.Open.{Open, partly, openStep, reach}
 use Rattle.timetable.specs.Text.{Holds, drafted, Signed, Leads}

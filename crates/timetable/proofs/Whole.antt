@@ -17,14 +17,14 @@ use Rattle.rules.specs.Bytes.{lineFeed}
 use Rattle.rules.specs.Rows.{csvOf}
 use Rattle.rules.specs.Timetable.{Row, formOf, judgeForm, timetableHeader, timetableOf, configurationsOf, configurationNumbers}
 use Rattle.rules.specs.declared.sizes.Configuration.{Configuration}
-use Rattle.lines.specs.Fold.{fold}
-use Rattle.lines.specs.Machine.{Progress, inHeader, inRow, stopped, onByte, onLine}
-use Rattle.lines.proofs.Machine.{csv-by-bytes}
-use Rattle.legs.specs.declared.number.Number.the-variants.{Empty}
+use Rattle.csv_machine.specs.Fold.{fold}
+use Rattle.csv_machine.specs.Machine.{Progress, inHeader, inRow, stopped, onByte, onLine}
+use Rattle.csv_machine.proofs.Machine.{csv-by-bytes}
+use Rattle.timetable_row.specs.declared.number.Number.the-variants.{Empty}
 use Rattle.timetable.specs.declared.reader.Reader.{Reader}
 use Rattle.timetable.specs.declared.reader.Rows.{Rows}
 use Rattle.timetable.specs.declared.reader.Rows.the-variants.{Fault}
-use Rattle.legs.specs.Digits.{mostHeld}
+use Rattle.timetable_row.specs.Digits.{mostHeld}
 use Rattle.timetable.specs.Open.{Open, start, openStep, openEnd, reach, reachedEnd}
 use Rattle.timetable.specs.Held.{Tables, InLine}
 use Rattle.timetable.specs.Ended.{draftRoom}

@@ -17,8 +17,8 @@ use Rattle.rules.specs.Verdict.{All}
 use Rattle.rules.specs.declared.sizes.Configuration.{Configuration}
 use Rattle.rules.proofs.Lists.{every-more}
 use Rattle.rules.proofs.Truth.{and-first, and-second}
-use Rattle.legs.specs.Digits.{mostHeld, held}
-use Rattle.legs.specs.RowOver.{storedAt}
+use Rattle.timetable_row.specs.Digits.{mostHeld, held}
+use Rattle.timetable_row.specs.RowOver.{storedAt}
 use Rattle.timetable.specs.Held.{leading, heldConfiguration}
 
 -- ---- one element more

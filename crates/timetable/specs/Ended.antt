@@ -8,9 +8,9 @@ use lib.ListN.{length}
 use Rattle.rules.specs.Limits.{legWidth, configurationWidth}
 use Rattle.rules.specs.Answers.{Judged, wrong, right}
 use Rattle.rules.specs.Timetable.{Row, judgeForm, draftFits}
-use Rattle.lines.specs.Number.{numberEnd}
-use Rattle.legs.specs.declared.line.Line.{Line}
-use Rattle.legs.specs.Digits.{held}
+use Rattle.csv_machine.specs.Number.{numberEnd}
+use Rattle.timetable_row.specs.declared.line.Line.{Line}
+use Rattle.timetable_row.specs.Digits.{held}
 use Rattle.timetable.specs.Open.{Open, openEnd}
 use Rattle.timetable.specs.Held.{Tables, InLine}
 

@@ -4,8 +4,8 @@ use mathlib.Core.Path.{_≡_}
 use mathlib.Core.List.{List}
 use lib.ListN.{length}
 use Rattle.rules.specs.Timetable.{timetableHeader}
-use Rattle.legs.specs.declared.number.Number.the-variants.{Empty}
-use Rattle.legs.specs.declared.line.Line.{Line}
+use Rattle.timetable_row.specs.declared.number.Number.the-variants.{Empty}
+use Rattle.timetable_row.specs.declared.line.Line.{Line}
 use Rattle.timetable.specs.declared.entries.Listed.{Listed}
 use Rattle.timetable.specs.Held.{tables}
 use Rattle.timetable.specs.Text.{Leads}

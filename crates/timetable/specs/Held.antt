@@ -11,13 +11,13 @@ use Rattle.rules.specs.Answers.{badRow}
 use Rattle.rules.specs.Timetable.{Row, configuration, inRange, same, listed, legsOf, legNumbers, configurationsOf, configurationNumbers}
 use Rattle.rules.specs.Verdict.{All}
 use Rattle.rules.specs.declared.sizes.Configuration.{Configuration}
-use Rattle.lines.specs.Number as Row
-use Rattle.lines.specs.Number.{empty, numberStep, numberEnd}
-use Rattle.legs.specs.declared.number.Number.{Number}
-use Rattle.legs.specs.declared.number.Number.the-variants.{Empty, Zero, Digits}
-use Rattle.legs.specs.declared.line.Line.{Line}
-use Rattle.legs.specs.Digits.{mostHeld, held}
-use Rattle.legs.specs.Slots.{entrySlot, entryTravelSlot, lastSlot, nominalOf}
+use Rattle.csv_machine.specs.Number as Row
+use Rattle.csv_machine.specs.Number.{empty, numberStep, numberEnd}
+use Rattle.timetable_row.specs.declared.number.Number.{Number}
+use Rattle.timetable_row.specs.declared.number.Number.the-variants.{Empty, Zero, Digits}
+use Rattle.timetable_row.specs.declared.line.Line.{Line}
+use Rattle.timetable_row.specs.Digits.{mostHeld, held}
+use Rattle.timetable_row.specs.Slots.{entrySlot, entryTravelSlot, lastSlot, nominalOf}
 use Rattle.timetable.specs.Open.{Open, openStep}
 
 -- the states of a row: numbers before the list, entries, numbers of the open entry

@@ -10,9 +10,9 @@ use Rattle.rules.specs.Answers.{Reading}
 use Rattle.rules.specs.Bytes.{isDigit, space, underscore}
 use Rattle.rules.specs.Timetable.{Row, row, configuration, timetableHeader, judgeForm}
 use Rattle.rules.specs.declared.sizes.Configuration.{Configuration}
-use Rattle.lines.specs.Number.{Number, empty, numberStep, numberEnd}
-use Rattle.lines.specs.Machine.{Progress, progress, finished}
-use Rattle.legs.specs.Slots.{separators}
+use Rattle.csv_machine.specs.Number.{Number, empty, numberStep, numberEnd}
+use Rattle.csv_machine.specs.Machine.{Progress, progress, finished}
+use Rattle.timetable_row.specs.Slots.{separators}
 
 -- the numbers closed before the list; the configurations closed; the numbers closed of the one that is open; the open number
 pub record Open : Type 0 where

@@ -8,17 +8,17 @@ use lib.ListN.{length, drop, replicate}
 use Rattle.rules.specs.Limits.{mostText}
 use Rattle.rules.specs.Answers.{timetableFile}
 use Rattle.rules.specs.Timetable.{Row, timetableHeader}
-use Rattle.lines.specs.Fold.{fold}
-use Rattle.lines.specs.Number.{numberStep}
-use Rattle.lines.specs.Machine.{Progress, inHeader, inRow, stopped}
-use Rattle.legs.specs.Slots.{lastSlot}
-use Rattle.legs.specs.declared.number.Number.{Number}
-use Rattle.legs.specs.declared.number.Number.the-variants.{Empty}
-use Rattle.legs.specs.declared.line.Line.{Line}
+use Rattle.csv_machine.specs.Fold.{fold}
+use Rattle.csv_machine.specs.Number.{numberStep}
+use Rattle.csv_machine.specs.Machine.{Progress, inHeader, inRow, stopped}
+use Rattle.timetable_row.specs.Slots.{lastSlot}
+use Rattle.timetable_row.specs.declared.number.Number.{Number}
+use Rattle.timetable_row.specs.declared.number.Number.the-variants.{Empty}
+use Rattle.timetable_row.specs.declared.line.Line.{Line}
 use Rattle.timetable.specs.declared.reader.Reader.{Reader}
 use Rattle.timetable.specs.declared.reader.Rows.{Rows}
 use Rattle.timetable.specs.Open.{Open, reach, reachedEnd}
-use Rattle.legs.specs.Digits.{mostHeld}
+use Rattle.timetable_row.specs.Digits.{mostHeld}
 use Rattle.timetable.specs.Held.{numberHeld, Tables, InLine}
 use Rattle.timetable.specs.Ended.{draftRoom}
 use Rattle.timetable.specs.Promise.{answerOf}

@@ -1,11 +1,11 @@
 // Whole entries of a list at once: numbers in registers, the row touched at the spaces alone. What is no whole entry is left for the loop over numbers.
 ghost use mathlib.Core.Path.{_≡_};
-ghost use Rattle.legs.specs.Slots.{entrySlot};
+ghost use Rattle.timetable_row.specs.Slots.{entrySlot};
 ghost use Rattle.timetable.specs.Entries.{Lists, Begun};
 use crate::row;
-use legs::line;
-use legs::line::Line;
-use spotted::Spotted;
+use timetable_entry::Spotted;
+use timetable_row::line;
+use timetable_row::line::Line;
 
 // The row after entries, and the place behind the last one's space.
 pub struct Listed {
@@ -21,7 +21,7 @@ fn run_entries(before: Line, part: &[u8], from: usize, h: u32, configurations: &
     let mut line = before;
     let mut i = from;
     while i < part.len() {
-        let Spotted::Entry(d, t, p, next) = spotted::entry_at(part, i) else {
+        let Spotted::Entry(d, t, p, next) = timetable_entry::entry_at(part, i) else {
             return Listed { line, next: i };
         };
         line = row::listed(line, d, t, p, h, configurations);

@@ -3,19 +3,19 @@ ghost use mathlib.Core.Path.{_≡_};
 ghost use Prim.Native.Nat.{_+_, _≤_};
 ghost use lib.ListN.{length};
 ghost use Rattle.rules.specs.Limits.{mostText};
-ghost use Rattle.legs.specs.declared.number.Number.the-variants.{Empty};
+ghost use Rattle.timetable_row.specs.declared.number.Number.the-variants.{Empty};
 ghost use Rattle.timetable.specs.Held.{tables};
 ghost use Rattle.timetable.specs.Promise.{ReadAs};
 ghost use Rattle.timetable.specs.Text.{firstLine, Placed, Ran, Fed, Finished};
 use crate::entries;
 use crate::row;
-use legs::line;
-use legs::line::Line;
-use legs::number;
-use legs::number::Number;
 use rules::answers::Refusal;
 use rules::sizes::Leg;
 use rules::sizes::Text;
+use timetable_row::line;
+use timetable_row::line::Line;
+use timetable_row::number;
+use timetable_row::number::Number;
 
 // After so many bytes: the open number, and the rest of the state.
 pub struct Reader {
@@ -117,7 +117,7 @@ pub fn feed(
             line,
         };
     }
-    let head = headed::header(part, read);
+    let head = timetable_header::header(part, read);
     if head.right {
         let next = head.next;
         return run_rows(line, number, read, part, next, h, legs, configurations);

@@ -4,12 +4,12 @@ ghost use Rattle.rules.specs.Limits.{mostText};
 ghost use Rattle.timetable.specs.Held.{openEntry, Entered, Closed, tables};
 ghost use Rattle.timetable.specs.Ended.{Ended};
 ghost use Rattle.timetable.specs.Text.{Signed};
-use legs::line;
-use legs::line::Line;
-use legs::number;
-use legs::number::Number;
 use rules::answers::Refusal;
 use rules::sizes::Leg;
+use timetable_row::line;
+use timetable_row::line::Line;
+use timetable_row::number;
+use timetable_row::number::Number;
 
 // An entry is closed by its third number.
 pub fn entry(line: Line, p: u32, h: u32, configurations: &mut [u32]) -> Line
@@ -78,7 +78,7 @@ fn ended(line: Line, n: u32, at: u32, h: u32, legs: &mut [u32], configurations: 
         return line::stopped(line, Refusal::ROW_FORM);
     }
     let whole = entry(line, n, h, configurations);
-    let number = faults::fault(whole, h, legs, configurations.len());
+    let number = timetable_faults::fault(whole, h, legs, configurations.len());
     if number != 0 {
         return line::stopped(whole, number);
     }

@@ -15,8 +15,8 @@ use Rattle.rules.specs.Kinds.{Inequality, connection, ruleOf, departure, arriva
 use Rattle.rules.specs.Verdict.{All, noChoice, choiceAt, inequalities, positionAfter}
 use Rattle.rules.specs.declared.sizes.Configuration.{Configuration}
 use Rattle.rules.specs.declared.sizes.Constraint.{Constraint}
-use Rattle.laws.proofs.All.{all-at}
-use Rattle.laws.proofs.Tabulate.{tabulate-at, tabulate-length}
+use Rattle.rules_theorems.proofs.All.{all-at}
+use Rattle.rules_theorems.proofs.Tabulate.{tabulate-at, tabulate-length}
 use Rattle.verdict.specs.Found.{shortfallOf, findingFrom, findingOf}
 use Rattle.verdict.specs.Within.{Timely, Brief, Within, mostShortfall, Failed}
 use Rattle.verdict.specs.declared.records.Finding.{Finding}

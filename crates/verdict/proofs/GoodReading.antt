@@ -16,14 +16,14 @@ use Rattle.rules.specs.Verdict.{All, verdict, answerOf}
 use Rattle.rules.specs.Entries.{Tables, writtenTables, writtenChoices, verdictOf}
 use Rattle.rules.specs.declared.sizes.Configuration.{Configuration}
 use Rattle.rules.proofs.Truth.{all-map}
-use Rattle.laws.specs.LawfulDocument.{LawfulConstraint, LawfulDocument}
-use Rattle.laws.specs.WellFormed.{KeptRow}
-use Rattle.laws.proofs.All.{all-mapped}
-use Rattle.laws.proofs.Documents.{good-is-lawful}
-use Rattle.laws.proofs.GoodFiles.{files-good, GoodChoices, choices-good}
-use Rattle.laws.proofs.LawfulRows.{rows-kept, legs-most}
-use Rattle.laws.proofs.Ordered.{ordered-keeps, table-length}
-use Rattle.tables.specs.View.{offersIn, constraintsIn, configurationsIn}
+use Rattle.rules_theorems.specs.LawfulDocument.{LawfulConstraint, LawfulDocument}
+use Rattle.rules_theorems.specs.WellFormed.{KeptRow}
+use Rattle.rules_theorems.proofs.All.{all-mapped}
+use Rattle.rules_theorems.proofs.Documents.{good-is-lawful}
+use Rattle.rules_theorems.proofs.GoodFiles.{files-good, GoodChoices, choices-good}
+use Rattle.rules_theorems.proofs.LawfulRows.{rows-kept, legs-most}
+use Rattle.rules_theorems.proofs.Ordered.{ordered-keeps, table-length}
+use Rattle.tables_views.specs.View.{offersIn, constraintsIn, configurationsIn}
 use Rattle.verdict.specs.Within.{Timely, Brief, Within}
 use Rattle.verdict.proofs.Written.{verdict-written, within-written}
 

@@ -14,7 +14,7 @@ use Rattle.rules.specs.declared.sizes.Configuration.{Configuration}
 use Rattle.rules.specs.declared.sizes.Constraint.{Constraint}
 use Rattle.rules.specs.declared.answers.Answer.{Answer}
 use Rattle.rules.specs.declared.answers.Answer.the-variants.{Accepted}
-use Rattle.tables.proofs.Tabulated.{tabulate-from, tabulate-past}
+use Rattle.tables_views.proofs.Tabulated.{tabulate-from, tabulate-past}
 use Rattle.verdict.specs.Found.{shortfallOf, findingFrom, findingOf}
 use Rattle.verdict.specs.declared.records.Finding.{Finding}
 use Rattle.verdict.specs.declared.records.Finding.the-variants.{Kept, Fails}

@@ -15,8 +15,8 @@ use Rattle.rules.specs.declared.sizes.Configuration.{Configuration}
 use Rattle.rules.specs.declared.sizes.Leg.{Leg}
 use Rattle.rules.specs.declared.answers.Violation.{Violation}
 use Rattle.rules.specs.declared.answers.Answer.the-variants.{Accepted, Violated}
-use Rattle.tables.specs.View.{legAt, configurationAt, partOf, listIn, offersIn, configurationsIn}
-use Rattle.tables.proofs.Tabulated.{tabulate-from, tabulate-past}
+use Rattle.tables_views.specs.View.{legAt, configurationAt, partOf, listIn, offersIn, configurationsIn}
+use Rattle.tables_views.proofs.Tabulated.{tabulate-from, tabulate-past}
 
 -- ---- a row's list, of count offers from the first on: what is left of it from offer j on
 

@@ -8,9 +8,9 @@ use Rattle.rules.specs.Reading.{Files}
 use Rattle.rules.specs.Verdict.{offered, verdict, answerOf}
 use Rattle.rules.specs.Entries.{Tables, writtenTables, writtenChoices, verdictOf}
 use Rattle.rules.specs.declared.sizes.Configuration.{Configuration}
-use Rattle.tables.specs.View.{offersIn, constraintsIn, configurationsIn}
-use Rattle.tables.proofs.Views.{constraints-written, configurations-written}
-use Rattle.tables.proofs.Offers.{offers-written}
+use Rattle.tables_views.specs.View.{offersIn, constraintsIn, configurationsIn}
+use Rattle.tables_views.proofs.Views.{constraints-written, configurations-written}
+use Rattle.tables_views.proofs.Offers.{offers-written}
 use Rattle.verdict.specs.Within.{Within}
 
 -- n rows and m records, as the readers count them

@@ -1,7 +1,7 @@
 // The verdict over the tables: first each row in order, then the constraint table in order, up to the first inequality that fails.
 ghost use mathlib.Core.Path.{_≡_};
 ghost use Rattle.rules.specs.Verdict.{verdict, answerOf};
-ghost use Rattle.tables.specs.View.{offersIn, constraintsIn, configurationsIn};
+ghost use Rattle.tables_views.specs.View.{offersIn, constraintsIn, configurationsIn};
 ghost use Rattle.verdict.specs.Within.{Within};
 use rules::answers::Answer;
 

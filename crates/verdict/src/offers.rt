@@ -4,7 +4,7 @@ ghost use Prim.Native.Nat.{_≤_};
 ghost use Rattle.rules.specs.Limits.{mostLegs};
 ghost use Rattle.rules.specs.Timetable as row;
 ghost use Rattle.rules.specs.Verdict.{rowsFrom, answerOf};
-ghost use Rattle.tables.specs.View.{configurationAt, configurationsIn, partOf, offersIn};
+ghost use Rattle.tables_views.specs.View.{configurationAt, configurationsIn, partOf, offersIn};
 use rules::answers::Answer;
 use rules::answers::Violation;
 use rules::kinds::Kind;
@@ -31,7 +31,7 @@ pub fn listed(configurations: &[u32], leg: Leg, choice: Configuration) -> bool
     let count = leg.count as usize;
     let mut j: usize = 0;
     while j < count {
-        let offer = tables::configuration_at(configurations, first + j);
+        let offer = tables_views::configuration_at(configurations, first + j);
         if same(choice, offer) {
             return true;
         }
@@ -56,8 +56,8 @@ pub fn judge_rows(
         if n <= i {
             break Answer::Accepted;
         }
-        let leg = tables::leg_at(legs, i);
-        let choice = tables::configuration_at(choices, i);
+        let leg = tables_views::leg_at(legs, i);
+        let choice = tables_views::configuration_at(choices, i);
         if !listed(configurations, leg, choice) {
             break Answer::Violated(Violation::new(Kind::NOT_OFFERED, i as u32, 0, 0, file));
         }

@@ -4,7 +4,7 @@ ghost use Prim.Native.Nat.{_-_, _≤_};
 ghost use Rattle.rules.specs.Kinds.{arrival, measured, byAnchor, byAnchors, notOffered};
 ghost use Rattle.rules.specs.Verdict.{choiceAt, inequalities, positionAfter, recordsFrom, answerOf};
 ghost use Rattle.rules.specs.Verdict.{violated as found};
-ghost use Rattle.tables.specs.View.{constraintsIn, configurationsIn};
+ghost use Rattle.tables_views.specs.View.{constraintsIn, configurationsIn};
 ghost use Rattle.verdict.specs.Found.{shortfallOf, findingOf};
 ghost use Rattle.verdict.specs.Within.{Within, Failed};
 use rules::answers::Answer;
@@ -98,7 +98,7 @@ pub fn choice_of(choices: &[u32], n: usize, row: usize) -> Configuration
     ensures { λ r. ⌜ r ≡ choiceAt (configurationsIn n (now (choices .entry))) row ⌝ }
 {
     if row < n {
-        tables::configuration_at(choices, row)
+        tables_views::configuration_at(choices, row)
     } else {
         Configuration {
             departure: 0,
@@ -154,7 +154,7 @@ pub fn judge_records(constraints: &[u32], m: usize, choices: &[u32], n: usize, f
         if m <= i {
             break Answer::Accepted;
         }
-        let c = tables::constraint_at(constraints, i);
+        let c = tables_views::constraint_at(constraints, i);
         let kind = c.kind;
         let position = position_after(before, next, kind);
         let finding = judge_record(c, choices, n);

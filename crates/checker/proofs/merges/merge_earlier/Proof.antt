@@ -1,4 +1,4 @@
--- `checker::merges::merge_earlier` meets its contract: it is what `merging::merge` promises. Assumes nothing.
+-- `checker::merges::merge_earlier` meets its contract: it is what `merge::merge` promises. Assumes nothing.
 use borrow.Author.Needs.{needs}
 use Rattle.checker.proofs.merges.merge_earlier.Statement.{statement}
 use Rattle.checker.proofs.merges.merge_earlier.Tie as tie

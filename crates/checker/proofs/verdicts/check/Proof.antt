@@ -2,7 +2,7 @@
 use mathlib.Core.Path.{_∙_}
 use borrow.Author.Needs.{needs}
 use Rattle.rules.specs.Entries.{tables}
-use Rattle.filed.specs.Filing.{texts}
+use Rattle.tables_lent.specs.Filing.{texts}
 use Rattle.checker.proofs.CheckWays.{check-ends}
 use Rattle.checker.proofs.verdicts.check.Statement.{statement}
 use Rattle.checker.proofs.verdicts.check.Tie as tie

@@ -2,7 +2,7 @@
 use Prim.Native.Nat.{_-_}
 use lib.ListN.{length}
 use borrow.Author.Needs.{needs}
-use Rattle.text.proofs.Laws.{found-from, found-within}
+use Rattle.text_read.proofs.Laws.{found-from, found-within}
 use Rattle.solution.proofs.Going.{Going, going-first, whole, alone, roomy, goes-on, gone-short, gone-fault, gone-over}
 use Rattle.solution.proofs.reader.read_rows.Statement.{statement}
 use Rattle.solution.proofs.reader.read_rows.Tie as tie

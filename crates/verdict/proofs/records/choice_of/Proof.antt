@@ -3,8 +3,8 @@ use mathlib.Core.Path.{sym, _∙_}
 use lib.ListN.{List·getD-eq-default}
 use borrow.Author.Needs.{needs}
 use Rattle.rules.specs.Verdict.{noChoice}
-use Rattle.laws.proofs.Tabulate.{tabulate-at, tabulate-length}
-use Rattle.tables.specs.View.{configurationAt, configurationsIn}
+use Rattle.rules_theorems.proofs.Tabulate.{tabulate-at, tabulate-length}
+use Rattle.tables_views.specs.View.{configurationAt, configurationsIn}
 use Rattle.verdict.proofs.records.choice_of.Statement.{statement}
 use Rattle.verdict.proofs.records.choice_of.Tie as tie
 

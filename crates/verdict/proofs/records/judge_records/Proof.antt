@@ -4,7 +4,7 @@ use native.Mathlib.Omega.{arith}
 use mathlib.Core.Path.{_≡_, refl}
 use borrow.Author.Needs.{needs}
 use Rattle.rules.specs.Kinds.{notOffered}
-use Rattle.tables.specs.View.{constraintAt, configurationsIn}
+use Rattle.tables_views.specs.View.{constraintAt, configurationsIn}
 use Rattle.verdict.proofs.Fits.{position-fits, failed}
 use Rattle.verdict.proofs.RecordSteps.{recordsLeft, position-within, all-passed, record-passes, record-fails}
 use Rattle.verdict.proofs.records.judge_records.Statement.{statement}

@@ -1,0 +1,90 @@
+// What follows the files, shared by the check and the energies: a solution is chosen from, and judged.
+ghost use mathlib.Core.Path.{_≡_};
+ghost use Rattle.tables_lent.specs.Lent.{given, before, after};
+ghost use Rattle.checker_judge.specs.Promise.{ReadAndJudged};
+use rules::answers::Answer;
+use rules::answers::File;
+use rules::answers::Refusal;
+use solution_verdict::Chosen;
+use tables_lent::Counts;
+use tables_lent::Filed;
+
+// The answer, and the counts where nothing is refused.
+pub struct Judged {
+    pub answer: Answer,
+    pub counts: Counts,
+}
+
+fn refused(refusal: Refusal) -> Judged
+    ensures { λ r. ⌜ r .answer ≡ Answer.Refused refusal ⌝ }
+{
+    Judged {
+        answer: Answer::Refused(refusal),
+        counts: Counts {
+            legs: 0,
+            configurations: 0,
+            profiles: 0,
+            samples: 0,
+            constraints: 0,
+            tracks: 0,
+            subnets: 0,
+        },
+    }
+}
+
+// The files, a solution, and its verdict.
+pub fn read_and_judge(
+    h: u32,
+    timetable: &[u8],
+    profiles: &[u8],
+    constraints: &[u8],
+    solution: &[u8],
+    legs: &mut [u32],
+    configurations: &mut [u32],
+    profile_table: &mut [u32],
+    samples: &mut [i32],
+    constraint_table: &mut [u32],
+    tracks: &mut [u32],
+    choices: &mut [u32],
+) -> Judged
+    ensures { λ r. ⌜ ReadAndJudged h (given timetable profiles constraints) (now (solution .entry))
+        (before legs configurations «profile_table» samples «constraint_table» tracks) (now (choices .entry))
+        r (after legs configurations «profile_table» samples «constraint_table» tracks) (now (choices .exit)) ⌝ }
+{
+    let filed = files::read_files(
+        h,
+        timetable,
+        profiles,
+        constraints,
+        legs,
+        configurations,
+        profile_table,
+        samples,
+        constraint_table,
+        tracks,
+    );
+    match filed {
+        Filed::Refused(refusal) => refused(refusal),
+        Filed::Whole(counts) => match solution_verdict::choose(
+            solution,
+            h,
+            File::SOLUTION,
+            counts,
+            legs,
+            choices,
+        ) {
+            Chosen::Refused(refusal) => refused(refusal),
+            Chosen::Whole => Judged {
+                answer: solution_verdict::judge_choices(
+                    counts,
+                    legs,
+                    configurations,
+                    constraint_table,
+                    choices,
+                    File::SOLUTION,
+                ),
+                counts,
+            },
+        },
+    }
+}

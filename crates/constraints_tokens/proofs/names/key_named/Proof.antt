@@ -1,0 +1,46 @@
+-- `constraints_tokens::names::key_named` meets its contract: two keys by bit, and then the others. Assumes nothing.
+use Rattle.rules.specs.Kinds.{keyNamed}
+use Rattle.constraints_tokens.proofs.Chosen.{chosen, passed}
+use borrow.Author.Needs.{needs}
+use Rattle.constraints_tokens.proofs.names.key_named.Statement.{statement}
+use Rattle.constraints_tokens.proofs.names.key_named.Tie as tie
+
+slice-aggregate-spells : tie.Need-slice-aggregate-spells
+slice-aggregate-spells c = search needs
+
+spells-requires : tie.Need-spells-requires
+spells-requires c κs = search needs
+
+returns : tie.Need-returns
+unfolding keyNamed
+returns c = search (chosen, passed, needs)
+
+slice-aggregate-spells-2 : tie.Need-slice-aggregate-spells-2
+slice-aggregate-spells-2 c = search needs
+
+spells-requires-2 : tie.Need-spells-requires-2
+spells-requires-2 c κs = search needs
+
+returns-2 : tie.Need-returns-2
+unfolding keyNamed
+returns-2 c = search (chosen, passed, needs)
+
+seconds-key-requires : tie.Need-seconds-key-requires
+seconds-key-requires c κs = search needs
+
+returns-3 : tie.Need-returns-3
+unfolding keyNamed
+returns-3 c = search (chosen, passed, needs)
+
+pub key-named-spec : {M : Type 1} → statement M
+key-named-spec =
+    tie.close
+    (tie.spec
+    slice-aggregate-spells
+    spells-requires
+    returns
+    slice-aggregate-spells-2
+    spells-requires-2
+    returns-2
+    seconds-key-requires
+    returns-3)

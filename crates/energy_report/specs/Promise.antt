@@ -1,0 +1,25 @@
+-- What is promised of texts that are read, judged and worked out: the answer and the figures always; the tables where nothing is refused, and the
+-- curves where the solution is accepted. What stands in a table otherwise is not promised here: the entry fills it.
+use Prim.Native.Nat.{ℕ}
+use mathlib.Core.Path.{_≡_}
+use mathlib.Core.Bool.{true, false}
+use mathlib.Core.List.{List}
+use lib.IntN.{ℤ}
+use Rattle.rules.specs.Answers.{isRefusal, isAccepted}
+use Rattle.rules.specs.Reading.{Texts}
+use Rattle.rules.specs.Energy.{deskOf}
+use Rattle.rules.specs.Entries.{Tables, noFigures, reported}
+use Rattle.rules.specs.declared.answers.Answer.{Answer}
+use Rattle.energy_report.specs.declared.Report.{Report}
+
+-- an answer short of acceptance: all figures are 0
+abbrev pub noReport : Answer → Report
+noReport a = record { answer = a; figures = noFigures; desk = deskOf noFigures }
+
+-- H, the texts and the solution; the tables t, the choices c and the curves p as they were lent; and as they are left
+pub record ReportRead (H : ℕ) (x : Texts) (solution : List ℕ) (t : Tables) (c : List ℕ) (p : List ℤ) (r : Report) (t′ : Tables) (c′ : List ℕ) (p′ : List ℤ) : Type 0 where
+  pub answers : r .answer ≡ reported H x solution t c p .answer
+  pub figures-are : r .figures ≡ reported H x solution t c p .figures
+  pub desk-is : r .desk ≡ reported H x solution t c p .desk
+  pub writes : isRefusal (r .answer) ≡ false → (t′ ≡ reported H x solution t c p .tables) × (c′ ≡ reported H x solution t c p .choices)
+  pub lays : isAccepted (r .answer) ≡ true → p′ ≡ reported H x solution t c p .curves

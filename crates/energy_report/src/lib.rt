@@ -1,0 +1,92 @@
+// The energies of texts that are read and judged: figures for accepted solutions only.
+ghost use mathlib.Core.Path.{_≡_};
+ghost use Rattle.tables_lent.specs.Lent.{given, before, after};
+ghost use Rattle.energy_report.specs.Promise.{noReport, ReportRead};
+use checker_after::acceptance;
+use energy_parts::desk;
+use rules::answers::Answer;
+use rules::figures::Desk;
+use rules::figures::Figures;
+use rules::figures::Peak;
+use rules::figures::Peaks;
+
+pub mod working; // an accepted solution
+
+pub struct Report {
+    pub answer: Answer,
+    pub figures: Figures,
+    pub desk: Desk,
+}
+
+// Short of acceptance all figures are 0.
+pub fn no_report(answer: Answer) -> Report
+    ensures { λ r. ⌜ r ≡ noReport answer ⌝ }
+{
+    let figures = Figures {
+        before: 0,
+        drawn: 0,
+        lost: 0,
+        fluctuation: 0,
+        peaks: Peaks {
+            before: Peak { kj: 0, quarter: 0 },
+            drawn: Peak { kj: 0, quarter: 0 },
+        },
+    };
+    let desk = desk::for_desk(figures);
+    Report {
+        answer,
+        figures,
+        desk,
+    }
+}
+
+// The files, a solution and its verdict; and its energies, where it is accepted.
+pub fn read_and_report(
+    h: u32,
+    timetable: &[u8],
+    profiles: &[u8],
+    constraints: &[u8],
+    solution: &[u8],
+    legs: &mut [u32],
+    configurations: &mut [u32],
+    profile_table: &mut [u32],
+    samples: &mut [i32],
+    constraint_table: &mut [u32],
+    tracks: &mut [u32],
+    choices: &mut [u32],
+    curves: &mut [i32],
+) -> Report
+    ensures { λ r. ⌜ ReportRead h (given timetable profiles constraints) (now (solution .entry))
+        (before legs configurations «profile_table» samples «constraint_table» tracks) (now (choices .entry)) (now (curves .entry))
+        r (after legs configurations «profile_table» samples «constraint_table» tracks) (now (choices .exit)) (now (curves .exit)) ⌝ }
+{
+    let judged = checker_judge::read_and_judge(
+        h,
+        timetable,
+        profiles,
+        constraints,
+        solution,
+        legs,
+        configurations,
+        profile_table,
+        samples,
+        constraint_table,
+        tracks,
+        choices,
+    );
+    let answer = judged.answer;
+    let counts = judged.counts;
+    if acceptance::is_accepted(answer) {
+        return working::report_accepted(
+            h,
+            counts,
+            choices,
+            legs,
+            profile_table,
+            samples,
+            tracks,
+            curves,
+        );
+    }
+    no_report(answer)
+}

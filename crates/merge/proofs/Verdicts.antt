@@ -1,0 +1,82 @@
+-- Each way out of the two verdicts. Assumes nothing.
+use Prim.Native.Nat.{ℕ}
+use mathlib.Core.Path.{_≡_, refl, sym, ap, _∙_, subst}
+use mathlib.Core.Bool.{true, false}
+use mathlib.Core.List.{List}
+use lib.ListN.{length}
+use Rattle.rules.specs.Answers.{solutionFile, secondFile, isAccepted}
+use Rattle.rules.specs.Verdict.{Verdict, accepted, violated, answerOf}
+use Rattle.rules.specs.Entries.{verdictOf, mergeViolated, mergeSecond, mergeFirst}
+use Rattle.rules.specs.Entries as entries
+use Rattle.rules.specs.declared.answers.Answer.{Answer}
+use Rattle.tables_lent.specs.declared.Counts.{Counts}
+use Rattle.solution_verdict.specs.Left.{Judgeable, Ready}
+use Rattle.merge_text.specs.Merges.{mergeOf}
+use Rattle.merge_choice.specs.declared.Direction.{Direction}
+use Rattle.merge_order.specs.Order.{firstOf}
+use Rattle.merge_order.specs.Both.{BothReady, JudgesBoth}
+use Rattle.merge.specs.declared.Merged.{Merged}
+use Rattle.merge.specs.Left.{notWritten, Made, Mergeable, Disputable, bothOf, mergedEqual, mergedJudged}
+use Rattle.merge.proofs.Standing.{never}
+
+module _ {counts : Counts} {second legs configurations constraints choices secondChoices : List ℕ}
+    (k : Disputable counts second legs configurations constraints choices secondChoices) where
+  abbrev m : Mergeable counts second legs configurations choices secondChoices
+  m = k .mergeable
+
+  abbrev judgeable : Judgeable (m .H) counts legs configurations constraints
+  judgeable = record { left = m .left; legs-are = m .legs-are; configurations-are = m .configurations-are; constraints-are = k .constraints-are }
+
+  abbrev first-ready : Ready counts legs configurations constraints choices
+  first-ready =
+      record {
+        H = m .H;
+        tables = judgeable;
+        file = solutionFile;
+        room = length (m .lent);
+        text = m .first;
+        lent = m .lent;
+        chosen = m .both .a;
+        read = m .both .a-read;
+        choices-are = m .both .choices-are;
+      }
+
+  abbrev second-ready : Ready counts legs configurations constraints secondChoices
+  second-ready =
+      record {
+        H = m .H;
+        tables = judgeable;
+        file = secondFile;
+        room = length (m .lentSecond);
+        text = second;
+        lent = m .lentSecond;
+        chosen = m .both .b;
+        read = m .both .b-read;
+        choices-are = m .both .second-are;
+      }
+
+  abbrev pub both-ready : BothReady counts legs configurations constraints choices secondChoices
+  both-ready = record { first = first-ready; second = second-ready }
+
+  module _ (d : Direction) (text : List ℕ) where
+    abbrev onFirst : Verdict → entries.Merged
+    onFirst v = mergeFirst (m .left .lent) (m .lent) (m .lentSecond) text second (mergeOf d) v (bothOf m)
+
+    abbrev onSecond : Verdict → entries.Merged
+    onSecond v = mergeSecond (m .left .lent) (m .lent) (m .lentSecond) text second (mergeOf d) v (bothOf m)
+
+    -- where both are accepted the merge decides, and a violation of either is the answer
+    module _ {a : Answer} (judged : JudgesBoth counts legs configurations constraints choices secondChoices a) {r : Merged} {text′ : List ℕ}
+        (merges : isAccepted a ≡ true → Made (mergedEqual m d text) r text′) (stops : isAccepted a ≡ false → r ≡ notWritten a) where
+      violation : {b : Answer} → a ≡ b → isAccepted b ≡ false → Made (mergeViolated (m .left .lent) (m .lent) (m .lentSecond) text b (bothOf m)) r text′
+      violation {b} e h =
+          let not-fair : isAccepted a ≡ false = ap isAccepted e ∙ h in
+          rw (stops not-fair) (record { answer = e; size = refl; puts = λ z. never (sym z ∙ not-fair) })
+
+      pub judged-ends : Made (mergedJudged m d text) r text′
+      judged-ends = go (verdictOf (m .left .files) (m .both .a)) (verdictOf (m .left .files) (m .both .b)) refl (judged both-ready)
+        where
+          go : (v w : Verdict) → verdictOf (m .left .files) (m .both .b) ≡ w → a ≡ firstOf (answerOf solutionFile v) (answerOf secondFile w) → Made (onFirst v) r text′
+          go (violated k n i s) w q e = violation e refl
+          go accepted (violated k n i s) q e = subst (λ u. Made (onSecond u) r text′) (sym q) (violation e refl)
+          go accepted accepted q e = subst (λ u. Made (onSecond u) r text′) (sym q) (merges (ap isAccepted e))

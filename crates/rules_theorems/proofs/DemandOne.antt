@@ -1,0 +1,102 @@
+-- DEMAND 1: any input of any entry ends in one of three answers, and after a refusal every lent table and text is filled. Assumes nothing.
+use Prim.Native.Nat.{ℕ, _*_}
+use mathlib.Core.Path.{_≡_, refl}
+use mathlib.Core.Bool.{Bool, true, false, _&&_}
+use mathlib.Core.List.{List}
+use mathlib.Core.Option.{Option, none, some}
+use native.Mathlib.Omega.{arith}
+use lib.Dec.{leb}
+use lib.ListN.{length}
+use lib.IntN.{ℤ}
+use Rattle.rules.specs.Limits.{mostText}
+use Rattle.rules.specs.Answers.{Reading, refused, good, solutionFile}
+use Rattle.rules.specs.Reading.{Texts}
+use Rattle.rules.specs.Verdict.{Verdict, accepted, violated, answerOf}
+use Rattle.rules.specs.Merge.{unequalFrom, chosen, textOf}
+use Rattle.rules.specs.Entries.{Tables, roomsOf, verdictOf, Whole, allRead, checkedFrom, checked, reportAccepted, reportJudged, reportFrom, reported, Both, bothRead, Merged, mergeFitted, mergeTravel, mergeSecond, mergeFirst, mergeFrom, merged}
+use Rattle.rules.specs.declared.sizes.Configuration.{Configuration}
+use Rattle.rules.specs.declared.answers.Violation.{Violation}
+use Rattle.rules.specs.declared.answers.Answer.the-variants.{Accepted, Violated}
+use Rattle.rules_theorems.specs.Demands.{IsRefused, DemandOne, EmptiedCheck, EmptiedReport, EmptiedMerge}
+use Rattle.rules_theorems.proofs.OneOutcome.{one-outcome}
+
+-- an accepted or violated answer is no refusal
+pub accepted-not-refused : IsRefused Accepted → ⊥
+accepted-not-refused h = let e = h .1 in let z : _≡_ {A = ℕ} 0 1 = cc in omega arith
+
+pub violated-not-refused : (v : Violation) → IsRefused (Violated v) → ⊥
+violated-not-refused v h = let e = h .1 in let z : _≡_ {A = ℕ} 0 1 = cc in omega arith
+
+pub verdict-not-refused : (file : ℕ) (v : Verdict) → IsRefused (answerOf file v) → ⊥
+verdict-not-refused file accepted = accepted-not-refused
+verdict-not-refused file (violated k n i m) = violated-not-refused _
+
+-- ---- what each entry leaves after a refusal
+
+module _ (H : ℕ) (x : Texts) (s : List ℕ) (t : Tables) (c : List ℕ) where
+  check-emptied : IsRefused (checked H x s t c .answer) → EmptiedCheck t c (checked H x s t c)
+  unfolding checked
+  check-emptied = go (allRead H x s (roomsOf t) (length c))
+    where
+      go : (m : Reading Whole) → IsRefused (checkedFrom m t c .answer) → EmptiedCheck t c (checkedFrom m t c)
+      go (refused r) e = record { tables = refl; choices = refl }
+      go (good w) e = absurd (verdict-not-refused solutionFile (verdictOf (w .files) (w .choices)) e)
+
+  -- a check ends in one of three answers, and after a refusal every table is filled
+  pub demand-one : DemandOne (checked H x s t c .answer) (EmptiedCheck t c (checked H x s t c))
+  demand-one = record { outcome = one-outcome (checked H x s t c .answer); emptied = check-emptied }
+
+  module _ (p : List ℤ) where
+    report-emptied : IsRefused (reported H x s t c p .answer) → EmptiedReport t c p (reported H x s t c p)
+    unfolding reported
+    report-emptied = go (allRead H x s (roomsOf t) (length c))
+      where
+        fitted : (fits : Bool) (w : Whole) → IsRefused (reportAccepted fits H w t c p .answer) → EmptiedReport t c p (reportAccepted fits H w t c p)
+        fitted true w e = absurd (accepted-not-refused e)
+        fitted false w e = record { tables = refl; choices = refl; curves = refl; figures = refl }
+
+        judged : (v : Verdict) (w : Whole) → IsRefused (reportJudged v H w t c p .answer) → EmptiedReport t c p (reportJudged v H w t c p)
+        judged accepted w e = fitted (leb (w .files .document .opened * H) (length p)) w e
+        judged (violated k n i m) w e = absurd (violated-not-refused _ e)
+
+        go : (m : Reading Whole) → IsRefused (reportFrom m H t c p .answer) → EmptiedReport t c p (reportFrom m H t c p)
+        go (refused r) e = record { tables = refl; choices = refl; curves = refl; figures = refl }
+        go (good w) e = judged (verdictOf (w .files) (w .choices)) w e
+
+    -- a report too: its curve table is filled, and its figures are 0
+    pub report-demand-one : DemandOne (reported H x s t c p .answer) (EmptiedReport t c p (reported H x s t c p))
+    report-demand-one = record { outcome = one-outcome (reported H x s t c p .answer); emptied = report-emptied }
+
+  module _ (merge : List Configuration → List Configuration → List Configuration) (s₂ d text : List ℕ) where
+    merge-emptied : IsRefused (merged merge H x s s₂ t c d text .answer) → EmptiedMerge t c d text (merged merge H x s s₂ t c d text)
+    unfolding merged
+    merge-emptied = go (bothRead H x s s₂ (roomsOf t) (length c) (length d))
+      where
+        Emptied : Merged → Type 0
+        Emptied m = IsRefused (m .answer) → EmptiedMerge t c d text m
+
+        fitted : (fits : Bool) (written : List ℕ) (b : Both) → Emptied (mergeFitted t c d text fits written b)
+        fitted true written b e = absurd (accepted-not-refused e)
+        fitted false written b e = record { tables = refl; choices = refl; second = refl; text = refl; size = refl }
+
+        travelled : (o : Option ℕ) (b : Both) → Emptied (mergeTravel t c d text s₂ merge o b)
+        travelled none b e =
+            let written = textOf (chosen (b .files .rows) (merge (b .first) (b .second))) in
+            fitted (leb (length written) (length text) && leb (length written) mostText) written b e
+        travelled (some row) b e = record { tables = refl; choices = refl; second = refl; text = refl; size = refl }
+
+        second : (v : Verdict) (b : Both) → Emptied (mergeSecond t c d text s₂ merge v b)
+        second accepted b e = travelled (unequalFrom 0 (b .first) (b .second)) b e
+        second (violated k n i m) b e = absurd (violated-not-refused _ e)
+
+        first : (v : Verdict) (b : Both) → Emptied (mergeFirst t c d text s₂ merge v b)
+        first accepted b e = second (verdictOf (b .files) (b .second)) b e
+        first (violated k n i m) b e = absurd (violated-not-refused _ e)
+
+        go : (m : Reading Both) → Emptied (mergeFrom t c d text s₂ merge m)
+        go (refused r) e = record { tables = refl; choices = refl; second = refl; text = refl; size = refl }
+        go (good b) e = first (verdictOf (b .files) (b .first)) b e
+
+    -- a merge too, by whatever rule it chooses: both choice tables are filled, and the text buffer is zeroed
+    pub merge-demand-one : DemandOne (merged merge H x s s₂ t c d text .answer) (EmptiedMerge t c d text (merged merge H x s s₂ t c d text))
+    merge-demand-one = record { outcome = one-outcome (merged merge H x s s₂ t c d text .answer); emptied = merge-emptied }

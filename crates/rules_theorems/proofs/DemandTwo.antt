@@ -1,0 +1,90 @@
+-- DEMAND 2: once every file reads, accepted is exactly acceptable; otherwise the first failure is named; what we write reads back. Assumes nothing.
+use Prim.Native.Nat.{ℕ}
+use mathlib.Core.Path.{_≡_, refl}
+use mathlib.Core.List.{List}
+use mathlib.Core.Logic.{_↔_}
+use native.Mathlib.Omega.{arith}
+use lib.ListN.{length}
+use Rattle.rules.specs.Answers.{Reading, refused, good, solutionFile}
+use Rattle.rules.specs.Constraints.{ordered}
+use Rattle.rules.specs.Reading.{Rooms, Texts, Files, filesOf, legIds}
+use Rattle.rules.specs.Verdict.{All, offered, Kept, Acceptable, Verdict, accepted, violated, answerOf}
+use Rattle.rules.specs.Entries.{Tables, roomsOf, verdictOf, Whole, allRead, checkedFrom, checked}
+use Rattle.rules.specs.declared.sizes.Configuration.{Configuration}
+use Rattle.rules.specs.declared.answers.Violation.{Violation}
+use Rattle.rules.specs.declared.answers.Answer.the-variants.{Accepted, Violated}
+use Rattle.rules_theorems.specs.Demands.{DemandTwo}
+use Rattle.rules_theorems.proofs.Documents.{good-is-lawful}
+use Rattle.rules_theorems.proofs.Ordered.{OfKind, ordered-keeps, ordered-gives, document-kinds}
+use Rattle.rules_theorems.proofs.GoodFiles.{files-good, all-good}
+use Rattle.rules_theorems.proofs.TextBound.{files-choices-back}
+use Rattle.rules_theorems.proofs.Verdicts.{verdict-accepted}
+use Rattle.rules_theorems.proofs.Tests.{names-the-first, shortfalls}
+use Rattle.rules_theorems.proofs.DemandOne.{verdict-not-refused}
+
+-- ---- the verdict and the answer
+
+pub answer-accepted : (file : ℕ) (v : Verdict) → (answerOf file v ≡ Accepted) ↔ (v ≡ accepted)
+answer-accepted file accepted = (λ e. refl, λ e. refl)
+answer-accepted file (violated k n i m) =
+    (λ e. let z : _≡_ {A = ℕ} 0 1 = cc in absurd (omega arith), λ e. let z : _≡_ {A = ℕ} 0 1 = cc in absurd (omega arith))
+
+-- a violation that an answer names is the verdict's
+pub answer-violated : (file : ℕ) (v : Verdict) (w : Violation) → answerOf file v ≡ Violated w → v ≡ violated (w .kind) (w .position) (w .inequality) (w .shortfall)
+answer-violated file accepted w e = let z : _≡_ {A = ℕ} 0 1 = cc in absurd (omega arith)
+answer-violated file (violated k n i m) w e =
+    let parts : w ≡ record { kind = w .kind; position = w .position; inequality = w .inequality; shortfall = w .shortfall; file = w .file } = refl in
+    cc
+
+-- ---- the order of the constraints does not matter for acceptance
+
+module _ (files : Files) (s : List Configuration) (kinds : All OfKind (files .document .constraints)) where
+  pub acceptable-in-order : Acceptable (offered (files .rows)) (files .document .constraints) s ↔ Acceptable (offered (files .rows)) (ordered (files .document .constraints)) s
+  acceptable-in-order = (
+    λ h. record { offered = h .offered; kept = ordered-keeps (Kept s) (files .document .constraints) (h .kept) },
+    λ h. record { offered = h .offered; kept = ordered-gives (Kept s) (files .document .constraints) kinds (h .kept) },
+  )
+
+-- files that were read without refusal have constraints of the five kinds alone
+pub files-kinds : (H : ℕ) (x : Texts) (room : Rooms) (files : Files) → filesOf H x room ≡ good files → All OfKind (files .document .constraints)
+files-kinds H x room files e =
+    let g = files-good H x room files e in
+    document-kinds (legIds (files .rows)) _ _ (files .document) (good-is-lawful (legIds (files .rows)) _ _ _ (x .constraints) (files .document) (g .constraints))
+
+-- ---- the demand
+
+module _ (H : ℕ) (x : Texts) (s : List ℕ) (t : Tables) (c : List ℕ) where
+  -- a check of texts that all read
+  pub checked-answer : (w : Whole) → allRead H x s (roomsOf t) (length c) ≡ good w → checked H x s t c .answer ≡ answerOf solutionFile (verdictOf (w .files) (w .choices))
+  unfolding checked
+  checked-answer w e = rw e
+
+  -- accepted: then all texts read, and the verdict is accepted
+  pub accepted-read : checked H x s t c .answer ≡ Accepted
+      → (w : Whole) × (allRead H x s (roomsOf t) (length c) ≡ good w) × (verdictOf (w .files) (w .choices) ≡ accepted)
+  unfolding checked
+  accepted-read = go (allRead H x s (roomsOf t) (length c)) refl
+    where
+      go : (m : Reading Whole) → allRead H x s (roomsOf t) (length c) ≡ m → checkedFrom m t c .answer ≡ Accepted
+          → (w : Whole) × (allRead H x s (roomsOf t) (length c) ≡ good w) × (verdictOf (w .files) (w .choices) ≡ accepted)
+      go (refused r) e h = let z : _≡_ {A = ℕ} 0 1 = cc in absurd (omega arith)
+      go (good w) e h = (w, e, answer-accepted solutionFile (verdictOf (w .files) (w .choices)) .0 h)
+
+  pub demand-two : (w : Whole) → allRead H x s (roomsOf t) (length c) ≡ good w → DemandTwo H (checked H x s t c .answer) w
+  demand-two w e =
+      let draft = offered (w .files .rows) in
+      let table = ordered (w .files .document .constraints) in
+      let v = verdictOf (w .files) (w .choices) in
+      let read = all-good H x s (roomsOf t) (length c) w e .0 in
+      let judged = answer-accepted solutionFile v in
+      let fair = verdict-accepted draft table (w .choices) in
+      let order = acceptable-in-order (w .files) (w .choices) (files-kinds H x (roomsOf t) (w .files) read) in
+      rw (checked-answer w e)
+      (record {
+        accepted = (λ h. order .1 (fair .1 (judged .0 h)), λ h. judged .1 (fair .0 (order .0 h)));
+        accepted-in-order = (λ h. fair .1 (judged .0 h), λ h. judged .1 (fair .0 h));
+        violated = λ k h. names-the-first draft table (w .choices) (k .kind) (k .position) (k .inequality) (k .shortfall) .0 (answer-violated solutionFile v k h);
+        numbered = λ k h. shortfalls draft table (w .choices) (k .kind) (k .position) (k .inequality) (k .shortfall) (answer-violated solutionFile v k h);
+        judged = verdict-not-refused solutionFile v;
+        reads-back = λ file room choices. files-choices-back H x (roomsOf t) (w .files) file room choices read;
+      })

@@ -1,0 +1,133 @@
+-- The three demands, each as one statement over the definitions of `rules`.
+use Prim.Native.Nat.{ℕ, _/_, _≤_, _<_}
+use mathlib.Core.Path.{_≡_}
+use mathlib.Core.List.{List}
+use mathlib.Core.Logic.{_↔_}
+use lib.ListN.{length, take}
+use lib.IntN.{ℤ, _+ℤ_}
+use Rattle.rules.specs.Limits.{configurationWidth, unsignedFill, signedFill, byteFill}
+use Rattle.rules.specs.Lists.{flat}
+use Rattle.rules.specs.Answers.{good}
+use Rattle.rules.specs.Timetable.{legsOf, configurationsOf, legNumbers, configurationNumbers}
+use Rattle.rules.specs.Profiles.{profilesFrom, profileNumbers, sampleTable}
+use Rattle.rules.specs.Constraints.{ordered, constraintNumbers, trackNumbers}
+use Rattle.rules.specs.Reading.{Texts, Files, choicesRead}
+use Rattle.rules.specs.Verdict.{All, offered, Offered, Acceptable}
+use Rattle.rules.specs.Energy.{samplesIn, homesOf, power, curvesOf}
+use Rattle.rules.specs.Merge.{zipped, earlier, later, SameTravel, chosen, textOf}
+use Rattle.rules.specs.Entries.{Tables, roomsOf, filled, filledTables, noFigures, Whole, allRead, Checked, checked, Reported, Merged, merged}
+use Rattle.rules.specs.declared.sizes.Configuration.{Configuration}
+use Rattle.rules.specs.declared.answers.Refusal.{Refusal}
+use Rattle.rules.specs.declared.answers.Violation.{Violation}
+use Rattle.rules.specs.declared.answers.Answer.{Answer}
+use Rattle.rules.specs.declared.answers.Answer.the-variants.{Accepted, Violated, Refused}
+use Rattle.rules_theorems.specs.Tests.{tests, FirstFailing, Numbered}
+use Rattle.rules_theorems.specs.Outcomes.{Outcome}
+
+-- ---- DEMAND 1: "Any bytes in any of the files end in one of three answers", "after a refusal each lent table holds only a number that no field can have"
+
+abbrev pub IsRefused : Answer → Type 0
+IsRefused a = (r : Refusal) × (a ≡ Refused r)
+
+-- the answer of an entry, and what holds of its lent tables and texts after a refusal
+pub record DemandOne (a : Answer) (Emptied : Type 0) : Type 0 where
+  pub outcome : Outcome a
+  pub emptied : IsRefused a → Emptied
+
+-- t, c: the tables as they were lent
+pub record EmptiedCheck (t : Tables) (c : List ℕ) (r : Checked) : Type 0 where
+  pub tables : r .tables ≡ filledTables t
+  pub choices : r .choices ≡ filled unsignedFill c
+
+-- a report: its curve table p too, and no figures
+pub record EmptiedReport (t : Tables) (c : List ℕ) (p : List ℤ) (r : Reported) : Type 0 where
+  pub tables : r .tables ≡ filledTables t
+  pub choices : r .choices ≡ filled unsignedFill c
+  pub curves : r .curves ≡ filled signedFill p
+  pub figures : r .figures ≡ noFigures
+
+-- a merge: both choice tables, and the text buffer b
+pub record EmptiedMerge (t : Tables) (c d b : List ℕ) (r : Merged) : Type 0 where
+  pub tables : r .tables ≡ filledTables t
+  pub choices : r .choices ≡ filled unsignedFill c
+  pub second : r .second ≡ filled unsignedFill d
+  pub text : r .text ≡ filled byteFill b
+  pub size : r .size ≡ 0
+
+-- "a number that no field can have": of what a reading writes into the tables, nothing is what fills them after a refusal
+abbrev pub Unfilled : List ℕ → Type 0
+Unfilled = All (λ n. n < unsignedFill)
+
+abbrev pub UnfilledSigned : List ℤ → Type 0
+UnfilledSigned = All (λ x. x ≡ signedFill → ⊥)
+
+pub record NoFieldIsFill (w : Whole) : Type 0 where
+  pub legs : Unfilled (flat legNumbers (legsOf (w .files .rows)))
+  pub configurations : Unfilled (flat configurationNumbers (configurationsOf (w .files .rows)))
+  pub profiles : Unfilled (flat profileNumbers (profilesFrom 0 (w .files .curves)))
+  pub samples : UnfilledSigned (sampleTable (w .files .curves))
+  pub constraints : Unfilled (flat constraintNumbers (ordered (w .files .document .constraints)))
+  pub tracks : Unfilled (flat trackNumbers (w .files .document .tracks))
+  pub choices : Unfilled (flat configurationNumbers (w .choices))
+
+-- ---- DEMAND 2: once every file reads, w is what they say
+
+pub record DemandTwo (H : ℕ) (a : Answer) (w : Whole) : Type 0 where
+  -- accepted exactly when each choice is offered in the draft and every inequality of every record holds
+  pub accepted : (a ≡ Accepted) ↔ Acceptable (offered (w .files .rows)) (w .files .document .constraints) (w .choices)
+  -- the same over the table's order
+  pub accepted-in-order : (a ≡ Accepted) ↔ Acceptable (offered (w .files .rows)) (ordered (w .files .document .constraints)) (w .choices)
+  -- otherwise the first failure in the fixed order is named
+  pub violated : (v : Violation) → a ≡ Violated v
+      → FirstFailing (tests (offered (w .files .rows)) (ordered (w .files .document .constraints)) (w .choices)) (v .kind) (v .position) (v .inequality) (v .shortfall)
+  -- with its shortfall in seconds, at least 1
+  pub numbered : (v : Violation) → a ≡ Violated v → Numbered (v .kind) (v .inequality) (v .shortfall)
+  -- and nothing is refused
+  pub judged : IsRefused a → ⊥
+  -- what we write reads back as the same choices: any that the draft offers, where the choice table has room
+  pub reads-back : (file room : ℕ) (s : List Configuration) → Offered (offered (w .files .rows)) s → length (w .files .rows) ≤ room / configurationWidth
+      → choicesRead H (w .files) file room (textOf (chosen (w .files .rows) s)) ≡ good s
+
+-- ---- DEMAND 3
+
+-- "Take two solutions, both accepted against the same files, with equal travel times leg by leg."
+-- first and second are what the two texts say; an accepted one says something (`accepted-read`)
+pub record TwoAccepted (H : ℕ) (x : Texts) (a b : List ℕ) (t : Tables) (c d : List ℕ) : Type 0 where
+  pub first-accepted : checked H x a t c .answer ≡ Accepted
+  pub second-accepted : checked H x b t d .answer ≡ Accepted
+  pub first : Whole
+  pub first-read : allRead H x a (roomsOf t) (length c) ≡ good first
+  pub second : Whole
+  pub second-read : allRead H x b (roomsOf t) (length d) ≡ good second
+  pub same-travel : SameTravel (first .choices) (second .choices)
+
+-- a merge of them to the choices cs: "both are written and accepted"
+pub record MergedTo (cs : List Configuration) (f : Files) (H : ℕ) (x : Texts) (t : Tables) (c : List ℕ) (m : Merged) : Type 0 where
+  pub answer : m .answer ≡ Accepted
+  -- the text is written: the draft's rows with these choices
+  pub written : take (m .size) (m .text) ≡ textOf (chosen (f .rows) cs)
+  -- it reads as these choices
+  pub read : allRead H x (take (m .size) (m .text)) (roomsOf t) (length c) ≡ good (record { files = f; choices = cs })
+  -- and it is accepted against the same files
+  pub accepted : checked H x (take (m .size) (m .text)) t c .answer ≡ Accepted
+
+-- the written text fits the lent buffer; the text limit always suffices
+abbrev pub HasRoom : Files → List Configuration → (buffer : List ℕ) → Type 0
+HasRoom f cs buffer = length (textOf (chosen (f .rows) cs)) ≤ length buffer
+
+-- f: the files; s and r: the choices of the two solutions; e and l: the buffers for the two texts
+module _ (f : Files) (s r : List Configuration) where
+  -- "at every second, in every subnet, the two new power curves add up to the sum of the two old ones"
+  abbrev pub CurvesAdd : Type 0
+  CurvesAdd =
+      let P : List Configuration → ℕ → ℕ → ℤ = power (samplesIn (f .curves)) (homesOf (f .document .tracks) (f .rows)) in
+      (subnet second : ℕ) → P (earlier s r) subnet second +ℤ P (later s r) subnet second ≡ P s subnet second +ℤ P r subnet second
+
+  pub record DemandThree (H : ℕ) (x : Texts) (a b : List ℕ) (t : Tables) (c d e l : List ℕ) : Type 0 where
+    -- the earlier choice at each leg, the first file's at equal departures
+    pub earlier-merge : HasRoom f (earlier s r) e → MergedTo (earlier s r) f H x t c (merged earlier H x a b t c d e)
+    -- the later choice at each leg, the second file's at equal departures
+    pub later-merge : HasRoom f (later s r) l → MergedTo (later s r) f H x t c (merged later H x a b t c d l)
+    pub curves : CurvesAdd
+    -- and so do the curve tables that a report hands back
+    pub curve-tables : zipped _+ℤ_ (curvesOf H f (earlier s r)) (curvesOf H f (later s r)) ≡ zipped _+ℤ_ (curvesOf H f s) (curvesOf H f r)

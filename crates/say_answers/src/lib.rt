@@ -1,0 +1,36 @@
+// The three answers in words, on standard output. What is written of numbers and times is crate `say_words`', of names `say_names`', of bytes `say_bytes`'; the sentences stand here.
+pub mod say; // standard output
+pub mod refusals; // refused: number and meaning, file, place, row
+pub mod readings; // accepted: how much was read
+pub mod energies; // the energies of an accepted solution
+pub mod violations; // violated: the inequality, both legs, what was needed
+
+use rules::answers::Answer;
+
+// All of an answer but its last line, by the tables as the checker left them; `row` is the row that a refusal shows.
+pub fn tell(
+    answer: Answer,
+    row: &[u8],
+    legs: &[u32],
+    configurations: &[u32],
+    profiles: &[u32],
+    constraints: &[u32],
+    tracks: &[u32],
+    choices: &[u32],
+) {
+    match answer {
+        Answer::Accepted => {
+            readings::accepted(legs, configurations, profiles, constraints, tracks)
+        }
+        Answer::Violated(v) => violations::violated(v, legs, constraints, choices),
+        Answer::Refused(r) => refusals::refused(r, row),
+    }
+}
+
+pub fn close(answer: Answer) {
+    match answer {
+        Answer::Accepted => say::answer(b"accepted"),
+        Answer::Violated(_) => say::answer(b"violated"),
+        Answer::Refused(_) => say::answer(b"refused"),
+    }
+}

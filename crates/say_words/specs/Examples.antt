@@ -1,0 +1,35 @@
+-- Texts as they come out.
+use Prim.Native.Nat.{_*_, _-_}
+use mathlib.Core.Path.{_≡_, refl}
+use mathlib.Core.List.{[], _∷_, map}
+use Rattle.rules.specs.Bytes.{bytes}
+use Rattle.say_words.specs.Times.{hour, clockOf, timeOf, quarterOf}
+use Rattle.say_words.specs.Energies.{decimalsOf, mwhOf, mwOf, peakText}
+
+-- past midnight, on the hour, the last second of a day, the first of the next
+pub clocks : map clockOf (0 ∷ 59 ∷ 3_600 ∷ (24 * hour - 1) ∷ 24 * hour ∷ 90_850 ∷ 360_000 ∷ []) ≡ bytes "00:00:00" ∷ bytes "00:00:59" ∷ bytes "01:00:00" ∷ bytes "23:59:59" ∷ bytes "24:00:00" ∷ bytes "25:14:10" ∷ bytes "100:00:00" ∷ []
+unfolding clockOf
+clocks = refl
+
+pub times : timeOf 90_850 ≡ bytes "90850 s (25:14:10)"
+unfolding clockOf timeOf
+times = refl
+
+-- the first quarter, one of the morning, the last of the day, the last of all
+pub quarters : map quarterOf (0 ∷ 29 ∷ 95 ∷ 195 ∷ []) ≡ bytes "00:00:00 to 00:15:00" ∷ bytes "07:15:00 to 07:30:00" ∷ bytes "23:45:00 to 24:00:00" ∷ bytes "48:45:00 to 49:00:00" ∷ []
+unfolding clockOf quarterOf
+quarters = refl
+
+-- less than a thousandth, one, a whole MWh less one kJ, a whole one, the worked example's 2,050 kJ
+pub energies : map mwhOf (3_599 ∷ 3_600 ∷ 3_599_999 ∷ 3_600_000 ∷ 2_050 ∷ []) ≡ bytes "0.000" ∷ bytes "0.001" ∷ bytes "0.999" ∷ bytes "1.000" ∷ bytes "0.000" ∷ []
+unfolding decimalsOf
+energies = refl
+
+pub peaks : map mwOf (0 ∷ 45_000 ∷ 1_800_000 ∷ []) ≡ bytes "0.000" ∷ bytes "0.050" ∷ bytes "2.000" ∷ []
+unfolding decimalsOf
+peaks = refl
+
+-- one second short of a quarter, and a whole one
+pub peak-texts : peakText 899 (record { kj = 0; quarter = 0 }) ∷ peakText 900 (record { kj = 2_050; quarter = 0 }) ∷ peakText 90_000 (record { kj = 1_234_567; quarter = 29 }) ∷ [] ≡ bytes "0 kJ, no whole quarter hour within the horizon" ∷ bytes "2050 kJ, 0.002 MW, 00:00:00 to 00:15:00" ∷ bytes "1234567 kJ, 1.371 MW, 07:15:00 to 07:30:00" ∷ []
+unfolding clockOf quarterOf decimalsOf peakText
+peak-texts = refl

@@ -2,7 +2,7 @@
 
 use crate::coverage::{QUARTER, ROOMS};
 use crate::executor::Executor;
-use crate::expected::full_line;
+use crate::expected::line as expected_line;
 use crate::lines::{digest, LABEL};
 use independent::{Answer, Call, Case, Desk, Direction, Entry, Figures, Said};
 use std::path::{Path, PathBuf};
@@ -28,7 +28,7 @@ impl Executor for Command {
     }
 
     fn expected(&self, call: &Call) -> (Said, String) {
-        (full_line(call).0, expected(call))
+        (expected_line(call).0, expected(call))
     }
 
     fn batch(&self) -> usize {
@@ -159,7 +159,7 @@ fn merged(call: &Call) -> String {
 }
 
 fn shown(call: &Call) -> String {
-    let row = match full_line(call).0 {
+    let row = match expected_line(call).0 {
         Said::Row(start, _) if start > 0 => format!("row: {}", call.row_bytes().iter().map(|byte| printed(*byte)).collect::<String>()),
         _ => String::from("no row starts there"),
     };

@@ -1,8 +1,8 @@
 //! Calls through an executor, line by line beside the expected ones.
 
 use crate::coverage::Coverage;
-use crate::executor::Executor;
-use crate::{block, saved};
+use crate::executor::{Executor, NO_LINE};
+use crate::{saved, spread};
 use cases::Named;
 use independent::{Call, Entry};
 use std::path::PathBuf;
@@ -38,7 +38,7 @@ struct Difference<'a> {
     given: String,
 }
 
-/// The worked examples and the edges, then the seeded calls, in batches over the machine's processors.
+/// The calls that no seed changes, then the seeded ones. Batches are made on all of the machine's processors, and go through the executor as they are ready.
 pub fn compare(executor: &dyn Executor, plan: &Plan) -> Result<Outcome, String> {
     let next = AtomicUsize::new(0);
     let outcome = Mutex::new(Outcome::default());
@@ -58,7 +58,7 @@ pub fn compare(executor: &dyn Executor, plan: &Plan) -> Result<Outcome, String> 
     });
     match failed.into_inner().expect("no worker panics") {
         Some(message) => Err(message),
-        None => Ok(outcome.into_inner().expect("no worker panics")),
+        None => executor.end().map(|()| outcome.into_inner().expect("no worker panics")),
     }
 }
 
@@ -69,21 +69,16 @@ fn batch(plan: &Plan, size: usize, number: usize) -> Option<Vec<Named>> {
     }
     let first = (number - 1) * size;
     let last = plan.count.min(first + size);
-    (first < last).then(|| small(cases::calls(plan.seed, first..last, &plan.entries)))
+    (first < last).then(|| cases::calls(plan.seed, first..last, &plan.entries))
 }
 
-/// Those that `replay` does not skip.
-fn small(mut calls: Vec<Named>) -> Vec<Named> {
-    calls.retain(|named| block::fits(&named.call));
-    calls
-}
-
-/// The calls that no seed changes.
+/// The calls that no seed changes: the worked examples, the edges, one for each answer.
 pub fn fixed(entries: &[Entry]) -> Vec<Named> {
     let mut calls = cases::examples::worked();
     calls.extend(cases::edges::edges());
+    calls.extend(spread::calls());
     calls.retain(|named| entries.contains(&named.call.entry));
-    small(calls)
+    calls
 }
 
 fn compare_batch(executor: &dyn Executor, batch: &[Named], plan: &Plan, outcome: &Mutex<Outcome>) -> Result<(), String> {
@@ -109,7 +104,7 @@ fn compare_batch(executor: &dyn Executor, batch: &[Named], plan: &Plan, outcome:
 
 /// The calls whose lines are not the expected ones; a missing line differs too.
 fn differences(batch: &[Named], expected: Vec<String>, given: Vec<String>) -> Vec<Difference<'_>> {
-    let missing = std::iter::repeat(String::from("(no line)"));
+    let missing = std::iter::repeat(String::from(NO_LINE));
     batch
         .iter()
         .zip(expected)

@@ -282,7 +282,7 @@ fn why_empty(number: u32, file: u32) -> Option<Why> {
     Some(match (number, file) {
         (1, _) => Why::NoInput("1 is about H, which stands in no file"),
         (_, 0) => Why::NoInput("file 0 is for H, the curves' room and the merged text's room"),
-        (2, _) => Why::NoSmallText("2 wants a text past 64 MiB: host/compare-wrapper --large"),
+        (2, _) => Why::NoSmallText("2 wants a text past 64 MiB: host/compare large"),
         (3 | 4 | 8, 3) => Why::NoInput("constraints.json has no header and no rows"),
         (8, _) => Why::NoInput("8 is about a nominal, which profiles do not have"),
         (9..=11, _) => Why::NoInput("9, 10 and 11 are about JSON"),
@@ -296,7 +296,7 @@ fn why_empty(number: u32, file: u32) -> Option<Why> {
 /// Limits that small texts do not reach, within cells that other inputs fill.
 const LARGER: &str =
     "6 past 32,768 legs, 1,048,576 configurations or samples, 16,384 profiles, 65,536 constraints, 4,096 tracks wants texts past 16 KiB: \
-host/compare-wrapper --large";
+host/compare large";
 
 impl fmt::Display for Coverage {
     fn fmt(&self, out: &mut fmt::Formatter) -> fmt::Result {

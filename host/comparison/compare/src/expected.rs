@@ -1,34 +1,27 @@
 //! The line that a call is expected to give, from the independent program alone.
 
-use crate::block::{self, Read};
+use crate::block::{Calls, Read};
 use crate::lines::{self, BAD, BEFORE, LABEL, SKIPPED};
 use independent::{Call, Entry, Lent, Said};
+use std::io::{self, Write};
 
-/// The whole output for an input, where these entries are offered.
-pub fn output(input: &[u8], offered: &[Entry]) -> String {
-    let mut output = format!("{LABEL}\n");
-    for read in block::read(input) {
-        match read {
-            Read::Call(call) => output.push_str(&line(&call, offered)),
-            Read::Unknown => output.push_str(SKIPPED),
-            Read::Bad => output.push_str(BAD),
-        }
-        output.push('\n');
+/// Answers the calls of an input as `replay` does: a line for each as soon as it is answered.
+pub fn answer(input: impl io::Read, mut output: impl Write) -> io::Result<()> {
+    writeln!(output, "{LABEL}")?;
+    for read in Calls::of(input) {
+        let line = match read {
+            Read::Call(call) => line(&call).1,
+            Read::Unknown => String::from(SKIPPED),
+            Read::Bad => String::from(BAD),
+        };
+        writeln!(output, "{line}")?;
+        output.flush()?;
     }
-    output
+    Ok(())
 }
 
-/// The line of a call: what is answered, and a digest of each lent room as the call leaves it. A call that is too large, or of an entry that is not
-/// offered, is skipped.
-pub fn line(call: &Call, offered: &[Entry]) -> String {
-    if !block::fits(call) || !offered.contains(&call.entry) {
-        return String::from(SKIPPED);
-    }
-    full_line(call).1
-}
-
-/// What the call answers, and its line, however large it is.
-pub fn full_line(call: &Call) -> (Said, String) {
+/// What the call answers, and its line: the answer in words, and a digest of each lent room as the call leaves it.
+pub fn line(call: &Call) -> (Said, String) {
     let mut lent = Lent::full_of(BEFORE, &call.case.rooms);
     let said = call.run(&mut lent);
     let row = if call.entry == Entry::Row { call.row_bytes() } else { &[] };
@@ -42,7 +35,7 @@ mod tests {
 
     fn line_of(name: &str) -> String {
         let found = worked().into_iter().find(|named| named.name == name);
-        full_line(&found.expect(name).call).1
+        line(&found.expect(name).call).1
     }
 
     fn answer_of(name: &str) -> String {

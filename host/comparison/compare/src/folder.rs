@@ -40,7 +40,7 @@ pub fn compare(folder: &Path, h: u32, executor: &dyn Executor) -> Result<String,
     if differ > 0 {
         return Err(format!("{told}{differ} lines differ"));
     }
-    Ok(told)
+    executor.end().map(|()| told)
 }
 
 /// A folder that holds the three files.

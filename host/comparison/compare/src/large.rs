@@ -1,4 +1,4 @@
-//! The limits that no text of 16 KiB reaches, each at its edge and past it, through a program that takes texts of any size.
+//! The limits that want large texts, each at its edge and past it.
 
 use crate::executor::{compared, Executor};
 use cases::examples::worked;
@@ -36,6 +36,7 @@ pub fn compare(executor: &dyn Executor) -> Result<String, String> {
             told.push_str(&format!("{}, {which}: {answer}\n", edge.name));
         }
     }
+    executor.end()?;
     told.push_str(&format!("{} large calls compared, no difference\n", 2 * edges().len()));
     Ok(told)
 }
@@ -173,14 +174,14 @@ fn tracked(tracks: usize) -> Call {
 #[cfg(test)]
 mod tests {
     use super::*;
-    use crate::expected::full_line;
+    use crate::expected::line;
     use independent::Answer;
 
     /// Each edge is where it is said to be: one more is refused for the limit's own sake, and the most is not.
     #[test]
     fn edges_lie_at_the_limits() {
         for edge in edges() {
-            let number = |past: usize| match full_line(&(edge.call)(past)).0.answer() {
+            let number = |past: usize| match line(&(edge.call)(past)).0.answer() {
                 Some(Answer::Refused { number, .. }) => number,
                 _ => 0,
             };

@@ -1,4 +1,4 @@
-//! The proved programs beside the independent one, call by call: the same texts, the same lent rooms, line by line.
+//! The proved library and the command beside the independent program, call by call: the same texts, the same lent rooms, line by line.
 
 pub mod block;
 pub mod command;
@@ -11,4 +11,4 @@ pub mod input;
 pub mod large;
 pub mod lines;
 pub mod saved;
-pub mod stored;
+pub mod spread;

@@ -5,7 +5,7 @@ use independent::{Answer, Desk, Figures, Lent, Said};
 /// The first line of every run.
 pub const LABEL: &str = "no violation shown is not no violation";
 
-/// The line of a call that is not run.
+/// The line of a call of an entry that is not there.
 pub const SKIPPED: &str = "skipped";
 
 /// What is said of input that is no call.

@@ -1,21 +1,19 @@
-//! The comparison of the proved programs with the independent one.
+//! The comparison of the proved library and the command with the independent program.
 
 use compare::command::Command;
 use compare::comparison::{self, Plan};
 use compare::executor::{Nobody, Replay};
-use compare::{expected, folder, input, large, stored};
+use compare::{expected, folder, input, large};
 use independent::Entry;
-use std::io::Read;
 use std::path::{Path, PathBuf};
 use std::process::ExitCode;
 
-const USAGE: &str = "compare replay SEED COUNT [ENTRIES] -- PROGRAM...   seeded calls through the program replay
+const USAGE: &str = "compare calls SEED COUNT [ENTRIES] -- PROGRAM...    calls that no seed changes and seeded ones, through the program replay
+compare large -- PROGRAM...                         limits that want large texts, through it
+compare folder DIR HORIZON -- PROGRAM...            instances in the published layout, through it
 compare command SEED COUNT [ENTRIES] -- PROGRAM...  seeded calls through the command, one process each
 compare cover SEED COUNT [ENTRIES]                  the same calls through no program: their coverage alone
-compare stored DIR [ENTRIES]                        writes the stored run of replay
-compare answers [ENTRIES]                           standard input as replay reads it, answered by the independent program
-compare large -- PROGRAM...                         limits that want large texts, through a program that takes any
-compare folder DIR HORIZON -- PROGRAM...            instances in the published layout
+compare answers                                     standard input as replay reads it, answered by the independent program
 ENTRIES are numbers of entries, as 1,5; all of them where they are not given.";
 
 fn main() -> ExitCode {
@@ -36,10 +34,10 @@ fn run(words: &[String]) -> Result<String, String> {
     let end = words.iter().position(|word| word == "--").unwrap_or(words.len());
     let program = words.get(end + 1..).unwrap_or_default().to_vec();
     let command = Command { words: program.clone() };
-    let replay = Replay { words: program };
+    let replay = Replay::new(program);
     let words: Vec<&str> = words[..end].iter().map(String::as_str).collect();
     match words[..] {
-        ["replay", seed, count, ref rest @ ..] => {
+        ["calls", seed, count, ref rest @ ..] => {
             let plan = plan(seed, count, rest)?;
             let told = comparison::told(&replay, &plan)?;
             input::compare(&replay)?;
@@ -47,18 +45,11 @@ fn run(words: &[String]) -> Result<String, String> {
         }
         ["command", seed, count, ref rest @ ..] => comparison::told(&command, &Plan { whole: false, ..plan(seed, count, rest)? }),
         ["cover", seed, count, ref rest @ ..] => comparison::told(&Nobody, &plan(seed, count, rest)?),
-        ["stored", dir, ref rest @ ..] => stored::write(Path::new(dir), &entries(rest)?),
-        ["answers", ref rest @ ..] => answers(&entries(rest)?),
+        ["answers"] => expected::answer(std::io::stdin().lock(), std::io::stdout().lock()).map(|()| String::new()).map_err(|e| e.to_string()),
         ["large"] => large::compare(&replay),
         ["folder", dir, horizon] => folder::compare(Path::new(dir), number(horizon)? as u32, &replay),
         _ => Err(String::from(USAGE)),
     }
-}
-
-fn answers(offered: &[Entry]) -> Result<String, String> {
-    let mut input = Vec::new();
-    std::io::stdin().read_to_end(&mut input).map_err(|e| e.to_string())?;
-    Ok(expected::output(&input, offered))
 }
 
 fn plan(seed: &str, count: &str, rest: &[&str]) -> Result<Plan, String> {

@@ -4,14 +4,16 @@ use cases::Named;
 use compare::command::Command;
 use compare::comparison::{compare, Plan};
 use compare::executor::{Executor, Nobody, Replay};
-use compare::expected::output;
-use compare::{folder, input, stored};
-use independent::{Call, Entry};
+use compare::expected::answer;
+use compare::coverage::ROOMS;
+use compare::lines::{self, BEFORE, LABEL};
+use compare::{folder, input};
+use independent::{Answer, Call, Direction, Entry, Lent};
 use std::path::PathBuf;
 
 /// The independent program in replay's place.
 fn right() -> Replay {
-    Replay { words: vec![String::from(env!("CARGO_BIN_EXE_compare")), String::from("answers")] }
+    Replay::new(vec![String::from(env!("CARGO_BIN_EXE_compare")), String::from("answers")])
 }
 
 fn temporary(name: &str) -> PathBuf {
@@ -32,6 +34,66 @@ impl Executor for Wrong {
         let lines = Nobody.run(calls)?;
         Ok(calls.iter().zip(lines).map(|(call, line)| (self.0)(call, line)).collect())
     }
+}
+
+/// A library that writes one number past the last entry of one room, where it accepts and the room goes on.
+struct Past(usize);
+
+impl Executor for Past {
+    fn run(&self, calls: &[&Call]) -> Result<Vec<String>, String> {
+        Ok(calls.iter().map(|call| self.line(call)).collect())
+    }
+}
+
+impl Past {
+    fn line(&self, call: &Call) -> String {
+        let mut lent = Lent::full_of(BEFORE, &call.case.rooms);
+        let said = call.run(&mut lent);
+        if said.answer() == Some(Answer::Accepted) {
+            self.write(&mut lent, ends(call)[self.0]);
+        }
+        lines::line(&said, if call.entry == Entry::Row { call.row_bytes() } else { &[] }, &lent)
+    }
+
+    fn write(&self, lent: &mut Lent, end: Option<usize>) {
+        let unsigned = [&mut lent.legs, &mut lent.configurations, &mut lent.profiles, &mut lent.constraints, &mut lent.tracks];
+        let [legs, configurations, profiles, constraints, tracks] = unsigned;
+        match self.0 {
+            0 => zero(legs, end),
+            1 => zero(configurations, end),
+            2 => zero(profiles, end),
+            3 => zero(&mut lent.samples, end),
+            4 => zero(constraints, end),
+            5 => zero(tracks, end),
+            6 => zero(&mut lent.choices, end),
+            7 => zero(&mut lent.second_choices, end),
+            8 => zero(&mut lent.curves, end),
+            _ => zero(&mut lent.text, end),
+        }
+    }
+}
+
+fn zero<T: Default>(room: &mut [T], end: Option<usize>) {
+    if let Some(number) = end.and_then(|end| room.get_mut(end)) {
+        *number = T::default();
+    }
+}
+
+/// How many numbers an accepted call writes into each room that its entry is lent.
+fn ends(call: &Call) -> [Option<usize>; 10] {
+    let (tables, curves, text) = match call.entry {
+        Entry::MergeEarlier => (call.case.merge(Direction::Earlier).tables, None, call.case.merge(Direction::Earlier).text),
+        Entry::MergeLater => (call.case.merge(Direction::Later).tables, None, call.case.merge(Direction::Later).text),
+        Entry::Energy => (call.case.check().tables, call.case.energy().curves, None),
+        Entry::Check | Entry::Row => (call.case.check().tables, None, None),
+    };
+    let tables = tables.unwrap_or_default();
+    let [legs, configurations, profiles] = [tables.legs.len(), tables.configurations.len(), tables.profiles.len()].map(Some);
+    let [samples, constraints, tracks] = [tables.samples.len(), tables.constraints.len(), tables.tracks.len()].map(Some);
+    let second = text.as_ref().map(|_| tables.second_choices.len());
+    let choices = Some(tables.choices.len());
+    let (curves, text) = (curves.map(|curves| curves.len()), text.map(|text| text.len()));
+    [legs, configurations, profiles, samples, constraints, tracks, choices, second, curves, text]
 }
 
 /// How many lines differ.
@@ -67,6 +129,39 @@ fn a_program_that_leaves_the_last_room_alone_differs() {
     assert!(differing(&Wrong(leaving), "leaving") > 50);
 }
 
+#[test]
+fn a_number_past_the_last_entry_is_found_in_every_room() {
+    for (room, name) in ROOMS.iter().enumerate() {
+        assert!(differing(&Past(room), &format!("past-{room}")) > 0, "{name}");
+    }
+}
+
+/// A program that answers one call and ends: the next call starts it again, and at the end nothing is left to end.
+#[test]
+fn a_program_that_ends_too_soon_differs() {
+    let script = format!("echo '{LABEL}'; head -c 256 >/dev/null; echo accepted");
+    let short = Replay::new(["sh", "-c", &script].map(String::from).to_vec());
+    let call = cases::examples::worked().remove(0).call;
+    assert_eq!(short.run(&[&call, &call, &call]).unwrap(), ["accepted", "(no line)", "accepted"]);
+}
+
+/// A program that says more than it is asked, or fails when there is nothing more to answer.
+#[test]
+fn a_program_that_ends_badly_is_told() {
+    for (ending, is_good) in [("cat >/dev/null", true), ("cat >/dev/null; echo accepted", false), ("cat >/dev/null; exit 1", false)] {
+        let script = format!("echo '{LABEL}'; head -c 256 >/dev/null; echo accepted; {ending}");
+        let ending = Replay::new(["sh", "-c", &script].map(String::from).to_vec());
+        assert_eq!(ending.run(&[&cases::examples::worked().remove(0).call]).unwrap(), ["accepted"]);
+        assert_eq!(ending.end().is_ok(), is_good, "{script}");
+    }
+}
+
+#[test]
+fn a_program_without_the_label_is_none() {
+    let silent = Replay::new(vec![String::from("true")]);
+    assert!(silent.run(&[&cases::examples::worked().remove(0).call]).unwrap_err().contains("no label"));
+}
+
 /// `true` ends with status 0, whatever it is asked, and says nothing.
 #[test]
 fn a_command_that_says_nothing_differs() {
@@ -86,18 +181,10 @@ fn differences_are_saved_as_files() {
     let worked = cases::examples::worked();
     let call = &worked.iter().find(|named: &&Named| named.name == "track 2 in no subnet").unwrap().call;
     assert_eq!(std::fs::read(saved.join("timetable.csv")).unwrap(), call.case.texts[0]);
-    let again = output(&std::fs::read(saved.join("stdin")).unwrap(), &Entry::ALL);
-    assert!(again.contains("refused 15 1 145"));
+    let mut again = Vec::new();
+    answer(&std::fs::read(saved.join("stdin")).unwrap()[..], &mut again).unwrap();
+    assert!(String::from_utf8(again).unwrap().contains("refused 15 1 145"));
     std::fs::remove_dir_all(&plan.folder).unwrap();
-}
-
-#[test]
-fn a_stored_run_goes_through_a_program() {
-    let folder = temporary("stored");
-    stored::write(&folder, &Entry::ALL).unwrap();
-    let input = std::fs::read(folder.join("stdin")).unwrap();
-    assert_eq!(right().written(input).unwrap(), std::fs::read_to_string(folder.join("stdout")).unwrap());
-    std::fs::remove_dir_all(&folder).unwrap();
 }
 
 #[test]

@@ -4,8 +4,9 @@ use crate::block::{Block, BLOCK, TEXTS};
 use crate::failure::Failure;
 use std::io::{ErrorKind, Read};
 
-/// How many bytes of a text are asked for at a time, so that memory is taken for bytes that are there, and not for those that a block promises.
-const PIECE: usize = 64 * 1024;
+/// A text comes in pieces: the first has so many bytes, and each other as many as there are before it. So memory is taken for bytes that come, and not for
+/// all that a block promises.
+const FIRST_PIECE: usize = 64 * 1024;
 
 const NAMES: [&str; TEXTS] = ["the timetable", "the profiles", "the constraints", "the solution", "the second text"];
 
@@ -57,8 +58,8 @@ fn read_text(input: &mut impl Read, text: &mut Vec<u8>, length: usize, name: &'s
     text.clear();
     while text.len() < length {
         let start = text.len();
-        let piece = PIECE.min(length - start);
-        text.try_reserve(piece).map_err(Failure::no_memory(name))?;
+        let piece = start.max(FIRST_PIECE).min(length - start);
+        text.try_reserve_exact(piece).map_err(Failure::no_memory(name))?;
         text.resize(start + piece, 0);
         if fill(input, &mut text[start..])? < piece {
             return Ok(false);

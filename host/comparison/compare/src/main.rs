@@ -8,7 +8,8 @@ use independent::Entry;
 use std::path::{Path, PathBuf};
 use std::process::ExitCode;
 
-const USAGE: &str = "compare calls SEED COUNT [ENTRIES] -- PROGRAM...    calls that no seed changes and seeded ones, through the program replay
+const USAGE: &str =
+    "compare calls SEED COUNT [ENTRIES] -- PROGRAM...    calls that no seed changes and seeded ones, through the program replay
 compare large -- PROGRAM...                         limits that want large texts, through it
 compare folder DIR HORIZON -- PROGRAM...            instances in the published layout, through it
 compare command SEED COUNT [ENTRIES] -- PROGRAM...  seeded calls through the command, one process each
@@ -45,7 +46,9 @@ fn run(words: &[String]) -> Result<String, String> {
         }
         ["command", seed, count, ref rest @ ..] => comparison::told(&command, &Plan { whole: false, ..plan(seed, count, rest)? }),
         ["cover", seed, count, ref rest @ ..] => comparison::told(&Nobody, &plan(seed, count, rest)?),
-        ["answers"] => expected::answer(std::io::stdin().lock(), std::io::stdout().lock()).map(|()| String::new()).map_err(|e| e.to_string()),
+        ["answers"] => {
+            expected::answer(std::io::stdin().lock(), std::io::stdout().lock()).map(|()| String::new()).map_err(|e| e.to_string())
+        }
         ["large"] => large::compare(&replay),
         ["folder", dir, horizon] => folder::compare(Path::new(dir), number(horizon)? as u32, &replay),
         _ => Err(String::from(USAGE)),

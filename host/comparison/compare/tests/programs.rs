@@ -3,9 +3,9 @@
 use cases::Named;
 use compare::command::Command;
 use compare::comparison::{compare, Plan};
+use compare::coverage::ROOMS;
 use compare::executor::{Executor, Nobody, Replay};
 use compare::expected::answer;
-use compare::coverage::ROOMS;
 use compare::lines::{self, BEFORE, LABEL};
 use compare::{folder, input};
 use independent::{Answer, Call, Direction, Entry, Lent};

@@ -23,7 +23,7 @@
  *
  * The functions keep no state, allocate nothing, do no input or output, and never end the process: they are reentrant, and may run in as many threads as
  * there are sets of tables. They need little stack, however long the texts are, since nothing recurses: wagontulip_energy ends with less than 11 KiB on the
- * largest underground instance (24,543 legs), and the others take less than 3 KiB. `host/bench/run stack` measures it.
+ * largest underground instance (24,543 legs), and the others take less than 3 KiB. `host/speed/whole/run stack` measures it.
  */
 #ifndef WAGONTULIP_H
 #define WAGONTULIP_H

@@ -1,7 +1,13 @@
 //! The C exports of include/wagontulip.h, answered by the independent program. Nothing here is proved: it stands in for the archive when the wrapper
 //! and the command are tested, and is no part of what a user runs.
 
+#![allow(non_upper_case_globals)]
+
 use independent::{check, energy, merge, row_at, Answer, Direction, Lent, Rooms};
+
+/// By this name an archive of the stand-in is known, and not linked to what a user runs.
+#[no_mangle]
+pub static wagontulip_is_a_stand_in: u8 = 1;
 
 /// A code, then the values, unused ones 0.
 type Numbers = [u64; 16];

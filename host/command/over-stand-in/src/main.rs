@@ -1,0 +1,16 @@
+//! The command over the stand-in, for its tests alone: every word and status is tried where there is no proved archive.
+
+#[path = "../../src/command/mod.rs"]
+mod command;
+
+// The stand-in's exports are found because its crate is linked whole.
+extern crate stand_in as _;
+
+use std::process::ExitCode;
+
+/// What is linked.
+const LINKED: &str = "stand-in, not proved";
+
+fn main() -> ExitCode {
+    command::main()
+}

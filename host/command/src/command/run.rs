@@ -1,0 +1,122 @@
+//! What a call does.
+
+use super::arguments::{Call, Work, USAGE};
+use super::input::Input;
+use super::json::Object;
+use super::output::{self, Output};
+use super::told::{evidence, Judged, Told, ACCEPTED, VERSION};
+use super::{energies, escaped, CouldNotRun};
+use crate::LINKED;
+use std::path::{Path, PathBuf};
+use wagontulip::{row_at, Answer, Checker, File, Files, NoRoom, Rooms, Table, Unknown, LABEL};
+
+impl From<Unknown> for CouldNotRun {
+    fn from(unknown: Unknown) -> CouldNotRun {
+        CouldNotRun(unknown.to_string())
+    }
+}
+
+impl From<NoRoom> for CouldNotRun {
+    fn from(none: NoRoom) -> CouldNotRun {
+        CouldNotRun(none.to_string())
+    }
+}
+
+pub fn run(call: &Call) -> Result<Told, CouldNotRun> {
+    match &call.work {
+        Work::Check { horizon, files } => check(call, *horizon, files),
+        Work::Energy { horizon, files, curves } => energy(call, *horizon, files, curves.as_deref()),
+        Work::Merge { horizon, files, earlier, later } => merge(call, *horizon, files, [earlier, later]),
+        Work::Row { file, place, files } => row(call, *file, *place, files),
+        Work::Help => Ok(plain(USAGE)),
+        Work::Version => Ok(plain(&format!("wagontulip {VERSION} ({LINKED})\n"))),
+    }
+}
+
+fn plain(text: &str) -> Told {
+    Told { status: ACCEPTED, text: text.as_bytes().to_vec() }
+}
+
+const ROLES: [&str; 4] = ["timetable", "profiles", "constraints", "solution"];
+const MERGE_ROLES: [&str; 5] = ["timetable", "profiles", "constraints", "first solution", "second solution"];
+
+fn inputs(roles: &[&'static str], files: &[PathBuf]) -> Result<Vec<Input>, CouldNotRun> {
+    let most = Rooms::at_the_limits()[Table::Text];
+    roles.iter().zip(files).map(|(role, path)| Input::read(role, path, most)).collect()
+}
+
+/// No more is lent than the limits can need.
+fn checker(call: &Call) -> Result<Checker, CouldNotRun> {
+    let mut rooms = Rooms::at_the_limits();
+    for (table, room) in &call.rooms {
+        let most = rooms[*table];
+        if *room > most {
+            return Err(CouldNotRun(format!("--room {}: at most {most} can be lent", table.name())));
+        }
+        rooms[*table] = *room;
+    }
+    Ok(Checker::with_rooms(&rooms)?)
+}
+
+fn texts(inputs: &[Input]) -> Files<'_> {
+    Files { timetable: &inputs[0].text, profiles: &inputs[1].text, constraints: &inputs[2].text }
+}
+
+fn check(call: &Call, horizon: u32, files: &[PathBuf]) -> Result<Told, CouldNotRun> {
+    let inputs = inputs(&ROLES, files)?;
+    let mut checker = checker(call)?;
+    let answer = checker.check(horizon, &texts(&inputs), &inputs[3].text)?;
+    let result = Judged { horizon, answer, inputs: &inputs, outputs: &[], room: &checker.room };
+    result.told(call.json, |()| String::new(), |object, ()| object)
+}
+
+fn energy(call: &Call, horizon: u32, files: &[PathBuf], curves: Option<&Path>) -> Result<Told, CouldNotRun> {
+    let inputs = inputs(&ROLES, files)?;
+    output::judge(&curves.into_iter().collect::<Vec<&Path>>(), &inputs)?;
+    let mut checker = checker(call)?;
+    let mut outputs = Vec::new();
+    let answer = checker.energy(horizon, &texts(&inputs), &inputs[3].text)?.map(|energies| {
+        outputs.extend(curves.map(|path| Output { role: "curves", path, text: energies::curve_lines(&energies.curves, horizon) }));
+        energies.figures
+    });
+    output::write(&outputs)?;
+    let result = Judged { horizon, answer, inputs: &inputs, outputs: &outputs, room: &checker.room };
+    result.told(call.json, |figures| energies::lines(&figures, horizon), |object, figures| energies::values(object, &figures, horizon))
+}
+
+/// Both texts are made before either is written.
+fn merge(call: &Call, horizon: u32, files: &[PathBuf], [earlier, later]: [&Path; 2]) -> Result<Told, CouldNotRun> {
+    let inputs = inputs(&MERGE_ROLES, files)?;
+    output::judge(&[earlier, later], &inputs)?;
+    let (files, first, second) = (texts(&inputs), &inputs[3].text, &inputs[4].text);
+    let mut checker = checker(call)?;
+    let mut outputs = Vec::new();
+    let mut keep = |role, path, text: &[u8]| outputs.push(Output { role, path, text: text.to_vec() });
+    let mut answer = checker.merge_earlier(horizon, &files, first, second)?.map(|text| keep("merged, earlier", earlier, text));
+    if answer == Answer::Accepted(()) {
+        answer = checker.merge_later(horizon, &files, first, second)?.map(|text| keep("merged, later", later, text));
+    }
+    if answer != Answer::Accepted(()) {
+        outputs.clear();
+    }
+    output::write(&outputs)?;
+    let result = Judged { horizon, answer, inputs: &inputs, outputs: &outputs, room: &checker.room };
+    result.told(call.json, |()| String::new(), |object, ()| object)
+}
+
+/// A row is shown, not judged: the status is 0, also where none starts there.
+fn row(call: &Call, file: u8, place: u32, files: &[PathBuf]) -> Result<Told, CouldNotRun> {
+    let inputs = inputs(&["timetable", "solution"], files)?;
+    let row = row_at(&inputs[0].text, &inputs[1].text, file, place)?;
+    let input = if file == File::Solution.number() { &inputs[1] } else { &inputs[0] };
+    if !input.is_whole() && row.map_or(false, |row| place as usize + row.len() == input.text.len()) {
+        return Err(CouldNotRun(format!("{}: the row goes on past the length of a text", input.told())));
+    }
+    if call.json {
+        let object = Object::new().text("label", LABEL).value("file", file).value("place", place);
+        let object = object.text("row", &String::from_utf8_lossy(row.unwrap_or_default())).value("length", row.map_or(0, <[u8]>::len));
+        return Ok(plain(&format!("{}\n", evidence(object, &inputs)?.close())));
+    }
+    let shown = row.map_or(String::from("no row starts there"), |row| format!("row: {}", escaped(row)));
+    Ok(plain(&format!("{LABEL}\n{shown}\n")))
+}

@@ -1,0 +1,58 @@
+//! The C exports, as include/wagontulip.h says them, each as a safe function. No text is looked at here, nor H: every export judges its own input.
+//! They are only declared: the program that uses the wrapper links the library.
+
+use crate::answers::Numbers;
+use crate::room::Room;
+
+/// No code, so that an export that writes nothing answers nothing.
+const UNWRITTEN: Numbers = [u64::MAX; 16];
+
+/// An entry takes H, its texts, the tables it fills, and room for its answer; a slice goes as its pointer and its length.
+macro_rules! entry {
+    ($name:ident is $export:ident($($text:ident),*) filling $($table:ident: $number:ty),*) => {
+        pub fn $name(h: u32, $($text: &[u8],)* room: &mut Room) -> Numbers {
+            extern "C" {
+                fn $export(h: u32, $($text: *const u8, _: usize,)* $($table: *mut $number, _: usize,)* answer: *mut Numbers);
+            }
+            let mut answer = UNWRITTEN;
+            // Safe: each pointer goes with the length of its slice. The tables are vectors of their own, lent for this call alone (`&mut Room`), so
+            // none overlaps another or a text.
+            unsafe { $export(h, $($text.as_ptr(), $text.len(),)* $(room.$table.as_mut_ptr(), room.$table.len(),)* &mut answer) };
+            answer
+        }
+    };
+}
+
+entry!(check is wagontulip_check(timetable, profiles, constraints, solution)
+    filling legs: u32, configurations: u32, profiles: u32, samples: i32, constraints: u32, tracks: u32, choices: u32);
+
+entry!(energy is wagontulip_energy(timetable, profiles, constraints, solution)
+    filling legs: u32, configurations: u32, profiles: u32, samples: i32, constraints: u32, tracks: u32, choices: u32, curves: i32);
+
+entry!(merge_earlier is wagontulip_merge_earlier(timetable, profiles, constraints, first, second)
+    filling legs: u32, configurations: u32, profiles: u32, samples: i32, constraints: u32, tracks: u32, choices: u32, second_choices: u32, text: u8);
+
+entry!(merge_later is wagontulip_merge_later(timetable, profiles, constraints, first, second)
+    filling legs: u32, configurations: u32, profiles: u32, samples: i32, constraints: u32, tracks: u32, choices: u32, second_choices: u32, text: u8);
+
+/// Start and length of the row at a refusal's file and place.
+pub fn row(draft: &[u8], solution: &[u8], file: u8, place: u32) -> Numbers {
+    extern "C" {
+        fn wagontulip_row(draft: *const u8, _: usize, solution: *const u8, _: usize, file: u8, place: u32, answer: *mut Numbers);
+    }
+    let mut answer = UNWRITTEN;
+    // Safe: each pointer goes with the length of its slice.
+    unsafe { wagontulip_row(draft.as_ptr(), draft.len(), solution.as_ptr(), solution.len(), file, place, &mut answer) };
+    answer
+}
+
+/// The room of each table at the limits.
+pub fn rooms() -> Numbers {
+    extern "C" {
+        fn wagontulip_rooms(rooms: *mut Numbers);
+    }
+    let mut rooms = UNWRITTEN;
+    // Safe: the pointer is to sixteen numbers.
+    unsafe { wagontulip_rooms(&mut rooms) };
+    rooms
+}

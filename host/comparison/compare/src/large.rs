@@ -1,0 +1,193 @@
+//! The limits that want large texts, each at its edge and past it.
+
+use crate::executor::{compared, Executor};
+use cases::examples::worked;
+use independent::{Call, Case, Entry, Rooms};
+
+// Document 01, "Sizes".
+const TEXT: usize = 67_108_864;
+const LEGS: usize = 32_768;
+const LISTED: usize = 64;
+const CONFIGURATIONS: usize = 1_048_576;
+const PROFILES: usize = 16_384;
+const SAMPLED: usize = 3_600;
+const SAMPLES: usize = 1_048_576;
+const CONSTRAINTS: usize = 65_536;
+const TRACKS: usize = 4_096;
+
+/// The texts of a case by their places.
+const TIMETABLE: usize = 0;
+const PROFILE_TEXT: usize = 1;
+const CONSTRAINT_TEXT: usize = 2;
+const SOLUTION: usize = 3;
+const SECOND: usize = 4;
+
+/// Compares each edge, and tells the answers.
+pub fn compare(executor: &dyn Executor) -> Result<String, String> {
+    let mut told = String::new();
+    for edge in edges() {
+        for past in [0, 1] {
+            let call = (edge.call)(past);
+            let which = if past == 0 { "the most" } else { "one more" };
+            let (answer, difference) = compared(&call, executor)?;
+            if let Some(lines) = difference {
+                return Err(format!("{}, {which}\n{lines}", edge.name));
+            }
+            told.push_str(&format!("{}, {which}: {answer}\n", edge.name));
+        }
+    }
+    executor.end()?;
+    told.push_str(&format!("{} large calls compared, no difference\n", 2 * edges().len()));
+    Ok(told)
+}
+
+/// A limit, and a call so far past it. Calls are made one at a time, since they are large.
+struct Edge {
+    name: &'static str,
+    call: fn(usize) -> Call,
+}
+
+fn edges() -> Vec<Edge> {
+    let edge = |name, call: fn(usize) -> Call| Edge { name, call };
+    vec![
+        edge("bytes of a timetable", |past| example(Entry::Check, TIMETABLE, vec![b'x'; TEXT + past])),
+        edge("bytes of profiles", |past| example(Entry::Check, PROFILE_TEXT, vec![b'x'; TEXT + past])),
+        edge("bytes of constraints", |past| padded(TEXT + past)),
+        edge("bytes of a solution", |past| example(Entry::Check, SOLUTION, vec![b'x'; TEXT + past])),
+        edge("bytes of a second solution", |past| example(Entry::MergeLater, SECOND, vec![b'x'; TEXT + past])),
+        edge("legs", |past| drafted(LEGS + past, 1)),
+        edge("legs of a solution", |past| solved(Entry::Check, LEGS, LEGS + past)),
+        edge("legs of a second solution", |past| solved(Entry::MergeEarlier, LEGS, LEGS + past)),
+        edge("configurations", |past| listed(CONFIGURATIONS / LISTED, past)),
+        edge("profiles", |past| example(Entry::Check, PROFILE_TEXT, profiles(&[1].repeat(PROFILES - 2 + past)))),
+        edge("samples", |past| example(Entry::Check, PROFILE_TEXT, sampled(SAMPLES + past))),
+        edge("constraints", |past| constrained(CONSTRAINTS + past)),
+        edge("tracks", |past| tracked(TRACKS + past)),
+    ]
+}
+
+/// Room for everything within the sizes, and no more.
+fn rooms() -> Rooms {
+    Rooms {
+        legs: LEGS * 8,
+        configurations: CONFIGURATIONS * 3,
+        profiles: PROFILES * 3,
+        samples: SAMPLES,
+        constraints: CONSTRAINTS * 6,
+        tracks: TRACKS * 2,
+        choices: LEGS * 3,
+        second_choices: LEGS * 3,
+        curves: 0,
+        text: 1 << 21,
+    }
+}
+
+/// The worked example with another text in one place.
+fn example(entry: Entry, place: usize, text: Vec<u8>) -> Call {
+    let nominal = worked().remove(0).call.case;
+    let mut case = Case { rooms: rooms(), ..nominal };
+    case.texts[place] = text;
+    Call::of(entry, case)
+}
+
+/// The example's constraints with white space up to a length.
+fn padded(length: usize) -> Call {
+    let mut text = worked().remove(0).call.case.texts[CONSTRAINT_TEXT].clone();
+    text.resize(length, b' ');
+    example(Entry::Check, CONSTRAINT_TEXT, text)
+}
+
+const HEADER: &str = "leg_id,train_id,track_id,start_station_id,end_station_id,nominal_departure_configuration,departure_configurations\n";
+
+/// So many rows, with so many entries in the list of each.
+fn rows(legs: usize, entries: usize) -> String {
+    let list = vec!["10_4_7"; entries].join(" ");
+    let row = |leg: usize| format!("{},1,1,1,2,10_4_7,{list}\n", leg + 1);
+    (0..legs).map(row).fold(String::from(HEADER), |text, row| text + &row)
+}
+
+/// A draft of so many rows as its own solution, without a constraint.
+fn drafted(legs: usize, entries: usize) -> Call {
+    solved_by(Entry::Check, &rows(legs, entries), &rows(legs, entries))
+}
+
+fn solved(entry: Entry, legs: usize, chosen: usize) -> Call {
+    solved_by(entry, &rows(legs, 1), &rows(chosen, 1))
+}
+
+/// The last solution that the entry takes is `last`; the first of two is the draft.
+fn solved_by(entry: Entry, draft: &str, last: &str) -> Call {
+    let mut call = example(entry, CONSTRAINT_TEXT, constraints("", "1"));
+    call.case.texts[TIMETABLE] = draft.as_bytes().to_vec();
+    call.case.texts[SOLUTION] = draft.as_bytes().to_vec();
+    let place = if entry == Entry::Check { SOLUTION } else { SECOND };
+    call.case.texts[place] = last.as_bytes().to_vec();
+    call
+}
+
+/// Lists of the most entries, and so many rows of one entry after them.
+fn listed(legs: usize, more: usize) -> Call {
+    let mut draft = rows(legs, LISTED);
+    for leg in 0..more {
+        draft.push_str(&format!("{},1,1,1,2,10_4_7,10_4_7\n", legs + leg + 1));
+    }
+    solved_by(Entry::Check, &draft, &draft)
+}
+
+/// The example's two profiles, and one more of so many samples for each length.
+fn profiles(lengths: &[usize]) -> Vec<u8> {
+    let mut text = String::from("profile_id,power_consumptions\n7,0.5 1.0 0.25 -0.4\n8,0.3 0.0 -0.2\n");
+    for (place, length) in lengths.iter().enumerate() {
+        text.push_str(&format!("{},{}\n", 100 + place, vec!["0.1"; *length].join(" ")));
+    }
+    text.into_bytes()
+}
+
+/// So many samples in all, of which the example has seven.
+fn sampled(samples: usize) -> Vec<u8> {
+    let more = samples - 7;
+    let mut lengths = vec![SAMPLED; more / SAMPLED];
+    lengths.push(more % SAMPLED);
+    profiles(&lengths)
+}
+
+/// Single-track headways, and tracks of one subnet.
+fn constraints(headways: &str, tracks: &str) -> Vec<u8> {
+    format!(
+        r#"{{"headway_time_constraints": [], "single_track_headway_constraints": [{headways}], "dwell_time_constraints": [],
+"terminal_turnaround_constraints": [], "connection_constraints": [], "recuperation_subnets": [{{"subnet_id": 1, "track_ids": [{tracks}]}}]}}
+"#
+    )
+    .into_bytes()
+}
+
+fn constrained(records: usize) -> Call {
+    let records = vec![r#"{"first_leg_id": 1, "second_leg_id": 2}"#; records].join(",\n");
+    example(Entry::Check, CONSTRAINT_TEXT, constraints(&records, "1, 2"))
+}
+
+fn tracked(tracks: usize) -> Call {
+    let tracks: Vec<String> = (1..=tracks).map(|track| track.to_string()).collect();
+    example(Entry::Check, CONSTRAINT_TEXT, constraints("", &tracks.join(", ")))
+}
+
+#[cfg(test)]
+mod tests {
+    use super::*;
+    use crate::expected::line;
+    use independent::Answer;
+
+    /// Each edge is where it is said to be: one more is refused for the limit's own sake, and the most is not.
+    #[test]
+    fn edges_lie_at_the_limits() {
+        for edge in edges() {
+            let number = |past: usize| match line(&(edge.call)(past)).0.answer() {
+                Some(Answer::Refused { number, .. }) => number,
+                _ => 0,
+            };
+            let limit = if edge.name.starts_with("bytes") { 2 } else { 6 };
+            assert_eq!(number(1), limit, "{}", edge.name);
+            assert_ne!(number(0), limit, "{}", edge.name);
+        }
+    }
+}

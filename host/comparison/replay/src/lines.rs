@@ -1,0 +1,165 @@
+//! A call's line: what is answered, then a digest of each lent room.
+
+use crate::block::Block;
+use crate::calls::Entry;
+use crate::exports::Numbers;
+use crate::input::Texts;
+use crate::rooms::{digest, Rooms};
+use std::ops::RangeInclusive;
+
+/// The first line of every run.
+pub const LABEL: &str = "no violation shown is not no violation";
+
+/// The line of a call whose entry is not there.
+pub const SKIPPED: &str = "skipped";
+
+/// What is said of input that is no call.
+pub const BAD: &str = "replay: bad case";
+
+// The codes of an answer.
+const ACCEPTED: u64 = 0;
+const VIOLATED: u64 = 1;
+const REFUSED: u64 = 2;
+const ROW: u64 = 3;
+
+/// An answer's numbers after its code.
+type Values = [u64; 15];
+
+/// From the least to the greatest that a value may be.
+type Range = RangeInclusive<u64>;
+
+const ANY: Range = 0..=u64::MAX;
+const COUNT: Range = 0..=u32::MAX as u64;
+
+/// Kind, position, inequality, shortfall, file.
+const VIOLATION: [Range; 5] = [0..=5, COUNT, 0..=2, COUNT, 4..=5];
+
+/// Number, file, place.
+const REFUSAL: [Range; 3] = [1..=17, 0..=5, COUNT];
+
+/// Six figures, the bits of four doubles, two quarters.
+const ENERGIES: [Range; 12] = [ANY, ANY, ANY, ANY, ANY, ANY, ANY, ANY, ANY, ANY, COUNT, COUNT];
+
+// The files that a row is shown of.
+const DRAFT: u32 = 1;
+const SOLUTION: u32 = 4;
+
+/// The line of an answer, and of the rooms as the call left them. An answer that is none of the header's is written with all its numbers, so that it differs
+/// from any that is expected.
+pub fn line(entry: Entry, block: &Block, texts: &Texts, numbers: &Numbers, rooms: &Rooms) -> String {
+    let shown = if entry == Entry::Row { row(numbers, shown_text(block, texts)) } else { words(entry, numbers, rooms.text.len()) };
+    let said = shown.unwrap_or_else(|| listed("unknown", numbers));
+    listed(&format!("{said} |"), &rooms.digests())
+}
+
+/// The words, then the numbers, with a space before each.
+fn listed<N: ToString>(words: &str, numbers: &[N]) -> String {
+    numbers.iter().fold(String::from(words), |line, number| line + " " + &number.to_string())
+}
+
+fn words(entry: Entry, numbers: &Numbers, text_room: usize) -> Option<String> {
+    let [code, values @ ..] = numbers;
+    match (*code, entry) {
+        (VIOLATED, _) => said("violated", values, &VIOLATION),
+        (REFUSED, _) => said("refused", values, &REFUSAL),
+        (ACCEPTED, Entry::Check) => said("accepted", values, &[]),
+        (ACCEPTED, Entry::Energy) => energies(values),
+        (ACCEPTED, Entry::MergeEarlier | Entry::MergeLater) => said("accepted", values, &[0..=text_room as u64]),
+        _ => None,
+    }
+}
+
+/// The word with its values, as they stand, where each is within its range.
+fn said(word: &str, values: &Values, ranges: &[Range]) -> Option<String> {
+    are_within(values, ranges).then(|| listed(word, &values[..ranges.len()]))
+}
+
+/// Whether each value is within its range, and those that have none are 0.
+fn are_within(values: &[u64], ranges: &[Range]) -> bool {
+    let (used, unused) = values.split_at(ranges.len());
+    used.iter().zip(ranges).all(|(value, range)| range.contains(value)) && unused.iter().all(|value| *value == 0)
+}
+
+/// The six figures, the quarters of the two peaks, and the bits of the four doubles.
+fn energies(values: &Values) -> Option<String> {
+    let [before, drawn, lost, fluctuation, peak_before, peak_drawn, doubles @ .., of_before, of_drawn, _, _, _] = values;
+    let fluctuation = *fluctuation as i64;
+    let bits: Vec<String> = doubles.iter().map(|bits| format!("{bits:016x}")).collect();
+    let figures = format!("accepted {before} {drawn} {lost} {fluctuation} {peak_before} {peak_drawn} {of_before} {of_drawn}");
+    are_within(values, &ENERGIES).then(|| listed(&figures, &bits))
+}
+
+/// The text whose row is asked for. Any other file has no row.
+fn shown_text<'a>(block: &Block, texts: &'a Texts) -> &'a [u8] {
+    let [draft, _, _, solution, _] = texts.parts();
+    match block.file {
+        DRAFT => draft,
+        SOLUTION => solution,
+        _ => &[],
+    }
+}
+
+/// The length of the row and a digest of its bytes. Start and length are within the text, and both 0 where no row starts there.
+fn row(numbers: &Numbers, text: &[u8]) -> Option<String> {
+    let [code, start, length, unused @ ..] = numbers;
+    let end = start.checked_add(*length).filter(|end| *end <= text.len() as u64)?;
+    let is_row = *code == ROW && are_within(unused, &[]) && (*start > 0 || *length == 0);
+    is_row.then(|| format!("row {length} {}", digest(&text[*start as usize..end as usize])))
+}
+
+#[cfg(test)]
+mod tests {
+    use super::*;
+
+    fn numbers(first: &[u64]) -> Numbers {
+        let mut all = [0; 16];
+        all[..first.len()].copy_from_slice(first);
+        all
+    }
+
+    fn told(entry: Entry, first: &[u64]) -> Option<String> {
+        words(entry, &numbers(first), 9)
+    }
+
+    #[test]
+    fn each_answer_has_its_words() {
+        assert_eq!(told(Entry::Check, &[0]).unwrap(), "accepted");
+        assert_eq!(told(Entry::Check, &[1, 3, 7, 1, 3, 5]).unwrap(), "violated 3 7 1 3 5");
+        assert_eq!(told(Entry::MergeLater, &[2, 17, 5, 113]).unwrap(), "refused 17 5 113");
+        assert_eq!(told(Entry::MergeEarlier, &[0, 9]).unwrap(), "accepted 9");
+        assert_eq!(row(&numbers(&[3, 1, 2]), b"\n12").unwrap(), "row 2 1569");
+        assert_eq!(row(&numbers(&[3]), b"").unwrap(), "row 0 0");
+    }
+
+    #[test]
+    fn energies_by_their_places() {
+        let given = [0, 1, 2, 3, u64::MAX, 5, 6, 0.5f64.to_bits(), 0, 1, u64::MAX, 29, 195];
+        let expected = "accepted 1 2 3 -1 5 6 29 195 3fe0000000000000 0000000000000000 0000000000000001 ffffffffffffffff";
+        assert_eq!(told(Entry::Energy, &given).unwrap(), expected);
+        assert_eq!(told(Entry::Energy, &[&given[..], &[1]].concat()), None);
+        assert_eq!(told(Entry::Energy, &[0, 0, 0, 0, 0, 0, 0, 0, 0, 0, 0, 1 << 32]), None);
+    }
+
+    #[test]
+    fn what_is_not_known_is_no_answer() {
+        let others: [&[u64]; 10] = [
+            &[3],
+            &[4],
+            &[u64::MAX; 16],
+            &[0, 1],
+            &[1, 6, 0, 1, 1, 4],
+            &[1, 1, 0, 3, 1, 4],
+            &[1, 1, 0, 1, 1, 3],
+            &[1, 1, 1 << 32, 1, 1, 4],
+            &[2, 18, 0, 0],
+            &[2, 4, 1, 0, 1],
+        ];
+        for other in others {
+            assert_eq!(told(Entry::Check, other), None, "{other:?}");
+        }
+        assert_eq!(told(Entry::MergeLater, &[0, 10]), None);
+        for other in [&[0, 1, 2][..], &[3, 0, 1], &[3, 2, 2], &[3, u64::MAX, 2], &[3, 1, 2, 1]] {
+            assert_eq!(row(&numbers(other), b"\n12"), None, "{other:?}");
+        }
+    }
+}

@@ -3,7 +3,7 @@
 ghost use Rattle.rules.specs.Merge.{textOf};
 ghost use Rattle.text_write.specs.Written.{Written};
 ghost use Rattle.merge_text.specs.Merges.{mergedIn, rowsText};
-use merge_choice::Direction;
+use rules::outcomes::Direction;
 
 // The draft's `n` rows, each with the choice that the merge takes as its nominal.
 fn put_rows(

@@ -4,4 +4,5 @@ pub mod kinds; // the five kinds of constraint, in one table
 pub mod answers; // refusals, violations, the answer
 pub mod tokens; // the words of the automaton that reads constraints.json
 pub mod figures; // the energies and the record of four doubles
+pub mod outcomes; // what the entries give back
 pub mod limits; // the tie between the constants and the specs

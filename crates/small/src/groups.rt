@@ -2,8 +2,8 @@
 ghost use Prim.Native.Nat.{_+_, _<_, _^_};
 ghost use Rattle.io.specs.Counts.{Counts};
 ghost use Rattle.small_words.specs.Words.{ofSolution, ofTwo};
-use merge_choice::Direction;
 use rules::answers::File;
+use rules::outcomes::Direction;
 use say_answers::say;
 use small_check::checks;
 use small_check::energies;

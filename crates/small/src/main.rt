@@ -9,7 +9,7 @@ mod groups; // the groups
 ghost use Prim.Native.Nat.{_+_, _<_, _^_};
 use groups::Asked;
 use groups::Entry;
-use merge_choice::Direction;
+use rules::outcomes::Direction;
 use say_answers::say;
 use small_words::Words;
 

@@ -1,12 +1,12 @@
--- What is lent to an entry, by the names of its parameters: the texts and tables as they came, and the tables as they are left.
+-- What is lent to an entry, by the names of its parameters: the three texts that do not depend on a solution, the six tables as they came, and the six
+-- tables as they are left. The contract of each entry, and of each function that an entry lends all of them to, is written with these.
 use Prim.Native.Nat.{ℕ}
 use mathlib.Core.List.{List}
 use lib.IntN.{ℤ}
 use denote.Ref.{RefT, now}
 use denote.Triple.Both.{Both}
-use Rattle.rules.specs.Reading.{Texts}
+use Rattle.rules.specs.Reading.{Texts, texts}
 use Rattle.rules.specs.Entries.{Tables, tables}
-use Rattle.tables_lent.specs.Filing.{texts}
 
 -- a slice that is lent: at entry, and at exit
 abbrev pub Lent : Type 0 → Type 0

@@ -1,12 +1,11 @@
--- `merge::merge` meets its contract: what the answer leaves. Assumes nothing.
+-- `checker::merges::merge` meets its contract: what was read and written stands; a violation zeroes the text, and a refusal fills everything. Assumes nothing.
 use mathlib.Core.Path.{_∙_}
 use borrow.Author.Needs.{needs}
+use Rattle.rules.specs.Reading.{texts}
 use Rattle.rules.specs.Entries.{tables}
-use Rattle.tables_lent.specs.Filing.{texts}
-use Rattle.merge_text.specs.Merges.{mergeOf}
-use Rattle.merge.proofs.Ends.{merge-ends}
-use Rattle.merge.proofs.merge.Statement.{statement}
-use Rattle.merge.proofs.merge.Tie as tie
+use Rattle.checker.proofs.MergeWays.{merge-ends}
+use Rattle.checker.proofs.merges.merge.Statement.{statement}
+use Rattle.checker.proofs.merges.merge.Tie as tie
 
 read-and-merge-requires : tie.Need-read-and-merge-requires
 read-and-merge-requires c κs = search needs
@@ -54,7 +53,7 @@ returns : tie.Need-returns
 returns c =
     let s = c .before .before .before .before .before .before .before .before .before .before .before .before .before .before .before .before .before .before .before .before .before .before .before .before .before .before .before .before .before .before .before .before .before .before .before .before .before .before .before .before .before .before .before .before .before .before .before .before .before .before .before .before .before .before .before .before .before .before .before .before .before .before .before .before .before .before .before .before .before .before .args in
     let r = c .before .before .before .before .before .before .before .before .before .before .before .before .before .before .before .before .before .before .before .before .before .before .before .before .before .before .before .before .before .before .before .before .before .before .before .before .before .before .before .before .before .before .before .before .before .before .before .read-and-merge in
-    merge-ends (mergeOf (s .direction)) (s .h) (texts (s .timetable .now) (s .profiles .now) (s .constraints .now)) (s .first .now) (s .second .now) (tables (s .legs .now) (s .configurations .now) (s .profile-table .now) (s .samples .now) (s .constraint-table .now) (s .tracks .now)) (s .choices .now) (s .second-choices .now) (s .text .now) (r .ensures)
+    merge-ends (s .direction) (s .h) (texts (s .timetable .now) (s .profiles .now) (s .constraints .now)) (s .first .now) (s .second .now) (tables (s .legs .now) (s .configurations .now) (s .profile-table .now) (s .samples .now) (s .constraint-table .now) (s .tracks .now)) (s .choices .now) (s .second-choices .now) (s .text .now) (r .ensures)
     (record { legs = r .kept .1 .1 .1 .1 .1 .1 .1 .0; configurations = r .kept .1 .1 .1 .1 .1 .1 .1 .1 .0; profiles = r .kept .1 .1 .1 .1 .1 .1 .1 .1 .1 .0; samples = r .kept .1 .1 .1 .1 .1 .1 .1 .1 .1 .1 .0; constraints = r .kept .1 .1 .1 .1 .1 .1 .1 .1 .1 .1 .1 .0; tracks = r .kept .1 .1 .1 .1 .1 .1 .1 .1 .1 .1 .1 .1 .0 })
     (r .kept .1 .1 .1 .1 .1 .1 .1 .1 .1 .1 .1 .1 .1 .0) (r .kept .1 .1 .1 .1 .1 .1 .1 .1 .1 .1 .1 .1 .1 .1 .0) (r .kept .1 .1 .1 .1 .1 .1 .1 .1 .1 .1 .1 .1 .1 .1 .1 .0) (c .before .before .before .before .before .before .before .before .before .before .before .before .before .before .before .before .before .before .before .before .before .before .before .empty-tables .ensures) (c .before .before .before .before .before .before .before .before .before .before .empty-choices .ensures) (c .before .before .before .before .before .before .empty-choices2 .ensures) (c .before .before .empty-text .ensures)
 

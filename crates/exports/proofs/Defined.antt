@@ -9,7 +9,7 @@ use Rattle.rules.specs.Entries.{Tables, Checked, Reported, Merged, checked, rep
 use Rattle.rules.specs.Promises.{Checks, Reports, Merges}
 use Rattle.rules.specs.declared.outcomes.Direction.{Direction}
 use Rattle.exports_numbers.specs.Numbers.{checkNumbers, reportNumbers, mergeNumbers}
-use Rattle.exports.specs.Exported.{Exported}
+use Rattle.exports_numbers.specs.Exported.{Exported}
 
 -- what the definition's outcomes are in numbers
 abbrev pub checkedNumbers : Checked → List ℕ

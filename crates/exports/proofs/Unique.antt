@@ -11,7 +11,7 @@ use Rattle.rules.specs.Promises.{Checks, Reports, Merges}
 use Rattle.rules.specs.declared.outcomes.Direction.{Direction}
 use Rattle.checker.proofs.Unique.{check-unique, energy-unique, merge-unique}
 use Rattle.exports_numbers.specs.Numbers.{checkNumbers, reportNumbers, mergeNumbers, rowNumbers}
-use Rattle.exports.specs.Exported.{Exported}
+use Rattle.exports_numbers.specs.Exported.{Exported}
 use Rattle.csv_lines.specs.Starts.{startAt}
 
 -- one outcome gives one list of numbers

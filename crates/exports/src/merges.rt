@@ -3,7 +3,7 @@ ghost use Rattle.rules.specs.Lent.{given, before, after};
 ghost use Rattle.rules.specs.Promises.{Merges};
 ghost use Rattle.rules.specs.declared.outcomes.Direction.the-variants.{Earlier, Later};
 ghost use Rattle.exports_numbers.specs.Numbers.{mergeNumbers};
-ghost use Rattle.exports.specs.Exported.{Exported};
+ghost use Rattle.exports_numbers.specs.Exported.{Exported};
 use checker::merges;
 use exports_numbers::Numbers;
 use exports_numbers::answers;

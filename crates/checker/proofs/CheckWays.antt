@@ -12,8 +12,8 @@ use Rattle.rules.specs.Entries.{Tables, Whole, roomsOf, filled, filledTables, v
 use Rattle.rules.specs.Promises.{Checks}
 use Rattle.checker_judge.specs.declared.Judged.{Judged}
 use Rattle.checker_judge.specs.Promise.{ReadAndJudged}
-use Rattle.checker_after.specs.After.{tablesAfter, choicesAfter}
-use Rattle.checker_after.proofs.Filled.{SameLengths, filled-alike, tables-filled-alike}
+use Rattle.tables_lent.specs.After.{tablesAfter, choicesAfter}
+use Rattle.tables_lent.proofs.Filled.{SameLengths, filled-alike, tables-filled-alike}
 
 -- a verdict is no refusal
 verdict-kept : (file : ℕ) (v : Verdict) → isRefusal (answerOf file v) ≡ false

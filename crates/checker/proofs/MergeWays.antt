@@ -15,8 +15,8 @@ use Rattle.rules.specs.declared.outcomes.Merged.{Merged}
 use Rattle.rules.specs.declared.outcomes.Direction.{Direction}
 use Rattle.rules_theorems.specs.Demands.{EmptiedMerge}
 use Rattle.rules_theorems.proofs.DemandOne.{merge-demand-one}
-use Rattle.checker_after.specs.After.{tablesAfter, choicesAfter, textAfter}
-use Rattle.checker_after.proofs.Filled.{SameLengths, tables-after, choices-after, text-after}
+use Rattle.tables_lent.specs.After.{tablesAfter, choicesAfter, textAfter}
+use Rattle.tables_lent.proofs.Filled.{SameLengths, tables-after, choices-after, text-after}
 use Rattle.merge.specs.Promise.{MergeRead}
 use Rattle.merge.proofs.Standing.{text-zeroed}
 use Rattle.checker.proofs.Refusing.{is-refused}

@@ -17,8 +17,8 @@ use Rattle.rules.specs.declared.outcomes.Report.{Report}
 use Rattle.rules_theorems.specs.Demands.{EmptiedReport}
 use Rattle.rules_theorems.proofs.DemandOne.{report-demand-one}
 use Rattle.energy_report.specs.Promise.{ReportRead}
-use Rattle.checker_after.specs.After.{tablesAfter, choicesAfter, curvesAfter}
-use Rattle.checker_after.proofs.Filled.{SameLengths, tables-after, choices-after, curves-after}
+use Rattle.tables_lent.specs.After.{tablesAfter, choicesAfter, curvesAfter}
+use Rattle.tables_lent.proofs.Filled.{SameLengths, tables-after, choices-after, curves-after}
 use Rattle.checker.proofs.Refusing.{is-refused}
 
 -- short of acceptance the curves are filled

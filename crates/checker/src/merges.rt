@@ -1,10 +1,10 @@
 // Both solutions are read, then judged, and the earlier or the later choices are written as a timetable (document 01, "Merged texts").
 ghost use Rattle.rules.specs.Lent.{given, before, after};
 ghost use Rattle.rules.specs.Promises.{Merges};
-use checker_after::acceptance;
-use checker_after::refusals;
 use rules::outcomes::Direction;
 use rules::outcomes::Merged;
+use tables_lent::acceptance;
+use tables_lent::refusals;
 
 // At equal departures the earlier merge takes the first file's choice, and the later the second's. C, which has no `Direction`, has a name for each.
 pub fn merge(

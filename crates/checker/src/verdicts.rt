@@ -1,8 +1,8 @@
 // All four files are read, and the solution is judged.
 ghost use Rattle.rules.specs.Lent.{given, before, after};
 ghost use Rattle.rules.specs.Promises.{Checks};
-use checker_after::refusals;
 use rules::outcomes::Checked;
+use tables_lent::refusals;
 
 pub fn check(
     h: u32,

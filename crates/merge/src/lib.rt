@@ -1,4 +1,4 @@
-// The merges (document 01, "Merged texts"): both solutions are read, then judged, and the earlier or the later choices are written as a timetable.
+// A merge as a whole (document 01, "Merged texts"): both solutions are read, then judged, and the earlier or the later choices are written as a timetable. The entry `merge` is made of it.
 ghost use mathlib.Core.Path.{_≡_};
 ghost use Rattle.rules.specs.Lent.{given, before, after};
 ghost use Rattle.merge.specs.Left.{notWritten};

@@ -5,15 +5,15 @@ use mathlib.Core.Bool.{Bool, true, false, cond}
 use mathlib.Core.List.{List}
 use lib.ListN.{length}
 use Rattle.rules.specs.Limits.{unsignedFill}
-use Rattle.rules.specs.Answers.{isRefusal, solutionFile, Reading, refused, good}
+use Rattle.rules.specs.Answers.{isRefusal, solutionFile, valuesOf, Reading, refused, good}
 use Rattle.rules.specs.Reading.{Texts}
 use Rattle.rules.specs.Verdict.{Verdict, accepted, violated, answerOf}
 use Rattle.rules.specs.Entries.{Tables, Whole, roomsOf, filled, filledTables, verdictOf, allRead, checked}
+use Rattle.rules.specs.Promises.{Checks}
 use Rattle.checker_judge.specs.declared.Judged.{Judged}
 use Rattle.checker_judge.specs.Promise.{ReadAndJudged}
-use Rattle.checker_after.specs.After.{tablesAfter, choicesAfter}
-use Rattle.checker_after.proofs.Filled.{SameLengths, filled-alike, tables-filled-alike}
-use Rattle.checker.specs.Checks.{Checks}
+use Rattle.tables_lent.specs.After.{tablesAfter, choicesAfter}
+use Rattle.tables_lent.proofs.Filled.{SameLengths, filled-alike, tables-filled-alike}
 
 -- a verdict is no refusal
 verdict-kept : (file : ℕ) (v : Verdict) → isRefusal (answerOf file v) ≡ false
@@ -41,6 +41,7 @@ module _ (H : ℕ) (x : Texts) (s : List ℕ) (t : Tables) (c : List ℕ) {j : J
           let says : isRefusal (j .answer) ≡ true = ap isRefusal (read .answers) ∙ rw e in
           record {
             answer = read .answers;
+            values = ap valuesOf (read .answers);
             tables = tables ∙ ap kept says ∙ tables-filled-alike t′ t same ∙ rw e;
             choices = choices ∙ ap kept-choices says ∙ filled-alike unsignedFill c′ c many ∙ rw e;
           }
@@ -48,6 +49,7 @@ module _ (H : ℕ) (x : Texts) (s : List ℕ) (t : Tables) (c : List ℕ) {j : J
           let says : isRefusal (j .answer) ≡ false = ap isRefusal (read .answers) ∙ rw e (verdict-kept solutionFile (verdictOf (w .files) (w .choices))) in
           record {
             answer = read .answers;
+            values = ap valuesOf (read .answers);
             tables = tables ∙ ap kept says ∙ read .writes w e .0 ∙ rw e;
             choices = choices ∙ ap kept-choices says ∙ read .writes w e .1 ∙ rw e;
           }

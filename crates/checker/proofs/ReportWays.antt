@@ -8,24 +8,18 @@ use lib.Dec.{leb}
 use lib.ListN.{length}
 use lib.IntN.{ℤ}
 use Rattle.rules.specs.Limits.{signedFill}
-use Rattle.rules.specs.Answers.{isRefusal, isAccepted, Reading, refused, good}
+use Rattle.rules.specs.Answers.{isRefusal, isAccepted, valuesOf, Reading, refused, good}
 use Rattle.rules.specs.Reading.{Texts}
 use Rattle.rules.specs.Verdict.{Verdict, accepted, violated}
 use Rattle.rules.specs.Entries.{Tables, Whole, roomsOf, filled, verdictOf, allRead, reportAccepted, reportJudged, reportFrom, reported}
-use Rattle.rules.specs.declared.answers.Answer.{Answer}
-use Rattle.rules.specs.declared.answers.Answer.the-variants.{Accepted, Violated, Refused}
-use Rattle.rules_theorems.specs.Demands.{IsRefused, EmptiedReport}
+use Rattle.rules.specs.Promises.{Reports}
+use Rattle.rules.specs.declared.outcomes.Report.{Report}
+use Rattle.rules_theorems.specs.Demands.{EmptiedReport}
 use Rattle.rules_theorems.proofs.DemandOne.{report-demand-one}
-use Rattle.energy_report.specs.declared.Report.{Report}
 use Rattle.energy_report.specs.Promise.{ReportRead}
-use Rattle.checker_after.specs.After.{tablesAfter, choicesAfter, curvesAfter}
-use Rattle.checker_after.proofs.Filled.{SameLengths, tables-after, choices-after, curves-after}
-use Rattle.checker.specs.Reports.{Reports}
-
-is-refused : (a : Answer) → isRefusal a ≡ true → IsRefused a
-is-refused Accepted e = let z : _≡_ {A = ℕ} 0 1 = cc in absurd (omega arith)
-is-refused (Violated v) e = let z : _≡_ {A = ℕ} 0 1 = cc in absurd (omega arith)
-is-refused (Refused r) e = (r, refl)
+use Rattle.tables_lent.specs.After.{tablesAfter, choicesAfter, curvesAfter}
+use Rattle.tables_lent.proofs.Filled.{SameLengths, tables-after, choices-after, curves-after}
+use Rattle.checker.proofs.Refusing.{is-refused}
 
 -- short of acceptance the curves are filled
 curves-filled : (H : ℕ) (x : Texts) (s : List ℕ) (t : Tables) (c : List ℕ) (p : List ℤ) → isAccepted (reported H x s t c p .answer) ≡ false
@@ -57,6 +51,7 @@ module _ {H : ℕ} {x : Texts} {s : List ℕ} {t : Tables} {c : List ℕ} {p : L
   report-ends same many long tables choices curves =
       record {
         answer = read .answers;
+        values = ap valuesOf (read .answers);
         figures = read .figures-are;
         desk = read .desk-is;
         tables = tables-after (r .answer) t same tables (λ h. sym (emptied h .tables)) (λ h. read .writes h .0);

@@ -1,9 +1,9 @@
 // All four files are read, the solution is judged, and its energies are worked out where it is accepted.
-ghost use Rattle.tables_lent.specs.Lent.{given, before, after};
-ghost use Rattle.checker.specs.Reports.{Reports};
-use checker_after::acceptance;
-use checker_after::refusals;
-use energy_report::Report;
+ghost use Rattle.rules.specs.Lent.{given, before, after};
+ghost use Rattle.rules.specs.Promises.{Reports};
+use rules::outcomes::Report;
+use tables_lent::acceptance;
+use tables_lent::refusals;
 
 pub fn energy(
     h: u32,

@@ -1,13 +1,14 @@
-// The two merges: one merged text a call, with `earlier` or `later` choices (document 01, "Merged texts").
-ghost use Rattle.rules.specs.Merge.{earlier, later};
-ghost use Rattle.tables_lent.specs.Lent.{given, before, after};
-ghost use Rattle.merge.specs.Promise.{Merges};
-use merge_choice::Direction;
+// Both solutions are read, then judged, and the earlier or the later choices are written as a timetable (document 01, "Merged texts").
+ghost use Rattle.rules.specs.Lent.{given, before, after};
+ghost use Rattle.rules.specs.Promises.{Merges};
+use rules::outcomes::Direction;
+use rules::outcomes::Merged;
+use tables_lent::acceptance;
+use tables_lent::refusals;
 
-pub type Merged = merge::Merged;
-
-// The earlier choice at each leg; at equal departures the first file's.
-pub fn merge_earlier(
+// At equal departures the earlier merge takes the first file's choice, and the later the second's. C, which has no `Direction`, has a name for each.
+pub fn merge(
+    direction: Direction,
     h: u32,
     timetable: &[u8],
     profiles: &[u8],
@@ -24,12 +25,12 @@ pub fn merge_earlier(
     second_choices: &mut [u32],
     text: &mut [u8],
 ) -> Merged
-    ensures { λ r. ⌜ Merges earlier h (given timetable profiles constraints) (now (first .entry)) (now (second .entry))
+    ensures { λ r. ⌜ Merges direction h (given timetable profiles constraints) (now (first .entry)) (now (second .entry))
         (before legs configurations «profile_table» samples «constraint_table» tracks) (now (choices .entry)) (now («second_choices» .entry)) (now (text .entry))
         r (after legs configurations «profile_table» samples «constraint_table» tracks) (now (choices .exit)) (now («second_choices» .exit)) (now (text .exit)) ⌝ }
 {
-    merge::merge(
-        Direction::Earlier,
+    let merged = merge::read_and_merge(
+        direction,
         h,
         timetable,
         profiles,
@@ -45,47 +46,19 @@ pub fn merge_earlier(
         choices,
         second_choices,
         text,
-    )
-}
-
-// The later choice at each leg; at equal departures the second file's.
-pub fn merge_later(
-    h: u32,
-    timetable: &[u8],
-    profiles: &[u8],
-    constraints: &[u8],
-    first: &[u8],
-    second: &[u8],
-    legs: &mut [u32],
-    configurations: &mut [u32],
-    profile_table: &mut [u32],
-    samples: &mut [i32],
-    constraint_table: &mut [u32],
-    tracks: &mut [u32],
-    choices: &mut [u32],
-    second_choices: &mut [u32],
-    text: &mut [u8],
-) -> Merged
-    ensures { λ r. ⌜ Merges later h (given timetable profiles constraints) (now (first .entry)) (now (second .entry))
-        (before legs configurations «profile_table» samples «constraint_table» tracks) (now (choices .entry)) (now («second_choices» .entry)) (now (text .entry))
-        r (after legs configurations «profile_table» samples «constraint_table» tracks) (now (choices .exit)) (now («second_choices» .exit)) (now (text .exit)) ⌝ }
-{
-    merge::merge(
-        Direction::Later,
-        h,
-        timetable,
-        profiles,
-        constraints,
-        first,
-        second,
+    );
+    let answer = merged.answer;
+    refusals::empty_tables(
+        answer,
         legs,
         configurations,
         profile_table,
         samples,
         constraint_table,
         tracks,
-        choices,
-        second_choices,
-        text,
-    )
+    );
+    refusals::empty_choices(answer, choices);
+    refusals::empty_choices(answer, second_choices);
+    acceptance::empty_text(answer, text);
+    merged
 }

@@ -1,12 +1,8 @@
 // All four files are read, and the solution is judged.
-ghost use Rattle.tables_lent.specs.Lent.{given, before, after};
-ghost use Rattle.checker.specs.Checks.{Checks};
-use checker_after::refusals;
-use rules::answers::Answer;
-
-pub struct Checked {
-    pub answer: Answer,
-}
+ghost use Rattle.rules.specs.Lent.{given, before, after};
+ghost use Rattle.rules.specs.Promises.{Checks};
+use rules::outcomes::Checked;
+use tables_lent::refusals;
 
 pub fn check(
     h: u32,

@@ -1,6 +1,6 @@
-// What follows the files, shared by the check and the energies: a solution is chosen from, and judged.
+// What `check` and `energy` share: the files are read, then a solution, and it is judged. It promises its answer always, and the tables where nothing is refused.
 ghost use mathlib.Core.Path.{_≡_};
-ghost use Rattle.tables_lent.specs.Lent.{given, before, after};
+ghost use Rattle.rules.specs.Lent.{given, before, after};
 ghost use Rattle.checker_judge.specs.Promise.{ReadAndJudged};
 use rules::answers::Answer;
 use rules::answers::File;

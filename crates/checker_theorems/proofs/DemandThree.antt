@@ -7,16 +7,20 @@ use lib.Seq.{take-append-seam}
 use lib.IntN.{_+ℤ_}
 use borrow.Author.Tests.{le-leb}
 use Rattle.rules.specs.Limits.{configurationWidth}
-use Rattle.rules.specs.Lists.{over}
 use Rattle.rules.specs.Answers.{good, solutionFile}
+use Rattle.rules.specs.Lists.{over}
 use Rattle.rules.specs.Constraints.{ordered}
 use Rattle.rules.specs.Reading.{Texts, Files, filesOf}
 use Rattle.rules.specs.Verdict.{offered, Offered, accepted}
 use Rattle.rules.specs.Energy.{curvesOf}
-use Rattle.rules.specs.Merge.{zipped, earlier, later, SameTravel, chosen, textOf}
+use Rattle.rules.specs.Merge.{zipped, earlier, later, mergeOf, SameTravel, chosen, textOf}
 use Rattle.rules.specs.Entries.{Tables, roomsOf, verdictOf, Whole, allRead, checked, reported, merged}
+use Rattle.rules.specs.Promises.{Merges}
 use Rattle.rules.specs.declared.sizes.Configuration.{Configuration}
 use Rattle.rules.specs.declared.answers.Answer.the-variants.{Accepted}
+use Rattle.rules.specs.declared.outcomes.Merged.{Merged}
+use Rattle.rules.specs.declared.outcomes.Direction.{Direction}
+use Rattle.rules.specs.declared.outcomes.Direction.the-variants.{Earlier, Later}
 use Rattle.rules_theorems.specs.Demands.{TwoAccepted, MergedTo, HasRoom, DemandThree}
 use Rattle.rules_theorems.proofs.Tabulate.{tabulate-length}
 use Rattle.rules_theorems.proofs.Chosen.{offered-length}
@@ -26,8 +30,6 @@ use Rattle.rules_theorems.proofs.Verdicts.{verdict-accepted}
 use Rattle.rules_theorems.proofs.Merges.{travel-lengths, merge-verdicts, merge-travel, absorption}
 use Rattle.rules_theorems.proofs.DemandTwo.{answer-accepted, checked-answer}
 use Rattle.rules_theorems.proofs.DemandThree.{demand-three}
-use Rattle.merge.specs.declared.Merged.{Merged}
-use Rattle.merge.specs.Promise.{Merges}
 use Rattle.checker_theorems.specs.DemandThree.{Accepts, Wrote, BothWritten, Laid, CurvesAddUp, Absorbs, MergesHold}
 
 -- what an outcome that keeps a merge's promise wrote
@@ -38,15 +40,15 @@ module _ (H : ℕ) (x : Texts) (t : Tables) (c : List ℕ) (f : Files) where
       let w : Whole = record { files = f; choices = cs } in
       checked-answer H x e t₁ c₁ w (ap₂ (allRead H x e) rooms many ∙ read) ∙ sym (checked-answer H x e t c w read) ∙ said
 
-  wrote : (merge : List Configuration → List Configuration → List Configuration) (a b d text : List ℕ) (cs : List Configuration)
-      → MergedTo cs f H x t c (merged merge H x a b t c d text)
-      → {m : Merged} {t′ : Tables} {c′ d′ text′ : List ℕ} → Merges merge H x a b t c d text m t′ c′ d′ text′ → Wrote H x t c f cs m text′
-  wrote merge a b d text cs to {m} {text′ = text′} k =
-      let front : take (m .length) text′ ≡ take (merged merge H x a b t c d text .size) (merged merge H x a b t c d text .text) =
-      λ j. take (k .length-is j) (k .text-is j) in
+  wrote : (direction : Direction) (a b d text : List ℕ) (cs : List Configuration)
+      → MergedTo cs f H x t c (merged (mergeOf direction) H x a b t c d text)
+      → {m : Merged} {t′ : Tables} {c′ d′ text′ : List ℕ} → Merges direction H x a b t c d text m t′ c′ d′ text′ → Wrote H x t c f cs m text′
+  wrote direction a b d text cs to {m} {text′ = text′} k =
+      let front : take (m .length) text′ ≡ take (merged (mergeOf direction) H x a b t c d text .length) (merged (mergeOf direction) H x a b t c d text .text) =
+      λ j. take (k .length j) (k .text j) in
       let reads = ap (λ e. allRead H x e (roomsOf t) (length c)) front ∙ to .read in
       record {
-        accepted = k .answer-is ∙ to .answer;
+        accepted = k .answer ∙ to .answer;
         written = front ∙ to .written;
         reads-back = reads;
         check-accepts = λ {k} {t₁} {t₂} {c₁} {c₂} rooms many checks.
@@ -104,8 +106,8 @@ module _ (H : ℕ) (x : Texts) (t : Tables) (c d : List ℕ) (f : Files) where
     pub both-written : BothWritten H x a b t c d f s r
     both-written =
         record {
-          earlier-written = λ {m} {text} room k. wrote H x t c f earlier a b d text (earlier s r) (three text text .earlier-merge room) k;
-          later-written = λ {m} {text} room k. wrote H x t c f later a b d text (later s r) (three text text .later-merge room) k;
+          earlier-written = λ {m} {text} room k. wrote H x t c f Earlier a b d text (earlier s r) (three text text .earlier-merge room) k;
+          later-written = λ {m} {text} room k. wrote H x t c f Later a b d text (later s r) (three text text .later-merge room) k;
         }
 
     merges-fair : (verdictOf f (earlier s r) ≡ accepted) × (verdictOf f (later s r) ≡ accepted)
@@ -148,7 +150,7 @@ module _ (H : ℕ) (x : Texts) (t : Tables) (c d : List ℕ) (f : Files) where
           outcome = record { answer = checked H x e t d .answer };
           t′ = checked H x e t d .tables;
           c′ = checked H x e t d .choices;
-          keeps = record { answer = refl; tables = refl; choices = refl };
+          keeps = record { answer = refl; values = refl; tables = refl; choices = refl };
           accepts = checked-answer H x e t d w reads ∙ answer-accepted solutionFile (verdictOf f q) .1 v;
           reads = reads;
         }
@@ -168,10 +170,10 @@ module _ (H : ℕ) (x : Texts) (t : Tables) (c d : List ℕ) (f : Files) where
               subst (λ cs. Wrote H x t c f cs m text′) (back .1) (inner-earlier .later-written (subst (λ cs. HasRoom f cs text) (sym (back .1)) room) k);
         }
 
-    -- THE DEMAND, of any outcomes of the two merges that keep their promises
+    -- THE DEMAND, of any outcomes of `merge` in the two directions that keep its promise
     module _ {m n : Merged} {text₁ text₂ : List ℕ} {t₁ t₂ : Tables} {c₁ c₂ d₁ d₂ e l : List ℕ}
-        (room₁ : HasRoom f (earlier s r) text₁) (k₁ : Merges earlier H x a b t c d text₁ m t₁ c₁ d₁ e)
-        (room₂ : HasRoom f (later s r) text₂) (k₂ : Merges later H x a b t c d text₂ n t₂ c₂ d₂ l) where
+        (room₁ : HasRoom f (earlier s r) text₁) (k₁ : Merges Earlier H x a b t c d text₁ m t₁ c₁ d₁ e)
+        (room₂ : HasRoom f (later s r) text₂) (k₂ : Merges Later H x a b t c d text₂ n t₂ c₂ d₂ l) where
       pub merges-hold : MergesHold H x a b t c d f s r m e n l
       merges-hold =
           let one-wrote = both-written a b s r one two same .earlier-written room₁ k₁ in

@@ -8,15 +8,14 @@ use Rattle.rules.specs.Answers.{good}
 use Rattle.rules.specs.Reading.{Texts, Files}
 use Rattle.rules.specs.Merge.{zipped, earlier, later, chosen, textOf}
 use Rattle.rules.specs.Entries.{Tables, roomsOf, allRead}
+use Rattle.rules.specs.Promises.{Checks, Reports, Merges}
 use Rattle.rules.specs.declared.sizes.Configuration.{Configuration}
 use Rattle.rules.specs.declared.answers.Answer.the-variants.{Accepted}
+use Rattle.rules.specs.declared.outcomes.Checked.{Checked}
+use Rattle.rules.specs.declared.outcomes.Report.{Report}
+use Rattle.rules.specs.declared.outcomes.Merged.{Merged}
+use Rattle.rules.specs.declared.outcomes.Direction.the-variants.{Earlier, Later}
 use Rattle.rules_theorems.specs.Demands.{HasRoom}
-use Rattle.merge.specs.declared.Merged.{Merged}
-use Rattle.merge.specs.Promise.{Merges}
-use Rattle.energy_report.specs.declared.Report.{Report}
-use Rattle.checker.specs.declared.verdicts.Checked.{Checked}
-use Rattle.checker.specs.Checks.{Checks}
-use Rattle.checker.specs.Reports.{Reports}
 
 -- `check` accepts a solution: f is what the files say, cs are its choices
 pub record Accepts (H : ℕ) (x : Texts) (solution : List ℕ) (t : Tables) (c : List ℕ) (f : Files) (cs : List Configuration) : Type 0 where
@@ -50,9 +49,9 @@ module _ (H : ℕ) (x : Texts) (a b : List ℕ) (t : Tables) (c d : List ℕ) (f
   -- "both are written and accepted"
   pub record BothWritten : Type 0 where
     pub earlier-written : {m : Merged} {text : List ℕ} {t′ : Tables} {c′ d′ text′ : List ℕ} → HasRoom f (earlier s r) text
-        → Merges earlier H x a b t c d text m t′ c′ d′ text′ → Wrote H x t c f (earlier s r) m text′
+        → Merges Earlier H x a b t c d text m t′ c′ d′ text′ → Wrote H x t c f (earlier s r) m text′
     pub later-written : {m : Merged} {text : List ℕ} {t′ : Tables} {c′ d′ text′ : List ℕ} → HasRoom f (later s r) text
-        → Merges later H x a b t c d text m t′ c′ d′ text′ → Wrote H x t c f (later s r) m text′
+        → Merges Later H x a b t c d text m t′ c′ d′ text′ → Wrote H x t c f (later s r) m text′
 
   -- the seconds of all subnets, as a report lays their curves
   abbrev pub front : List ℤ → List ℤ
@@ -69,11 +68,11 @@ module _ (H : ℕ) (x : Texts) (a b : List ℕ) (t : Tables) (c d : List ℕ) (f
   -- "Merging A earlier with (A later with B) gives A's choices; so does A later with (A earlier with B)": l and e are the inner texts
   pub record Absorbs (e l : List ℕ) : Type 0 where
     pub earlier-absorbs : {m : Merged} {text : List ℕ} {t′ : Tables} {c′ d′ text′ : List ℕ} → HasRoom f s text
-        → Merges earlier H x a l t c d text m t′ c′ d′ text′ → Wrote H x t c f s m text′
+        → Merges Earlier H x a l t c d text m t′ c′ d′ text′ → Wrote H x t c f s m text′
     pub later-absorbs : {m : Merged} {text : List ℕ} {t′ : Tables} {c′ d′ text′ : List ℕ} → HasRoom f s text
-        → Merges later H x a e t c d text m t′ c′ d′ text′ → Wrote H x t c f s m text′
+        → Merges Later H x a e t c d text m t′ c′ d′ text′ → Wrote H x t c f s m text′
 
-  -- DEMAND 3: m and n are what `merge_earlier` and `merge_later` answered, e and l what they left in the text buffers
+  -- DEMAND 3: m and n are what `merge` gave back in each direction, e and l what it left in the text buffers
   pub record MergesHold (m : Merged) (e : List ℕ) (n : Merged) (l : List ℕ) : Type 0 where
     pub earlier-wrote : Wrote H x t c f (earlier s r) m e
     pub later-wrote : Wrote H x t c f (later s r) n l

@@ -1,1 +1,1 @@
-// The theorem that no single entry promises: demand 3, of any outcomes of several of them. The statement stands in ../specs, the theorem in ../proofs.
+// The person's three demands as theorems about any outcomes of the entries that keep their promises. The statements stand in ../specs, the theorems in ../proofs; nothing calls them.

@@ -1,4 +1,4 @@
-// constraints.json read into its two tables.
+// constraints.json read into its two tables, in one walk over its tokens, or two where its lists are not in the table's order. `files` reads it.
 ghost use Prim.Native.Nat.{_≤_};
 ghost use Rattle.rules.specs.Limits.{legWidth, mostLegs};
 ghost use Rattle.tables_ids.specs.Column.{Records};

@@ -1,4 +1,4 @@
-// What a token does in a phase: the table of ../../rules/specs/Constraints.antt, row by row.
+// What a token does in a phase: the table of ../../rules/specs/Constraints.antt, row by row. `constraints_turn` asks it of every token.
 ghost use mathlib.Core.Path.{_≡_};
 ghost use mathlib.Core.Bool.{cond};
 ghost use mathlib.Core.List.{[], _∷_};

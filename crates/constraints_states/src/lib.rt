@@ -1,4 +1,4 @@
-// What a token of constraints.json leads to, and how much has been read.
+// What a token of constraints.json leads to, and how much has been read: the state of the walk, by value.
 ghost use mathlib.Core.Path.{_≡_};
 ghost use Prim.Native.Nat.{_/_};
 ghost use Rattle.rules.specs.Limits.{constraintWidth, trackWidth};

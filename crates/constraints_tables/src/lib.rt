@@ -1,4 +1,4 @@
-// Entries written into the lent tables. What has no room there is not written.
+// Entries of constraints.json written into the lent tables, each at its kind's place. What has no room there is not written.
 ghost use mathlib.Core.Path.{_≡_};
 ghost use mathlib.Core.Bool.{true, cond};
 ghost use mathlib.Core.List.{[], _∷_};

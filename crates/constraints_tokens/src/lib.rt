@@ -1,4 +1,4 @@
-// The next token of constraints.json, and in `names` what its word may name. ../../rules/specs/Tokens.antt says what a token is.
+// The next token of constraints.json, and in `names` what its word may name. ../../rules/specs/Tokens.antt says what a token is. The walk of `constraints` takes one after the other.
 ghost use mathlib.Core.Path.{_≡_};
 ghost use mathlib.Core.Bool.{true};
 ghost use Prim.Native.Nat.{_+_, _≤_, _<_};

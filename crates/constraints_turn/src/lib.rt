@@ -1,4 +1,4 @@
-// A token of constraints.json: its action, and what that leads to.
+// A token of constraints.json: its action, and what that leads to. One turn is one step of the walk in `constraints`.
 ghost use mathlib.Core.Path.{_≡_};
 ghost use Rattle.rules.specs.Limits.{legWidth};
 ghost use Rattle.rules.specs.Constraints.{Document, turnOf};

@@ -30,7 +30,7 @@ use Rattle.energy_parts.specs.Parts.{sidesOf}
 use Rattle.energy_parts.specs.Quarters.{drawnBy, withRun, RunRoom}
 use Rattle.energy_figures.specs.declared.before.Before.{Before}
 use Rattle.energy_parts.specs.declared.sides.Sides.{Sides}
-use Rattle.energy_windows.proofs.Adding.{all-within}
+use Rattle.energy_curves.proofs.Adding.{all-within}
 use Rattle.energy_parts.proofs.QuarterSteps.{sum-most}
 use Rattle.energy_parts.proofs.QuarterSums.{sums-none, sums-with, sums-small}
 use Rattle.energy_figures.proofs.LegSteps.{part-is, leg-powered, leg-fits, few-legs}

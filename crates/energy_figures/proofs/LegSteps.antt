@@ -25,8 +25,8 @@ use Rattle.rules_theorems.proofs.Tabulate.{tabulate-length}
 use Rattle.energy_parts.specs.Seen.{profileOr, profileSeen, samplesSeen, homeIn}
 use Rattle.energy_figures.specs.Given.{Runs, Given, sampled, ReadableRuns}
 use Rattle.energy_figures.specs.Legs.{Laying, laidLeg}
-use Rattle.energy_windows.specs.Room.{HomeRoom}
-use Rattle.energy_windows.proofs.Homes.{home-back}
+use Rattle.energy_curves.specs.Room.{HomeRoom}
+use Rattle.energy_curves.proofs.Homes.{home-back}
 
 -- ---- of each element, of one
 

@@ -5,9 +5,10 @@ ghost use lib.ListN.{length};
 ghost use Rattle.rules.specs.Lists.{over};
 ghost use Rattle.energy_figures.specs.Given.{given, curvesSeen, Readable};
 ghost use Rattle.energy_figures.specs.Legs.{Laying, laidLeg, laidLegs};
+use energy_curves::windows;
+use energy_curves::windows::Window;
 use energy_parts::runs;
 use energy_parts::runs::Counts;
-use energy_windows::Window;
 
 // Leg `i`.
 fn lay_leg(
@@ -31,7 +32,7 @@ fn lay_leg(
     let profile = runs::profile_of(profiles, counts.profiles, choice.profile);
     let first = profile.first as usize;
     let last = first + profile.count as usize;
-    energy_windows::lay_home(
+    windows::lay_home(
         table,
         w,
         counts.subnets,
@@ -89,7 +90,7 @@ fn lay_whole(
     requires { ⌜ Readable h (given counts (now choices) (now legs) (now profiles) (now samples) (now tracks)) × (w .from + w .size ≤ h) × (length (now table) ≡ counts .subnets * w .size) ⌝ }
     ensures { λ _. ⌜ now (table .exit) ≡ curvesSeen (w .from) (w .size) (given counts (now (choices .entry)) (now (legs .entry)) (now (profiles .entry)) (now (samples .entry)) (now (tracks .entry))) ⌝ }
 {
-    energy_windows::clear(table);
+    windows::clear(table);
     lay_legs(
         table,
         h,

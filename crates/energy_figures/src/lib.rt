@@ -1,14 +1,15 @@
-// The figures of an accepted solution: its curves, and what is worked out of them.
+// The figures of an accepted solution: its curves, and what is worked out of them. `energy_report` asks for them after acceptance.
 ghost use mathlib.Core.Path.{_≡_};
 ghost use Prim.Native.Nat.{_*_, _≤_};
 ghost use lib.ListN.{length};
 ghost use Rattle.energy_figures.specs.Given as tables;
 ghost use Rattle.energy_curves.specs.Curves.{CurveTable};
 ghost use Rattle.energy_figures.specs.Worked.{Worked, figuresIn};
+use energy_curves::sums;
+use energy_curves::windows::Window;
 use energy_parts::quarters;
 use energy_parts::runs::Counts;
 use energy_parts::sides;
-use energy_windows::Window;
 use rules::figures::Figures;
 use rules::figures::Peaks;
 
@@ -31,8 +32,8 @@ fn figures(
     let legs = before::add_legs(h, counts, choices, profiles, samples);
     let legs_quarters = legs.quarters;
     let subnets = sides::sides_of(curves);
-    let subnets_quarters = energy_curves::drawn_quarters(curves, n, h);
-    let fluctuation = energy_curves::fluctuation(curves, n, h);
+    let subnets_quarters = sums::drawn_quarters(curves, n, h);
+    let fluctuation = sums::fluctuation(curves, n, h);
     let before_peak = quarters::greatest_of(legs_quarters);
     let drawn_peak = quarters::greatest_of(subnets_quarters);
     Figures {

@@ -10,18 +10,19 @@ use native.Mathlib.Nat.{mul-le-mul}
 use lib.ListN.{length}
 use lib.IntN.{ℤ}
 use Rattle.rules.specs.Limits.{profileWidth, trackWidth, mostSubnets, mostHorizon}
-use Rattle.rules.specs.Lists.{over}
-use Rattle.rules.specs.Energy.{figuresOf, curvesOf, deskOf}
 use Rattle.rules.specs.Answers.{refusal, noRoom, noFile, good, solutionFile}
-use Rattle.rules.specs.Reading.{legIds, filesOf}
+use Rattle.rules.specs.Lists.{over}
 use Rattle.rules.specs.Profiles.{profilesFrom, profileNumbers}
 use Rattle.rules.specs.Constraints.{trackNumbers}
+use Rattle.rules.specs.Reading.{legIds, filesOf}
+use Rattle.rules.specs.Energy.{figuresOf, curvesOf, deskOf}
 use Rattle.rules.specs.Entries.{roomsOf, Whole}
-use Rattle.rules.specs.declared.figures.Figures.{Figures}
-use Rattle.rules.specs.declared.figures.Desk.{Desk}
 use Rattle.rules.specs.declared.answers.Refusal.{Refusal}
 use Rattle.rules.specs.declared.answers.Answer.{Answer}
 use Rattle.rules.specs.declared.answers.Answer.the-variants.{Accepted, Refused}
+use Rattle.rules.specs.declared.figures.Figures.{Figures}
+use Rattle.rules.specs.declared.figures.Desk.{Desk}
+use Rattle.rules.specs.declared.outcomes.Report.{Report}
 use Rattle.tables_ids.specs.Column.{Records, Rising}
 use Rattle.tables_ids.proofs.Curves.{profiles-length}
 use Rattle.files_tests.proofs.Holding.{front-records}
@@ -35,7 +36,6 @@ use Rattle.energy_figures.specs.Given.{given, curvesSeen, Readable}
 use Rattle.energy_figures.specs.Worked.{figuresSeen, Worked}
 use Rattle.energy_figures.proofs.Reading.{Counted, read as read-tables, curves-read, figures-read, reading-readable, figures-exact}
 use Rattle.tables_lent.specs.declared as filed
-use Rattle.energy_report.specs.declared.Report.{Report}
 use Rattle.energy_report.specs.Promise.{noReport}
 use Rattle.energy_report.specs.Left.{Left, Risen, Roomy, WorkedOut, Tested}
 

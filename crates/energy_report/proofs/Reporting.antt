@@ -13,10 +13,10 @@ use Rattle.rules.specs.Verdict.{accepted}
 use Rattle.rules.specs.Entries.{Tables, roomsOf, verdictOf, Whole, allRead, checkedFrom, checked, Reported, reportAccepted, reported}
 use Rattle.rules.specs.declared.answers.Answer.{Answer}
 use Rattle.rules.specs.declared.answers.Answer.the-variants.{Accepted, Violated, Refused}
+use Rattle.rules.specs.declared.outcomes.Report.{Report}
 use Rattle.rules_theorems.proofs.DemandTwo.{accepted-read}
 use Rattle.checker_judge.specs.declared.Judged.{Judged}
 use Rattle.checker_judge.specs.Promise.{ReadAndJudged}
-use Rattle.energy_report.specs.declared.Report.{Report}
 use Rattle.energy_report.specs.Promise.{noReport, ReportRead}
 use Rattle.energy_report.specs.Left.{Left, Tested, Tests}
 use Rattle.energy_report.proofs.Cases.{Short, report-short, report-fits}

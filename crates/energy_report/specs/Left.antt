@@ -7,18 +7,18 @@ use lib.Dec.{leb}
 use lib.ListN.{length}
 use lib.IntN.{ℤ}
 use Rattle.rules.specs.Limits.{profileWidth, trackWidth}
-use Rattle.rules.specs.Lists.{over}
 use Rattle.rules.specs.Answers.{good, isAccepted}
+use Rattle.rules.specs.Lists.{over}
 use Rattle.rules.specs.Reading.{Texts}
 use Rattle.rules.specs.Verdict.{accepted}
 use Rattle.rules.specs.Energy.{figuresOf, curvesOf, deskOf}
 use Rattle.rules.specs.Entries.{Tables, roomsOf, writtenTables, writtenChoices, verdictOf, Whole, allRead, reportAccepted}
 use Rattle.rules.specs.declared.answers.Answer.the-variants.{Accepted}
+use Rattle.rules.specs.declared.outcomes.Report.{Report}
 use Rattle.tables_ids.specs.Column.{Rising}
 use Rattle.energy_parts.specs.declared.runs.Counts.{Counts}
 use Rattle.tables_lent.specs.Filing.{countsOf}
 use Rattle.tables_lent.specs.declared as filed
-use Rattle.energy_report.specs.declared.Report.{Report}
 
 -- an accepted solution, and the tables with what was read at their front
 pub record Left (H : ℕ) (counts : filed.Counts.Counts) (choices legs profiles : List ℕ) (samples : List ℤ) (tracks : List ℕ) : Type 0 where

@@ -10,7 +10,7 @@ use Rattle.rules.specs.Reading.{Texts}
 use Rattle.rules.specs.Energy.{deskOf}
 use Rattle.rules.specs.Entries.{Tables, noFigures, reported}
 use Rattle.rules.specs.declared.answers.Answer.{Answer}
-use Rattle.energy_report.specs.declared.Report.{Report}
+use Rattle.rules.specs.declared.outcomes.Report.{Report}
 
 -- an answer short of acceptance: all figures are 0
 abbrev pub noReport : Answer → Report

@@ -1,22 +1,16 @@
-// The energies of texts that are read and judged: figures for accepted solutions only.
+// The whole of an energy report but the filling: files, a solution, its verdict, and figures for an accepted one alone. The entry `energy` is made of it.
 ghost use mathlib.Core.Path.{_≡_};
-ghost use Rattle.tables_lent.specs.Lent.{given, before, after};
+ghost use Rattle.rules.specs.Lent.{given, before, after};
 ghost use Rattle.energy_report.specs.Promise.{noReport, ReportRead};
-use checker_after::acceptance;
 use energy_parts::desk;
 use rules::answers::Answer;
-use rules::figures::Desk;
 use rules::figures::Figures;
 use rules::figures::Peak;
 use rules::figures::Peaks;
+use rules::outcomes::Report;
+use tables_lent::acceptance;
 
 pub mod working; // an accepted solution
-
-pub struct Report {
-    pub answer: Answer,
-    pub figures: Figures,
-    pub desk: Desk,
-}
 
 // Short of acceptance all figures are 0.
 pub fn no_report(answer: Answer) -> Report

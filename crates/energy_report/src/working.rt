@@ -2,7 +2,6 @@
 ghost use Rattle.tables_ids.specs.Column.{Records};
 ghost use Rattle.rules.specs.Limits.{profileWidth, trackWidth};
 ghost use Rattle.energy_report.specs.Left.{Left, Roomy, Risen, Works, Tests};
-use crate::Report;
 use crate::no_report;
 use energy_parts::desk;
 use energy_parts::runs::Counts;
@@ -10,6 +9,7 @@ use energy_parts::runs::Entries;
 use rules::answers::Answer;
 use rules::answers::File;
 use rules::answers::Refusal;
+use rules::outcomes::Report;
 use rules::sizes::Profile;
 use rules::sizes::Track;
 

@@ -1,4 +1,4 @@
-// What stands above zero.
+// What of a number stands above zero. Sums are cut at zero by it, and the small program tells a fluctuation's sign by it.
 ghost use mathlib.Core.Path.{_≡_};
 ghost use Rattle.rules.specs.Energy as energy;
 

@@ -1,25 +1,30 @@
 -- The numbers that an export tells are those of the definition's answer. Assumes nothing.
 use Prim.Native.Nat.{ℕ}
-use mathlib.Core.Path.{_≡_, ap, _∙_}
-use mathlib.Core.List.{List, [], _∷_}
+use mathlib.Core.Path.{_≡_, _∙_}
+use mathlib.Core.List.{List}
 use lib.IntN.{ℤ}
 use Rattle.rules.specs.Reading.{Texts}
-use Rattle.rules.specs.Entries.{Tables, Reported, checked, reported, merged}
-use Rattle.rules.specs.declared.sizes.Configuration.{Configuration}
-use Rattle.merge.specs.Promise.{Merges}
-use Rattle.checker.specs.Checks.{Checks}
-use Rattle.checker.specs.Reports.{Reports}
-use Rattle.exports_numbers.specs.Numbers.{acceptedNumbers, answerNumbers, checkNumbers, reportNumbers, mergeNumbers}
-use Rattle.exports.specs.Exported.{Exported}
+use Rattle.rules.specs.Merge.{mergeOf}
+use Rattle.rules.specs.Entries.{Tables, Checked, Reported, Merged, checked, reported, merged}
+use Rattle.rules.specs.Promises.{Checks, Reports, Merges}
+use Rattle.rules.specs.declared.outcomes.Direction.{Direction}
+use Rattle.exports_numbers.specs.Numbers.{checkNumbers, reportNumbers, mergeNumbers}
+use Rattle.exports_numbers.specs.Exported.{Exported}
 
--- what the definition's report is in numbers
+-- what the definition's outcomes are in numbers
+abbrev pub checkedNumbers : Checked → List ℕ
+checkedNumbers r = checkNumbers (record { answer = r .answer })
+
 abbrev pub reportedNumbers : Reported → List ℕ
 reportedNumbers r = reportNumbers (record { answer = r .answer; figures = r .figures; desk = r .desk })
 
+abbrev pub mergedNumbers : Merged → List ℕ
+mergedNumbers r = mergeNumbers (record { answer = r .answer; length = r .length })
+
 module _ (H : ℕ) (x : Texts) (s : List ℕ) (t : Tables) (c : List ℕ) where
   pub check-tells : {n : List ℕ} {t′ : Tables} {c′ : List ℕ} → Exported (λ r. Checks H x s t c r t′ c′) checkNumbers n
-      → n ≡ answerNumbers (acceptedNumbers []) (checked H x s t c .answer)
-  check-tells e = e .tells ∙ ap (answerNumbers (acceptedNumbers [])) (e .keeps .answer)
+      → n ≡ checkedNumbers (checked H x s t c)
+  check-tells e = e .tells ∙ (λ j. checkNumbers (record { answer = e .keeps .answer j }))
 
   pub energy-tells : (p : List ℤ) {n : List ℕ} {t′ : Tables} {c′ : List ℕ} {p′ : List ℤ} → Exported (λ r. Reports H x s t c p r t′ c′ p′) reportNumbers n
       → n ≡ reportedNumbers (reported H x s t c p)
@@ -27,7 +32,7 @@ module _ (H : ℕ) (x : Texts) (s : List ℕ) (t : Tables) (c : List ℕ) where
       e .tells
       ∙ (λ j. reportNumbers (record { answer = e .keeps .answer j; figures = e .keeps .figures j; desk = e .keeps .desk j }))
 
-module _ (merge : List Configuration → List Configuration → List Configuration) (H : ℕ) (x : Texts) (a b : List ℕ) (t : Tables) (c d text : List ℕ) where
-  pub merge-tells : {n : List ℕ} {t′ : Tables} {c′ d′ text′ : List ℕ} → Exported (λ r. Merges merge H x a b t c d text r t′ c′ d′ text′) mergeNumbers n
-      → n ≡ answerNumbers (acceptedNumbers (merged merge H x a b t c d text .size ∷ [])) (merged merge H x a b t c d text .answer)
-  merge-tells e = e .tells ∙ (λ j. answerNumbers (acceptedNumbers (e .keeps .length-is j ∷ [])) (e .keeps .answer-is j))
+module _ (direction : Direction) (H : ℕ) (x : Texts) (a b : List ℕ) (t : Tables) (c d w : List ℕ) where
+  pub merge-tells : {n : List ℕ} {t′ : Tables} {c′ d′ w′ : List ℕ} → Exported (λ r. Merges direction H x a b t c d w r t′ c′ d′ w′) mergeNumbers n
+      → n ≡ mergedNumbers (merged (mergeOf direction) H x a b t c d w)
+  merge-tells e = e .tells ∙ (λ j. mergeNumbers (record { answer = e .keeps .answer j; length = e .keeps .length j }))

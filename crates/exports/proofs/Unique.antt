@@ -7,13 +7,11 @@ use lib.ListN.{length}
 use Rattle.rules.specs.Reading.{Texts}
 use Rattle.rules.specs.Display.{rowAt}
 use Rattle.rules.specs.Entries.{Tables}
-use Rattle.rules.specs.declared.sizes.Configuration.{Configuration}
-use Rattle.merge.specs.Promise.{Merges}
-use Rattle.checker.specs.Checks.{Checks}
-use Rattle.checker.specs.Reports.{Reports}
+use Rattle.rules.specs.Promises.{Checks, Reports, Merges}
+use Rattle.rules.specs.declared.outcomes.Direction.{Direction}
 use Rattle.checker.proofs.Unique.{check-unique, energy-unique, merge-unique}
 use Rattle.exports_numbers.specs.Numbers.{checkNumbers, reportNumbers, mergeNumbers, rowNumbers}
-use Rattle.exports.specs.Exported.{Exported}
+use Rattle.exports_numbers.specs.Exported.{Exported}
 use Rattle.csv_lines.specs.Starts.{startAt}
 
 -- one outcome gives one list of numbers
@@ -29,10 +27,10 @@ module _ (H : ℕ) (x : Texts) (s : List ℕ) (t : Tables) (c : List ℕ) where
       → Exported (λ r. Reports H x s t c p r t₂ c₂ p₂) reportNumbers n₂ → (n₁ ≡ n₂) × (t₁ ≡ t₂) × (c₁ ≡ c₂) × (p₁ ≡ p₂)
   energy-export-unique a b = let one = energy-unique H x s t c (a .keeps) (b .keeps) in (one-told a b (one .0), one .1, one .2, one .3)
 
-module _ (merge : List Configuration → List Configuration → List Configuration) (H : ℕ) (x : Texts) (a b : List ℕ) (t : Tables) (c d text : List ℕ) where
-  pub merge-export-unique : {n₁ n₂ : List ℕ} {t₁ t₂ : Tables} {c₁ c₂ d₁ d₂ text₁ text₂ : List ℕ} → Exported (λ r. Merges merge H x a b t c d text r t₁ c₁ d₁ text₁) mergeNumbers n₁
-      → Exported (λ r. Merges merge H x a b t c d text r t₂ c₂ d₂ text₂) mergeNumbers n₂ → (n₁ ≡ n₂) × (t₁ ≡ t₂) × (c₁ ≡ c₂) × (d₁ ≡ d₂) × (text₁ ≡ text₂)
-  merge-export-unique p q = let one = merge-unique merge H x a b t c d text (p .keeps) (q .keeps) in (one-told p q (one .0), one .1, one .2, one .3, one .4)
+module _ (direction : Direction) (H : ℕ) (x : Texts) (a b : List ℕ) (t : Tables) (c d w : List ℕ) where
+  pub merge-export-unique : {n₁ n₂ : List ℕ} {t₁ t₂ : Tables} {c₁ c₂ d₁ d₂ w₁ w₂ : List ℕ} → Exported (λ r. Merges direction H x a b t c d w r t₁ c₁ d₁ w₁) mergeNumbers n₁
+      → Exported (λ r. Merges direction H x a b t c d w r t₂ c₂ d₂ w₂) mergeNumbers n₂ → (n₁ ≡ n₂) × (t₁ ≡ t₂) × (c₁ ≡ c₂) × (d₁ ≡ d₂) × (w₁ ≡ w₂)
+  merge-export-unique p q = let one = merge-unique direction H x a b t c d w (p .keeps) (q .keeps) in (one-told p q (one .0), one .1, one .2, one .3, one .4)
 
 module _ (draft solution : List ℕ) (file place : ℕ) where
   abbrev told : List ℕ

@@ -4,6 +4,7 @@ ghost use lib.ListN.{length};
 ghost use Rattle.rules.specs.Display.{rowAt};
 ghost use Rattle.csv_lines.specs.Starts.{startAt};
 ghost use Rattle.exports_numbers.specs.Numbers.{rowNumbers};
+use csv_lines::rows;
 use exports_numbers::Numbers;
 use exports_numbers::answers;
 
@@ -17,7 +18,7 @@ pub extern "C" fn wagontulip_row<'a>(
 )
     ensures { λ _. ⌜ now (answer .exit) ≡ rowNumbers (startAt (now (draft .entry)) (now (solution .entry)) file place) (length (rowAt (now (draft .entry)) (now (solution .entry)) file place)) ⌝ }
 {
-    let start = csv_lines::start_at(draft, solution, file, place);
-    let row = csv_lines::row_at(draft, solution, file, place);
+    let start = rows::start_at(draft, solution, file, place);
+    let row = rows::row_at(draft, solution, file, place);
     *answer = answers::of_row(start, row.len());
 }

@@ -1,8 +1,8 @@
 // `energy` for C.
-ghost use Rattle.tables_lent.specs.Lent.{given, before, after};
-ghost use Rattle.checker.specs.Reports.{Reports};
+ghost use Rattle.rules.specs.Lent.{given, before, after};
+ghost use Rattle.rules.specs.Promises.{Reports};
 ghost use Rattle.exports_numbers.specs.Numbers.{reportNumbers};
-ghost use Rattle.exports.specs.Exported.{Exported};
+ghost use Rattle.exports_numbers.specs.Exported.{Exported};
 use checker::energies;
 use exports_numbers::Numbers;
 use exports_numbers::figures;

@@ -1,12 +1,58 @@
-// The two merges for C.
-ghost use Rattle.rules.specs.Merge.{earlier, later};
-ghost use Rattle.tables_lent.specs.Lent.{given, before, after};
-ghost use Rattle.merge.specs.Promise.{Merges};
+// The two merges for C, which has no `Direction`: a name for each, over one function.
+ghost use Rattle.rules.specs.Lent.{given, before, after};
+ghost use Rattle.rules.specs.Promises.{Merges};
+ghost use Rattle.rules.specs.declared.outcomes.Direction.the-variants.{Earlier, Later};
 ghost use Rattle.exports_numbers.specs.Numbers.{mergeNumbers};
-ghost use Rattle.exports.specs.Exported.{Exported};
+ghost use Rattle.exports_numbers.specs.Exported.{Exported};
 use checker::merges;
 use exports_numbers::Numbers;
 use exports_numbers::answers;
+use rules::outcomes::Direction;
+
+// The entry, its answer told in numbers. Both names call this.
+fn tell_merge(
+    direction: Direction,
+    h: u32,
+    timetable: &[u8],
+    profiles: &[u8],
+    constraints: &[u8],
+    first: &[u8],
+    second: &[u8],
+    legs: &mut [u32],
+    configurations: &mut [u32],
+    profile_table: &mut [u32],
+    samples: &mut [i32],
+    constraint_table: &mut [u32],
+    tracks: &mut [u32],
+    choices: &mut [u32],
+    second_choices: &mut [u32],
+    text: &mut [u8],
+    answer: &mut Numbers,
+)
+    ensures { λ _. ⌜ Exported (λ r. Merges direction h (given timetable profiles constraints) (now (first .entry)) (now (second .entry))
+        (before legs configurations «profile_table» samples «constraint_table» tracks) (now (choices .entry)) (now («second_choices» .entry)) (now (text .entry))
+        r (after legs configurations «profile_table» samples «constraint_table» tracks) (now (choices .exit)) (now («second_choices» .exit)) (now (text .exit))) mergeNumbers (now (answer .exit)) ⌝ }
+{
+    let merged = merges::merge(
+        direction,
+        h,
+        timetable,
+        profiles,
+        constraints,
+        first,
+        second,
+        legs,
+        configurations,
+        profile_table,
+        samples,
+        constraint_table,
+        tracks,
+        choices,
+        second_choices,
+        text,
+    );
+    *answer = answers::of_merge(merged);
+}
 
 #[no_mangle]
 pub extern "C" fn wagontulip_merge_earlier(
@@ -27,11 +73,12 @@ pub extern "C" fn wagontulip_merge_earlier(
     text: &mut [u8],
     answer: &mut Numbers,
 )
-    ensures { λ _. ⌜ Exported (λ r. Merges earlier h (given timetable profiles constraints) (now (first .entry)) (now (second .entry))
+    ensures { λ _. ⌜ Exported (λ r. Merges Earlier h (given timetable profiles constraints) (now (first .entry)) (now (second .entry))
         (before legs configurations «profile_table» samples «constraint_table» tracks) (now (choices .entry)) (now («second_choices» .entry)) (now (text .entry))
         r (after legs configurations «profile_table» samples «constraint_table» tracks) (now (choices .exit)) (now («second_choices» .exit)) (now (text .exit))) mergeNumbers (now (answer .exit)) ⌝ }
 {
-    let merged = merges::merge_earlier(
+    tell_merge(
+        Direction::Earlier,
         h,
         timetable,
         profiles,
@@ -47,8 +94,8 @@ pub extern "C" fn wagontulip_merge_earlier(
         choices,
         second_choices,
         text,
+        answer,
     );
-    *answer = answers::of_merge(merged);
 }
 
 #[no_mangle]
@@ -70,11 +117,12 @@ pub extern "C" fn wagontulip_merge_later(
     text: &mut [u8],
     answer: &mut Numbers,
 )
-    ensures { λ _. ⌜ Exported (λ r. Merges later h (given timetable profiles constraints) (now (first .entry)) (now (second .entry))
+    ensures { λ _. ⌜ Exported (λ r. Merges Later h (given timetable profiles constraints) (now (first .entry)) (now (second .entry))
         (before legs configurations «profile_table» samples «constraint_table» tracks) (now (choices .entry)) (now («second_choices» .entry)) (now (text .entry))
         r (after legs configurations «profile_table» samples «constraint_table» tracks) (now (choices .exit)) (now («second_choices» .exit)) (now (text .exit))) mergeNumbers (now (answer .exit)) ⌝ }
 {
-    let merged = merges::merge_later(
+    tell_merge(
+        Direction::Later,
         h,
         timetable,
         profiles,
@@ -90,6 +138,6 @@ pub extern "C" fn wagontulip_merge_later(
         choices,
         second_choices,
         text,
+        answer,
     );
-    *answer = answers::of_merge(merged);
 }

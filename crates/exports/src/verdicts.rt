@@ -1,8 +1,8 @@
 // `check` for C.
-ghost use Rattle.tables_lent.specs.Lent.{given, before, after};
-ghost use Rattle.checker.specs.Checks.{Checks};
+ghost use Rattle.rules.specs.Lent.{given, before, after};
+ghost use Rattle.rules.specs.Promises.{Checks};
 ghost use Rattle.exports_numbers.specs.Numbers.{checkNumbers};
-ghost use Rattle.exports.specs.Exported.{Exported};
+ghost use Rattle.exports_numbers.specs.Exported.{Exported};
 use checker::verdicts;
 use exports_numbers::Numbers;
 use exports_numbers::answers;

@@ -7,7 +7,7 @@ use mir.Val.{SFits, toZ, ofZ}
 use mir.Facts.{toZ-ofZ}
 use Rattle.energy_parts.specs.declared.desk.Bits.{Bits}
 use Rattle.energy_parts.specs.Bits.{bitsOf}
-use Rattle.energy_report.specs.declared.Report.{Report}
+use Rattle.rules.specs.declared.outcomes.Report.{Report}
 use Rattle.exports_numbers.specs.Numbers.{acceptedNumbers, energyNumbers, answerNumbers, reportNumbers}
 
 -- the code reads the fluctuation back from its bits

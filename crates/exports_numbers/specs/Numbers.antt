@@ -5,16 +5,16 @@ use lib.ListN.{replicate}
 use mir.Syntax.{w64}
 use mir.Val.{ofZ}
 use Rattle.rules.specs.Limits.{mostHorizon, mostText, mostLegs, legWidth, mostConfigurations, configurationWidth, mostProfiles, profileWidth, mostSamples, mostConstraints, constraintWidth, mostSubnets, mostTracks, trackWidth}
-use Rattle.rules.specs.Lists.{over}
 use Rattle.rules.specs.Answers.{valuesOf}
+use Rattle.rules.specs.Lists.{over}
 use Rattle.rules.specs.declared.answers.Answer.{Answer}
 use Rattle.rules.specs.declared.answers.Answer.the-variants.{Accepted, Violated, Refused}
 use Rattle.rules.specs.declared.figures.Figures.{Figures}
+use Rattle.rules.specs.declared.outcomes.Checked.{Checked}
+use Rattle.rules.specs.declared.outcomes.Report.{Report}
+use Rattle.rules.specs.declared.outcomes.Merged.{Merged}
 use Rattle.energy_parts.specs.declared.desk.Bits.{Bits}
 use Rattle.energy_parts.specs.Bits.{bitsOf}
-use Rattle.energy_report.specs.declared.Report.{Report}
-use Rattle.merge.specs.declared.Merged.{Merged}
-use Rattle.checker.specs.declared.verdicts.Checked.{Checked}
 
 -- the codes
 abbrev pub acceptedCode : ℕ

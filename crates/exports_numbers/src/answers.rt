@@ -8,11 +8,11 @@ ghost use Rattle.rules.specs.declared.answers.Answer.the-variants.{Violated, Re
 ghost use Rattle.exports_numbers.specs.Numbers.{lentNumbers, violatedCode, refusedCode, padded, answerNumbers, checkNumbers, mergeNumbers, rowNumbers};
 use crate::Code;
 use crate::Numbers;
-use checker::merges::Merged;
-use checker::verdicts::Checked;
 use rules::answers::Answer;
 use rules::answers::Refusal;
 use rules::answers::Violation;
+use rules::outcomes::Checked;
+use rules::outcomes::Merged;
 
 fn of_violation(v: Violation) -> Numbers
     ensures { λ r. ⌜ r ≡ padded (violatedCode ∷ valuesOf (Violated v)) ⌝ }

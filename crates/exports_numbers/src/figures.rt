@@ -7,7 +7,7 @@ use crate::Code;
 use crate::Numbers;
 use crate::answers;
 use energy_parts::desk;
-use energy_report::Report;
+use rules::outcomes::Report;
 
 // Two's complement.
 fn pattern(x: i64) -> u64

@@ -1,4 +1,4 @@
-// Answers as the numbers that C lends: a code, then values, then 0s.
+// Answers as the numbers that C lends: a code, then values, then 0s. Every function of `exports` ends in one of these.
 ghost use Prim.Native.Nat.{_≤_};
 ghost use mathlib.Core.Path.{_≡_};
 ghost use lib.ListN.{length};

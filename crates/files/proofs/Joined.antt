@@ -5,12 +5,12 @@ use mathlib.Core.List.{List}
 use lib.ListN.{length}
 use lib.IntN.{ℤ}
 use Rattle.rules.specs.Limits.{legWidth, configurationWidth}
-use Rattle.rules.specs.Lists.{flat, over}
 use Rattle.rules.specs.Answers.{Reading, refused, good, _>>=_}
+use Rattle.rules.specs.Lists.{flat, over}
 use Rattle.rules.specs.Timetable.{Row, legsOf, legNumbers, configurationsOf, configurationNumbers}
 use Rattle.rules.specs.Profiles.{Curve, profilesFrom, profileNumbers, sampleTable}
 use Rattle.rules.specs.Constraints.{Document, ordered, constraintNumbers, trackNumbers}
-use Rattle.rules.specs.Reading.{Texts, Files, Rooms, horizonOf, filesOf}
+use Rattle.rules.specs.Reading.{Texts, texts, Files, Rooms, horizonOf, filesOf}
 use Rattle.rules.specs.Entries.{Tables, tables, roomsOf, writtenTables}
 use Rattle.rules.specs.declared.answers.Refusal.{Refusal}
 use Rattle.rules_theorems.proofs.GoodText.{never-good}
@@ -21,7 +21,7 @@ use Rattle.files_tests.proofs.Fronts.{front-held}
 use Rattle.tables_lent.specs.declared.Counts.{Counts}
 use Rattle.tables_lent.specs.declared.Filed.{Filed}
 use Rattle.tables_lent.specs.declared.Filed.the-variants.{Whole, Refused}
-use Rattle.tables_lent.specs.Filing.{texts, filedBy, filedOf}
+use Rattle.tables_lent.specs.Filing.{filedBy, filedOf}
 use Rattle.files.specs.Promise.{FilesRead}
 use Rattle.files.specs.Parts.{draftOf, powersOf, rulesOf, withRows, withCurves, withDocument, Draft, Lists, Drafted, Listed, Part, DraftRead, PowersRead, RulesRead}
 use Rattle.files.proofs.Parted.{WasGood, whole-good, refused-refused}

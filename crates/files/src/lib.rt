@@ -1,5 +1,5 @@
-// All that does not depend on a solution, in document 01's order: H; timetable; profiles; 12 and 13; constraints; 15.
-ghost use Rattle.tables_lent.specs.Lent.{given, before, after};
+// All that does not depend on a solution, in document 01's order: H; timetable; profiles; 12 and 13; constraints; 15. Every entry that judges begins with it.
+ghost use Rattle.rules.specs.Lent.{given, before, after};
 ghost use Rattle.files.specs.Promise.{FilesRead};
 use tables_lent::Filed;
 

@@ -1,4 +1,4 @@
-// A descriptor, read into a lent room until the room is full or there is no more. A read may give less than was asked: 0 is the end, -1 a read that failed.
+// A descriptor, read into a lent room until the room is full or there is no more. A read may give less than was asked: 0 is the end, -1 a read that failed. The small program reads its files by it.
 ghost use Rattle.io.specs.Counts.{Counts};
 
 pub enum End {

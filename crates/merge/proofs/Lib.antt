@@ -3,4 +3,3 @@ pub mod Texts
 pub mod Verdicts
 pub mod Solutions
 pub mod OverFiles
-pub mod Ends

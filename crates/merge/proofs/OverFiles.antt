@@ -6,21 +6,21 @@ use mathlib.Core.List.{List}
 use lib.ListN.{length}
 use Rattle.rules.specs.Answers.{solutionFile, secondFile, isRefusal, Reading, refused}
 use Rattle.rules.specs.Reading.{Texts, Files, filesOf, choicesRead}
+use Rattle.rules.specs.Merge.{mergeOf}
 use Rattle.rules.specs.Entries.{Tables, roomsOf, writtenTables, bothRead, mergeRefused, mergeFrom, merged}
 use Rattle.rules.specs.Entries as entries
 use Rattle.rules.specs.declared.sizes.Configuration.{Configuration}
 use Rattle.rules.specs.declared.answers.Refusal.{Refusal}
 use Rattle.rules.specs.declared.answers.Answer.the-variants.{Refused}
+use Rattle.rules.specs.declared.outcomes.Merged.{Merged}
+use Rattle.rules.specs.declared.outcomes.Direction.{Direction}
 use Rattle.tables_lent.specs.declared.Counts.{Counts}
 use Rattle.tables_lent.specs.declared.Filed.{Filed}
 use Rattle.tables_lent.specs.declared.Filed.the-variants as Filings
 use Rattle.tables_lent.proofs.Filing.{WasFiled, was-filed, not-filed}
 use Rattle.files.specs.Promise.{FilesRead}
 use Rattle.solution_verdict.specs.Left.{Judgeable}
-use Rattle.merge_text.specs.Merges.{mergeOf}
-use Rattle.merge_choice.specs.declared.Direction.{Direction}
 use Rattle.merge_order.specs.Both.{solutionsRead}
-use Rattle.merge.specs.declared.Merged.{Merged}
 use Rattle.merge.specs.Left.{notWritten, Solves}
 use Rattle.merge.specs.Promise.{MergeRead}
 use Rattle.merge.proofs.Standing.{never, files-stand}
@@ -34,7 +34,7 @@ module _ (way : Direction) (H : ℕ) (x : Texts) (first second : List ℕ) (t : 
   stopped y e = rw e
 
   pub files-refused : {y : Refusal} {r : Merged} {t″ : Tables} {c″ d″ text″ : List ℕ} → p ≡ Filings.Refused y → r ≡ notWritten (Refused y)
-      → MergeRead (mergeOf way) H x first second t c d text r t″ c″ d″ text″
+      → MergeRead way H x first second t c d text r t″ c″ d″ text″
   files-refused {y} {r} e s =
       let is : merged (mergeOf way) H x first second t c d text ≡ mergeRefused t c d text y = stopped y (not-filed read y (sym e ∙ h .answers)) in
       let refuses : isRefusal (r .answer) ≡ true = ap (λ (m : Merged). isRefusal (m .answer)) s in
@@ -42,7 +42,7 @@ module _ (way : Direction) (H : ℕ) (x : Texts) (first second : List ℕ) (t : 
         solved =
             rw is
             (record {
-              made = rw s (record { answer = refl; size = refl; puts = λ z. never (sym z) });
+              made = rw s (record { answer = refl; length = refl; puts = λ z. never (sym z) });
               chooses = λ z. never (sym refuses ∙ z);
             });
         writes = λ z. never (sym refuses ∙ z);
@@ -79,7 +79,7 @@ module _ (way : Direction) (H : ℕ) (x : Texts) (first second : List ℕ) (t : 
     onward = rw (filed .was)
 
     pub files-merged : {r : Merged} {c′ d′ text′ : List ℕ} → Solves H way k first second (t′ .legs) (t′ .configurations) (t′ .constraints) c d text r c′ d′ text′
-        → MergeRead (mergeOf way) H x first second t c d text r t′ c′ d′ text′
+        → MergeRead way H x first second t c d text r t′ c′ d′ text′
     files-merged {r} solves =
         let s = solves judgeable in
         record {

@@ -5,17 +5,17 @@ use mathlib.Core.List.{List}
 use lib.ListN.{length}
 use Rattle.rules.specs.Answers.{isRefusal, Reading, refused}
 use Rattle.rules.specs.Reading.{Files}
+use Rattle.rules.specs.Merge.{mergeOf}
 use Rattle.rules.specs.Entries.{verdictOf, Both, mergeFrom}
 use Rattle.rules.specs.declared.answers.Refusal.{Refusal}
 use Rattle.rules.specs.declared.answers.Answer.the-variants.{Refused}
+use Rattle.rules.specs.declared.outcomes.Merged.{Merged}
+use Rattle.rules.specs.declared.outcomes.Direction.{Direction}
 use Rattle.tables_lent.specs.declared.Counts.{Counts}
 use Rattle.solution_verdict.specs.declared.Chosen.{Chosen}
 use Rattle.solution_verdict.specs.declared.Chosen.the-variants as Choosings
 use Rattle.solution_verdict.specs.Left.{Judgeable, Choosable}
-use Rattle.merge_text.specs.Merges.{mergeOf}
-use Rattle.merge_choice.specs.declared.Direction.{Direction}
 use Rattle.merge_order.specs.Both.{BothChosen, ChoosesBoth, solutionsRead}
-use Rattle.merge.specs.declared.Merged.{Merged}
 use Rattle.merge.specs.Left.{notWritten, Disputable, Judges, Solved}
 use Rattle.merge.proofs.Standing.{never, judged-stands}
 
@@ -29,7 +29,7 @@ module _ {H : ℕ} (way : Direction) {counts : Counts} {legs configurations cons
   Ends o r c′ d′ text′ = Solved (mergeFrom (k .left .lent) c d text second (mergeOf way) o) r c′ d′ text′
 
   refusal-ends : {x : Refusal} {r : Merged} {c′ d′ text′ : List ℕ} → r ≡ notWritten (Refused x) → Ends (refused x) r c′ d′ text′
-  refusal-ends s = rw s (record { made = record { answer = refl; size = refl; puts = λ z. never (sym z) }; chooses = never })
+  refusal-ends s = rw s (record { made = record { answer = refl; length = refl; puts = λ z. never (sym z) }; chooses = never })
 
   abbrev both : Reading Both
   both = solutionsRead H f first second (length c) (length d)

@@ -12,25 +12,25 @@ use Rattle.rules.specs.Limits.{mostText}
 use Rattle.rules.specs.Answers.{refusal, unequalTravel, noRoom, noFile, solutionFile, secondFile, isAccepted}
 use Rattle.rules.specs.Rows.{placeOfRow}
 use Rattle.rules.specs.Reading.{Files}
-use Rattle.rules.specs.Merge.{unequalFrom, chosen, textOf}
+use Rattle.rules.specs.Merge.{unequalFrom, chosen, textOf, mergeOf}
 use Rattle.rules.specs.Entries.{roomsOf, writtenTables, writtenChoices, mergeFitted, mergeTravel}
 use Rattle.rules.specs.declared.answers.Refusal.{Refusal}
 use Rattle.rules.specs.declared.answers.Answer.{Answer}
 use Rattle.rules.specs.declared.answers.Answer.the-variants.{Accepted, Refused}
+use Rattle.rules.specs.declared.outcomes.Merged.{Merged}
+use Rattle.rules.specs.declared.outcomes.Direction.{Direction}
 use Rattle.rules_theorems.proofs.DocumentWords.{and-first}
 use Rattle.rules_theorems.proofs.GoodFiles.{choices-good}
 use Rattle.tables_views.specs.View.{configurationsIn}
 use Rattle.tables_lent.specs.declared.Counts.{Counts}
 use Rattle.verdict.proofs.GoodReading.{choices-many}
 use Rattle.text_write.specs.Written.{lastPlace, Written}
-use Rattle.merge_text.specs.Merges.{mergeOf, mergedIn}
-use Rattle.merge_choice.specs.Either.{travelsOf}
-use Rattle.merge_choice.specs.declared.Direction.{Direction}
+use Rattle.merge_text.specs.Merges.{mergedIn}
+use Rattle.merge_choice.specs.Travels.{travelsOf}
 use Rattle.merge_choice.specs.declared.Travels.{Travels}
 use Rattle.merge_choice.specs.declared.Travels.the-variants.{Equal, UnequalAt}
 use Rattle.text_write.proofs.Writing.{written-length}
 use Rattle.merge_text.proofs.Filled.{unequal-seen, merged-fits, merged-whole}
-use Rattle.merge.specs.declared.Merged.{Merged}
 use Rattle.merge_order.specs.Order.{travelAnswer, roomAnswer, firstOf}
 use Rattle.merge.specs.Left.{notWritten, Made, Mergeable, bothOf, mergedEqual}
 use Rattle.merge.proofs.Standing.{never}
@@ -80,7 +80,7 @@ module _ {counts : Counts} {second legs configurations choices secondChoices : L
     unequal-way {row} {x} {r} {text′} e q s =
         subst (λ o. Made (mergeTravel (k .left .lent) (k .lent) (k .lentSecond) text second (mergeOf d) o (bothOf k)) r text′)
         (sym (was-unequal (unequalFrom 0 (k .both .a) (k .both .b)) row (sym e ∙ told ∙ ap travelsOf travels-seen)))
-        (rw (s, q) (record { answer = refl; size = refl; puts = λ z. never (sym z) }))
+        (rw (s, q) (record { answer = refl; length = refl; puts = λ z. never (sym z) }))
 
     module _ (e : v ≡ Equal) {text′ : List ℕ} {n : ℕ} (small : length text < lastPlace)
         (put : Written text 0 (textOf (mergedIn d (counts .legs) legs configurations choices secondChoices)) text′ n)
@@ -115,11 +115,11 @@ module _ {counts : Counts} {second legs configurations choices secondChoices : L
       text-way h =
           let room : n ≤ length text = leb-true n (length text) (and-first (leb n (length text)) (leb n mostText) (sym fits-at ∙ h)) in
           let whole = merged-whole (f .rows) (k .left .lent .legs) (k .left .lent .configurations) (k .both .a) (k .both .b) (k .lent) (k .lentSecond) a-many b-many d text text′ n put-left small room in
-          fitted (rw h (record { answer = refl; size = whole .0; puts = λ z. whole .1 }))
+          fitted (rw h (record { answer = refl; length = whole .0; puts = λ z. whole .1 }))
 
       -- 16
       room-way : {x : Refusal} {r : Merged} → fits ≡ false → x ≡ refusal noRoom noFile 0 → r ≡ notWritten (Refused x) → Made (mergedEqual k d text) r text′
-      room-way h q s = fitted (rw (h, s, q) (record { answer = refl; size = refl; puts = λ z. never (sym z) }))
+      room-way h q s = fitted (rw (h, s, q) (record { answer = refl; length = refl; puts = λ z. never (sym z) }))
 
     module _ {text′ : List ℕ} {n : ℕ} (small : length text < lastPlace) (put : Written text 0 (textOf (mergedIn d (counts .legs) legs configurations choices secondChoices)) text′ n)
         {answer : Answer} (first : answer ≡ firstOf (travelAnswer second v) (roomAnswer (leb n (length text′) && leb n mostText))) where

@@ -6,16 +6,16 @@ use mathlib.Core.List.{List}
 use lib.ListN.{length}
 use Rattle.rules.specs.Answers.{solutionFile, secondFile, isAccepted}
 use Rattle.rules.specs.Verdict.{Verdict, accepted, violated, answerOf}
+use Rattle.rules.specs.Merge.{mergeOf}
 use Rattle.rules.specs.Entries.{verdictOf, mergeViolated, mergeSecond, mergeFirst}
 use Rattle.rules.specs.Entries as entries
 use Rattle.rules.specs.declared.answers.Answer.{Answer}
+use Rattle.rules.specs.declared.outcomes.Merged.{Merged}
+use Rattle.rules.specs.declared.outcomes.Direction.{Direction}
 use Rattle.tables_lent.specs.declared.Counts.{Counts}
 use Rattle.solution_verdict.specs.Left.{Judgeable, Ready}
-use Rattle.merge_text.specs.Merges.{mergeOf}
-use Rattle.merge_choice.specs.declared.Direction.{Direction}
 use Rattle.merge_order.specs.Order.{firstOf}
 use Rattle.merge_order.specs.Both.{BothReady, JudgesBoth}
-use Rattle.merge.specs.declared.Merged.{Merged}
 use Rattle.merge.specs.Left.{notWritten, Made, Mergeable, Disputable, bothOf, mergedEqual, mergedJudged}
 use Rattle.merge.proofs.Standing.{never}
 
@@ -71,7 +71,7 @@ module _ {counts : Counts} {second legs configurations constraints choices secon
       violation : {b : Answer} → a ≡ b → isAccepted b ≡ false → Made (mergeViolated (m .left .lent) (m .lent) (m .lentSecond) text b (bothOf m)) r text′
       violation {b} e h =
           let not-fair : isAccepted a ≡ false = ap isAccepted e ∙ h in
-          rw (stops not-fair) (record { answer = e; size = refl; puts = λ z. never (sym z ∙ not-fair) })
+          rw (stops not-fair) (record { answer = e; length = refl; puts = λ z. never (sym z ∙ not-fair) })
 
       pub judged-ends : Made (mergedJudged m d text) r text′
       judged-ends = go (verdictOf (m .left .files) (m .both .a)) (verdictOf (m .left .files) (m .both .b)) refl (judged both-ready)

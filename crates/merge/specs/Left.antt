@@ -5,16 +5,15 @@ use mathlib.Core.Bool.{true, false}
 use mathlib.Core.List.{List}
 use lib.ListN.{length}
 use Rattle.rules.specs.Answers.{isRefusal, isAccepted}
-use Rattle.rules.specs.Merge.{unequalFrom}
+use Rattle.rules.specs.Merge.{unequalFrom, mergeOf}
 use Rattle.rules.specs.Entries.{writtenTables, verdictOf, Both, mergeTravel, mergeFirst, mergeFrom}
 use Rattle.rules.specs.Entries as entries
 use Rattle.rules.specs.declared.answers.Answer.{Answer}
+use Rattle.rules.specs.declared.outcomes.Merged.{Merged}
+use Rattle.rules.specs.declared.outcomes.Direction.{Direction}
 use Rattle.tables_lent.specs.declared.Counts.{Counts}
 use Rattle.solution_verdict.specs.Left.{Left, Judgeable}
-use Rattle.merge_text.specs.Merges.{mergeOf}
-use Rattle.merge_choice.specs.declared.Direction.{Direction}
 use Rattle.merge_order.specs.Both.{BothChosen, solutionsRead}
-use Rattle.merge.specs.declared.Merged.{Merged}
 
 -- short of acceptance no byte is written
 abbrev pub notWritten : Answer → Merged
@@ -23,7 +22,7 @@ notWritten a = record { answer = a; length = 0 }
 -- the answer and the length always, and the text where the merge is accepted
 pub record Made (o : entries.Merged) (r : Merged) (text : List ℕ) : Type 0 where
   pub answer : r .answer ≡ o .answer
-  pub size : r .length ≡ o .size
+  pub length : r .length ≡ o .length
   pub puts : isAccepted (r .answer) ≡ true → text ≡ o .text
 
 -- ---- two solutions that were read, and the last two tables hold their choices; second is the text of the second

@@ -1,14 +1,14 @@
 // Two solutions over files that were read: both verdicts, and then the merge.
 ghost use Rattle.solution_verdict.specs.Left.{Judgeable};
 ghost use Rattle.merge.specs.Left.{Disputable, Judges, Solves};
-use crate::Merged;
 use crate::not_written;
 use crate::writing;
-use checker_after::acceptance;
-use merge_choice::Direction;
 use rules::answers::Answer;
+use rules::outcomes::Direction;
+use rules::outcomes::Merged;
 use solution_verdict::Chosen;
 use tables_lent::Counts;
+use tables_lent::acceptance;
 
 // Both are read.
 fn merge_chosen(

@@ -1,10 +1,10 @@
 // Two accepted solutions. The text is written before 17 and 16 are tested: a refusal zeroes it.
 ghost use Rattle.merge.specs.Left.{Mergeable, Writes};
-use crate::Merged;
 use crate::not_written;
-use checker_after::acceptance;
-use merge_choice::Direction;
+use rules::outcomes::Direction;
+use rules::outcomes::Merged;
 use tables_lent::Counts;
+use tables_lent::acceptance;
 
 pub fn write_merge(
     direction: Direction,

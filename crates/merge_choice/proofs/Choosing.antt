@@ -2,10 +2,10 @@
 use Prim.Native.Nat.{_≤_, _<_}
 use mathlib.Core.Path.{_≡_}
 use borrow.Author.Tests.{le-leb, lt-leb}
+use Rattle.rules.specs.Merge.{chooser}
 use Rattle.rules.specs.declared.sizes.Configuration.{Configuration}
-use Rattle.merge_choice.specs.Either.{chooser}
-use Rattle.merge_choice.specs.declared.Direction.{Direction}
-use Rattle.merge_choice.specs.declared.Direction.the-variants.{Earlier, Later}
+use Rattle.rules.specs.declared.outcomes.Direction.{Direction}
+use Rattle.rules.specs.declared.outcomes.Direction.the-variants.{Earlier, Later}
 
 module _ {d : Direction} (a b : Configuration) where
   pub earlier-first : d ≡ Earlier → a .departure ≤ b .departure → a ≡ chooser d a b

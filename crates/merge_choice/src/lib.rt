@@ -1,15 +1,10 @@
 // The choices of two solutions, leg by leg (document 01, "Merged texts"): which of the two a merge takes, and whether their travel times are equal.
 ghost use mathlib.Core.Path.{_≡_};
-ghost use Rattle.rules.specs.Merge.{unequalFrom};
+ghost use Rattle.rules.specs.Merge.{unequalFrom, chooser};
 ghost use Rattle.tables_views.specs.View.{configurationsIn};
-ghost use Rattle.merge_choice.specs.Either.{chooser, travelsOf};
+ghost use Rattle.merge_choice.specs.Travels.{travelsOf};
+use rules::outcomes::Direction;
 use rules::sizes::Configuration;
-
-// Which of two choices a merge takes.
-pub enum Direction {
-    Earlier,
-    Later,
-}
 
 // At equal departures the earlier merge takes the first file's choice, the later the second's.
 pub fn choose(direction: Direction, a: Configuration, b: Configuration) -> Configuration

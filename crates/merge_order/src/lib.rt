@@ -1,4 +1,4 @@
-// Two solutions over files that were read, in document 01's order: both are read, then the first's verdict, the second's, 17, 16.
+// Two solutions over files that were read, in document 01's order: both are read, then the first's verdict, the second's, 17, 16. The order stands here and nowhere else; `merge` follows it.
 ghost use mathlib.Core.Path.{_≡_};
 ghost use mathlib.Core.Bool.{_&&_};
 ghost use Prim.Native.Nat.{_≤_};
@@ -8,7 +8,6 @@ ghost use Rattle.rules.specs.Limits.{mostText};
 ghost use Rattle.solution_verdict.specs.Left.{Choosable};
 ghost use Rattle.merge_order.specs.Both.{BothReady, ChoosesBoth, JudgesBoth};
 ghost use Rattle.merge_order.specs.Order.{travelAnswer, roomAnswer, firstOf};
-use checker_after::acceptance;
 use csv_lines::places;
 use merge_choice::Travels;
 use rules::answers::Answer;
@@ -17,6 +16,7 @@ use rules::answers::Refusal;
 use rules::sizes::Text;
 use solution_verdict::Chosen;
 use tables_lent::Counts;
+use tables_lent::acceptance;
 
 // The second is read where the first is whole.
 pub fn choose_both(

@@ -7,17 +7,17 @@ use lib.ListN.{length}
 use Rattle.rules.specs.Lists.{flat, over}
 use Rattle.rules.specs.Timetable.{Row, row, legOf, legsFrom, legsOf, configurationsOf, legNumbers, configurationNumbers}
 use Rattle.rules.specs.Verdict.{offered}
-use Rattle.rules.specs.Merge.{zipped, earlier, later, chosen, textOf, unequalFrom}
+use Rattle.rules.specs.Merge.{zipped, earlier, later, chosen, textOf, unequalFrom, mergeOf}
 use Rattle.rules.specs.declared.sizes.Configuration.{Configuration}
+use Rattle.rules.specs.declared.outcomes.Direction.{Direction}
+use Rattle.rules.specs.declared.outcomes.Direction.the-variants.{Earlier, Later}
 use Rattle.tables_views.specs.View.{legAt, configurationAt, partOf, configurationsIn}
 use Rattle.tables_views.proofs.Tabulated.{tabulate-map}
 use Rattle.tables_views.proofs.Views.{configurations-written}
 use Rattle.tables_views.proofs.Offers.{legs-seen, offers-written}
 use Rattle.text_write.specs.Written.{lastPlace, Written}
 use Rattle.timetable_writer.specs.Rows.{rowOf}
-use Rattle.merge_text.specs.Merges.{mergeOf, chosenIn, mergedIn}
-use Rattle.merge_choice.specs.declared.Direction.{Direction}
-use Rattle.merge_choice.specs.declared.Direction.the-variants.{Earlier, Later}
+use Rattle.merge_text.specs.Merges.{chosenIn, mergedIn}
 use Rattle.text_write.proofs.Writing.{written-fits, written-whole}
 
 -- the two directions are document 01's two merges

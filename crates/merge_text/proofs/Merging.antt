@@ -3,17 +3,16 @@ use Prim.Native.Nat.{ℕ, suc}
 use mathlib.Core.Path.{_≡_, ap, sym, _∙_}
 use mathlib.Core.List.{List, [], _∷_, _++_, append-nil}
 use Rattle.rules.specs.Lists.{flat}
-use Rattle.rules.specs.Energy.{tabulate}
 use Rattle.rules.specs.Timetable.{Row}
-use Rattle.rules.specs.Merge.{zipped, spelledRow}
+use Rattle.rules.specs.Energy.{tabulate}
+use Rattle.rules.specs.Merge.{zipped, spelledRow, chooser}
 use Rattle.rules.specs.declared.sizes.Configuration.{Configuration}
 use Rattle.rules.specs.declared.sizes.Leg.{Leg}
+use Rattle.rules.specs.declared.outcomes.Direction.{Direction}
 use Rattle.rules.proofs.Lists.{tabulate-more, flat-append}
 use Rattle.rules_theorems.proofs.Tabulate.{tabulate-zipped}
 use Rattle.tables_views.specs.View.{legAt, configurationAt}
 use Rattle.timetable_writer.specs.Rows.{rowOf}
-use Rattle.merge_choice.specs.Either.{chooser}
-use Rattle.merge_choice.specs.declared.Direction.{Direction}
 use Rattle.merge_text.specs.Merges.{mergedIn, rowsText}
 
 -- one entry more

@@ -3,16 +3,11 @@ use Prim.Native.Nat.{ℕ}
 use mathlib.Core.List.{List}
 use Rattle.rules.specs.Lists.{flat}
 use Rattle.rules.specs.Timetable.{Row}
-use Rattle.rules.specs.Merge.{zipped, spelledRow}
+use Rattle.rules.specs.Merge.{zipped, spelledRow, mergeOf}
 use Rattle.rules.specs.declared.sizes.Configuration.{Configuration}
+use Rattle.rules.specs.declared.outcomes.Direction.{Direction}
 use Rattle.tables_views.specs.View.{legsIn, configurationsIn}
 use Rattle.timetable_writer.specs.Rows.{rowOf}
-use Rattle.merge_choice.specs.Either.{chooser}
-use Rattle.merge_choice.specs.declared.Direction.{Direction}
-
--- `earlier` or `later`
-abbrev pub mergeOf : Direction → List Configuration → List Configuration → List Configuration
-mergeOf d = zipped (chooser d)
 
 -- the rows of n legs, with these choices as their nominals
 abbrev pub chosenIn : (n : ℕ) → (legs configurations : List ℕ) → List Configuration → List Row

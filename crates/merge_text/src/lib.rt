@@ -1,9 +1,9 @@
 // Merged texts (document 01): from two accepted solutions, the earlier or the later choice at each leg, written as a timetable into a lent buffer.
-// What does not fit is not written, and still counted.
+// What does not fit is not written, and still counted: `merge` learns from one number whether it fitted.
 ghost use Rattle.rules.specs.Merge.{textOf};
 ghost use Rattle.text_write.specs.Written.{Written};
 ghost use Rattle.merge_text.specs.Merges.{mergedIn, rowsText};
-use merge_choice::Direction;
+use rules::outcomes::Direction;
 
 // The draft's `n` rows, each with the choice that the merge takes as its nominal.
 fn put_rows(

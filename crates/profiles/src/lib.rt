@@ -1,2 +1,2 @@
-// profiles.csv, read whole or in parts.
+// profiles.csv, read whole or in parts, into the tables of profiles and samples. `files` reads it.
 pub mod reader; // the text

@@ -1,4 +1,4 @@
-// Whole samples of a list at once: numbers in registers, the state touched at the spaces alone. What is no whole sample is left for `profiles_state::state::step`.
+// Whole samples of a list at once: numbers in registers, the state touched at the spaces alone. It is the fast way of `profiles`; what is no whole sample is left for `profiles_state::state::step`.
 use profiles_row::number;
 use profiles_row::number::Ended;
 use profiles_row::number::Number;

@@ -1,4 +1,4 @@
--- "Refusal numbers" and the three answers.
+-- The three answers of document 01, and the numbers of "Refusal numbers" by their names. Every reading and every verdict ends in one of them.
 use Prim.Native.Nat.{ℕ}
 use mathlib.Core.Bool.{Bool, true, false, cond}
 use mathlib.Core.List.{List, [], _∷_}

@@ -1,4 +1,4 @@
--- Whole numbers, decimals, pieces and lines of a text, as bytes (document 01, "The CSV rows").
+-- How a text writes whole numbers, decimals, pieces and lines, byte by byte (document 01, "The CSV rows"). Reading and writing are both held to this.
 use Prim.Native.Nat.{ℕ, zero, suc, _+_, _*_, _-_, _^_, _/_, _%_}
 use Prim.Native.Char.{code}
 use Prim.Native.String.{String, [] as end, _∷_ as _then_}

@@ -1,4 +1,5 @@
--- constraints.json: the automaton over its tokens, the first token at fault with its lowest number, and the two tables (document 01).
+-- How constraints.json is read (document 01): an automaton goes over its tokens, and the first token at fault is refused with its lowest number. What it read
+-- fills the table of constraints and the table of tracks.
 use Prim.Native.Nat.{ℕ, _+_, _-_, _^_}
 use mathlib.Core.Bool.{Bool, not, cond, _||_}
 use mathlib.Core.List.{List, [], _∷_, _++_}

@@ -1,4 +1,4 @@
--- Display (document 01): the row at a refusal's file and place, as a part of whichever text holds it, without its LF.
+-- The row that a refusal shows (document 01, "Display"): the one at its file and place, as a part of whichever text holds it, without its LF.
 use Prim.Native.Nat.{ℕ, _-_}
 use mathlib.Core.Bool.{Bool, not, cond, _&&_}
 use mathlib.Core.List.{List, []}

@@ -1,4 +1,4 @@
--- Energy (document 01): curves, sums, quarters, and the desk tool's four doubles. A sample is an average over one second, so energy is a plain sum.
+-- The energies of an accepted solution (document 01, "Energy"): its curves, their sums and quarters, and the desk tool's four doubles. A sample is an average over one second, so energy is a plain sum.
 use Prim.Native.Nat.{ℕ, zero, suc, _+_, _-_, _*_, _/_, _%_, max}
 use mathlib.Core.Bool.{Bool, false, cond, _&&_}
 use mathlib.Core.List.{List, [], _∷_, map}

@@ -1,4 +1,4 @@
--- What each public entry answers, and what it leaves in every lent table and text: for every input, by these definitions.
+-- These definitions say what each public entry answers, and what it leaves in every lent table and text, for every input.
 use Prim.Native.Nat.{ℕ, _*_}
 use mathlib.Core.Bool.{Bool, true, false, _&&_}
 use mathlib.Core.List.{List}
@@ -173,7 +173,7 @@ reportFrom (good w) H t c p = reportJudged (verdictOf (w .files) (w .choices)) H
 unfoldable pub reported : (H : ℕ) → Texts → (solution : List ℕ) → Tables → (choices : List ℕ) → (curves : List ℤ) → Reported
 reported H x solution t c p = reportFrom (allRead H x solution (roomsOf t) (length c)) H t c p
 
--- ---- merges: merge is `earlier` or `later`
+-- ---- merge: the rule of choosing is `earlier` or `later`, by the direction
 
 pub record Both : Type 0 where
   pub files : Files
@@ -189,7 +189,7 @@ bothRead H x first second room choices secondChoices = do
 
 pub record Merged : Type 0 where
   pub answer : Answer
-  pub size : ℕ
+  pub length : ℕ
   pub tables : Tables
   pub choices : List ℕ
   pub second : List ℕ
@@ -200,7 +200,7 @@ module _ (t : Tables) (c d text : List ℕ) where
   mergeRefused r =
       record {
         answer = Refused r;
-        size = 0;
+        length = 0;
         tables = filledTables t;
         choices = filled unsignedFill c;
         second = filled unsignedFill d;
@@ -212,7 +212,7 @@ module _ (t : Tables) (c d text : List ℕ) where
   mergeViolated a b =
       record {
         answer = a;
-        size = 0;
+        length = 0;
         tables = writtenTables (b .files) t;
         choices = writtenChoices (b .first) c;
         second = writtenChoices (b .second) d;
@@ -224,7 +224,7 @@ module _ (t : Tables) (c d text : List ℕ) where
   mergeFitted true written b =
       record {
         answer = Accepted;
-        size = length written;
+        length = length written;
         tables = writtenTables (b .files) t;
         choices = writtenChoices (b .first) c;
         second = writtenChoices (b .second) d;

@@ -1,5 +1,5 @@
--- "Examples to hold the definitions to": the marked examples of document 01 as one table with one statement, from texts to answers,
--- computed by the checker; then the unmarked ones, and one for each error that document 01 says tempts.
+-- The examples of document 01 ("Examples to hold the definitions to"). The marked ones stand in one table with one statement, from texts to answers, and the checker
+-- computes them; then come the unmarked ones, and one for each error that document 01 says tempts.
 use Prim.Native.Nat.{ℕ}
 use Prim.Native.String.{String}
 use mathlib.Core.Path.{_≡_, refl}

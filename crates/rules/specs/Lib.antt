@@ -21,3 +21,6 @@ pub mod Examples
 -- What the code's constructors answer, and the numbers that its constants are.
 pub mod Made
 pub mod Ties
+-- What is lent to an entry, and what each entry promises.
+pub mod Lent
+pub mod Promises

@@ -1,4 +1,4 @@
--- "Sizes" and the widths of "The tables": each number of document 01 once. `limits_are_the_laws` ties the code's constants to them.
+-- Each number of document 01's "Sizes", and each width of "The tables", stands here once. `limits_are_the_laws` ties the code's constants to them.
 use Prim.Native.Nat.{ℕ}
 use lib.IntN.{ℤ, negsuc}
 

@@ -1,4 +1,4 @@
--- Words about lists that the definitions share.
+-- The words about lists that the definitions share. None of them knows what a timetable is.
 use Prim.Native.Nat.{ℕ, suc, _+_}
 use mathlib.Core.Bool.{Bool, true, false, cond, _&&_, _||_}
 use mathlib.Core.List.{List, [], _∷_, _++_}

@@ -1,4 +1,4 @@
--- What the constructors of the horizon, configuration, leg, profile and sample types answer: the value, where it is within the limits.
+-- What the constructors of the horizon, configuration, leg, profile and sample types answer: they give the value where it is within the limits.
 use Prim.Native.Nat.{ℕ, _-_}
 use mathlib.Core.Bool.{Bool, true, false, cond}
 use mathlib.Core.List.{List}

@@ -1,4 +1,5 @@
--- Merged texts (document 01): from two accepted solutions, the earlier and the later choice at each leg, written as a timetable.
+-- How two accepted solutions are merged (document 01, "Merged texts"): at each leg the earlier or the later choice is taken, and the draft is written with these
+-- choices as a timetable.
 use Prim.Native.Nat.{ℕ, suc}
 use mathlib.Core.Path.{_≡_}
 use mathlib.Core.Bool.{cond}
@@ -9,6 +10,8 @@ use Rattle.rules.specs.Lists.{flat}
 use Rattle.rules.specs.Bytes.{spelled, joined, lineFeed, comma, space, underscore}
 use Rattle.rules.specs.Timetable.{Row, row, timetableHeader}
 use Rattle.rules.specs.declared.sizes.Configuration.{Configuration}
+use Rattle.rules.specs.declared.outcomes.Direction.{Direction}
+use Rattle.rules.specs.declared.outcomes.Direction.the-variants.{Earlier, Later}
 
 -- ---- the choices: at equal departures the earlier takes the first file's, the later the second's
 
@@ -28,6 +31,14 @@ earlier = zipped sooner
 
 abbrev pub later : List Configuration → List Configuration → List Configuration
 later = zipped tardier
+
+-- the choice of a direction at a leg; and its merge, which is `earlier` or `later`
+abbrev pub chooser : Direction → Configuration → Configuration → Configuration
+chooser Earlier = sooner
+chooser Later = tardier
+
+abbrev pub mergeOf : Direction → List Configuration → List Configuration → List Configuration
+mergeOf direction = zipped (chooser direction)
 
 -- equal travel times, leg by leg
 abbrev pub SameTravel : List Configuration → List Configuration → Type 0

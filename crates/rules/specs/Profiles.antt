@@ -1,4 +1,4 @@
--- profiles.csv, and 12 and 13 over the timetable's rows (document 01).
+-- How profiles.csv is read (document 01), and what is then asked of the timetable's rows: that each profile is there (12), with a sample for each second of travel (13).
 use Prim.Native.Nat.{ℕ, _+_}
 use mathlib.Core.Bool.{Bool, true, not, cond, _&&_}
 use mathlib.Core.List.{List, [], _∷_}

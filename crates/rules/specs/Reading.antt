@@ -1,4 +1,4 @@
--- Reading everything, in document 01's order: H; timetable; profiles; 12 and 13; constraints; 15; solution; 14; then a second solution.
+-- Everything is read in document 01's order, and the first refusal ends it: H; timetable; profiles; 12 and 13; constraints; 15; solution; 14; then a second solution.
 use Prim.Native.Nat.{ℕ, suc, _/_}
 use mathlib.Core.Bool.{Bool, cond, _&&_}
 use mathlib.Core.List.{List, [], _∷_, map}
@@ -27,6 +27,9 @@ pub record Texts : Type 0 where
   pub timetable : List ℕ
   pub profiles : List ℕ
   pub constraints : List ℕ
+
+abbrev pub texts : (timetable profiles constraints : List ℕ) → Texts
+texts timetable profiles constraints = record { timetable = timetable; profiles = profiles; constraints = constraints }
 
 -- what they say
 pub record Files : Type 0 where

@@ -1,4 +1,4 @@
--- A CSV text (document 01): its header, then rows, each ended by LF, the last too. A row's place is its first byte.
+-- A CSV text (document 01) is its header, then rows, each ended by LF, the last too. A row's place is its first byte.
 use Prim.Native.Nat.{ℕ, suc, _+_}
 use mathlib.Core.Bool.{cond}
 use mathlib.Core.List.{List, [], _∷_, _++_}

@@ -1,4 +1,4 @@
--- The numbers that the code's constants must be, in the order in which src/limits.rt has them.
+-- These are the numbers that the code's constants must be, in the order in which src/limits.rt has them.
 use Prim.Native.Nat.{ℕ}
 use mathlib.Core.List.{List, [], _∷_}
 use lib.IntN.{ℤ}

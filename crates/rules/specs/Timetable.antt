@@ -1,4 +1,4 @@
--- timetable.csv, and a solution, which is again such a file: rows, tables (document 01, "The CSV rows", "The tables").
+-- How timetable.csv is read, and a solution, which is again such a file (document 01, "The CSV rows"); and how its rows stand in the tables ("The tables").
 use Prim.Native.Nat.{ℕ, _+_}
 use mathlib.Core.Bool.{Bool, not, _&&_}
 use mathlib.Core.List.{List, [], _∷_, map}

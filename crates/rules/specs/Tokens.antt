@@ -1,4 +1,4 @@
--- The tokens of constraints.json: RFC 8259 text, narrowed (document 01, "constraints.json", "Refusal numbers").
+-- How constraints.json falls into tokens: it is RFC 8259 text, narrowed (document 01, "constraints.json", "Refusal numbers").
 use Prim.Native.Nat.{ℕ, zero, suc, _+_, pred}
 use Prim.Native.Char.{code}
 use mathlib.Core.Bool.{Bool, not, cond, _&&_, _||_}

@@ -64,8 +64,8 @@ Right (merges merge x second n m) = merging merge x second noRoomAtAll [] [] (re
 abbrev headersAlone : List ℕ → Input
 headersAlone c = input 3 timetableHeader profilesHeader c timetableHeader
 
-abbrev emptyMerge : Answer → (size : ℕ) → (text : List ℕ) → Merged
-emptyMerge a n s = record { answer = a; size = n; tables = noRoomAtAll; choices = []; second = []; text = s }
+abbrev emptyMerge : Answer → (length : ℕ) → (text : List ℕ) → Merged
+emptyMerge a n s = record { answer = a; length = n; tables = noRoomAtAll; choices = []; second = []; text = s }
 
 abbrev pub empties : List Corner
 empties =

@@ -112,8 +112,8 @@ checkedTo a t c = record { answer = a; tables = t; choices = c }
 abbrev reportedTo : Answer → Figures → Tables → List ℕ → List ℤ → Reported
 reportedTo a g t c p = record { answer = a; figures = g; desk = deskOf g; tables = t; choices = c; curves = p }
 
-abbrev mergedTo : Answer → (size : ℕ) → Tables → (choices second text : List ℕ) → Merged
-mergedTo a n t c d s = record { answer = a; size = n; tables = t; choices = c; second = d; text = s }
+abbrev mergedTo : Answer → (length : ℕ) → Tables → (choices second text : List ℕ) → Merged
+mergedTo a n t c d s = record { answer = a; length = n; tables = t; choices = c; second = d; text = s }
 
 -- a buffer of sevens
 abbrev buffer : ℕ → List ℕ

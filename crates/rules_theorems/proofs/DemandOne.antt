@@ -77,13 +77,13 @@ module _ (H : ℕ) (x : Texts) (s : List ℕ) (t : Tables) (c : List ℕ) where
 
         fitted : (fits : Bool) (written : List ℕ) (b : Both) → Emptied (mergeFitted t c d text fits written b)
         fitted true written b e = absurd (accepted-not-refused e)
-        fitted false written b e = record { tables = refl; choices = refl; second = refl; text = refl; size = refl }
+        fitted false written b e = record { tables = refl; choices = refl; second = refl; text = refl; length = refl }
 
         travelled : (o : Option ℕ) (b : Both) → Emptied (mergeTravel t c d text s₂ merge o b)
         travelled none b e =
             let written = textOf (chosen (b .files .rows) (merge (b .first) (b .second))) in
             fitted (leb (length written) (length text) && leb (length written) mostText) written b e
-        travelled (some row) b e = record { tables = refl; choices = refl; second = refl; text = refl; size = refl }
+        travelled (some row) b e = record { tables = refl; choices = refl; second = refl; text = refl; length = refl }
 
         second : (v : Verdict) (b : Both) → Emptied (mergeSecond t c d text s₂ merge v b)
         second accepted b e = travelled (unequalFrom 0 (b .first) (b .second)) b e
@@ -94,7 +94,7 @@ module _ (H : ℕ) (x : Texts) (s : List ℕ) (t : Tables) (c : List ℕ) where
         first (violated k n i m) b e = absurd (violated-not-refused _ e)
 
         go : (m : Reading Both) → Emptied (mergeFrom t c d text s₂ merge m)
-        go (refused r) e = record { tables = refl; choices = refl; second = refl; text = refl; size = refl }
+        go (refused r) e = record { tables = refl; choices = refl; second = refl; text = refl; length = refl }
         go (good b) e = first (verdictOf (b .files) (b .first)) b e
 
     -- a merge too, by whatever rule it chooses: both choice tables are filled, and the text buffer is zeroed

@@ -73,26 +73,26 @@ module _ (H : ℕ) (t t′ : Tables) (c c′ : List ℕ) (p p′ : List ℤ) whe
 -- and of a merge, with the room for its text
 module _ (t t′ : Tables) (c c′ d d′ text text′ : List ℕ) where
   merge-fitted : (fits : Bool) (written : List ℕ) (b : Both) → SameMerge (mergeFitted t c d text fits written b) (mergeFitted t′ c′ d′ text′ fits written b)
-  merge-fitted true written b = record { answer = refl; size = refl }
-  merge-fitted false written b = record { answer = refl; size = refl }
+  merge-fitted true written b = record { answer = refl; length = refl }
+  merge-fitted false written b = record { answer = refl; length = refl }
 
   module _ (e : length text ≡ length text′) (s₂ : List ℕ) (merge : List Configuration → List Configuration → List Configuration) where
     merge-travel : (u : Option ℕ) (b : Both) → SameMerge (mergeTravel t c d text s₂ merge u b) (mergeTravel t′ c′ d′ text′ s₂ merge u b)
-    merge-travel (some row) b = record { answer = refl; size = refl }
+    merge-travel (some row) b = record { answer = refl; length = refl }
     merge-travel none b =
         let written : List ℕ = textOf (chosen (b .files .rows) (merge (b .first) (b .second))) in
         rw e (merge-fitted (leb (length written) (length text′) && leb (length written) mostText) written b)
 
     merge-second : (v : Verdict) (b : Both) → SameMerge (mergeSecond t c d text s₂ merge v b) (mergeSecond t′ c′ d′ text′ s₂ merge v b)
     merge-second accepted b = merge-travel (unequalFrom 0 (b .first) (b .second)) b
-    merge-second (violated k n i m) b = record { answer = refl; size = refl }
+    merge-second (violated k n i m) b = record { answer = refl; length = refl }
 
     merge-first : (v : Verdict) (b : Both) → SameMerge (mergeFirst t c d text s₂ merge v b) (mergeFirst t′ c′ d′ text′ s₂ merge v b)
     merge-first accepted b = merge-second (verdictOf (b .files) (b .second)) b
-    merge-first (violated k n i m) b = record { answer = refl; size = refl }
+    merge-first (violated k n i m) b = record { answer = refl; length = refl }
 
     merge-from : (r : Reading Both) → SameMerge (mergeFrom t c d text s₂ merge r) (mergeFrom t′ c′ d′ text′ s₂ merge r)
-    merge-from (refused r) = record { answer = refl; size = refl }
+    merge-from (refused r) = record { answer = refl; length = refl }
     merge-from (good b) = merge-first (verdictOf (b .files) (b .first)) b
 
 module _ (H : ℕ) (x : Texts) (s : List ℕ) where

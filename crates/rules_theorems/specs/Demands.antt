@@ -52,7 +52,7 @@ pub record EmptiedMerge (t : Tables) (c d b : List ℕ) (r : Merged) : Type 0 wh
   pub choices : r .choices ≡ filled unsignedFill c
   pub second : r .second ≡ filled unsignedFill d
   pub text : r .text ≡ filled byteFill b
-  pub size : r .size ≡ 0
+  pub length : r .length ≡ 0
 
 -- "a number that no field can have": of what a reading writes into the tables, nothing is what fills them after a refusal
 abbrev pub Unfilled : List ℕ → Type 0
@@ -105,11 +105,11 @@ pub record TwoAccepted (H : ℕ) (x : Texts) (a b : List ℕ) (t : Tables) (c d 
 pub record MergedTo (cs : List Configuration) (f : Files) (H : ℕ) (x : Texts) (t : Tables) (c : List ℕ) (m : Merged) : Type 0 where
   pub answer : m .answer ≡ Accepted
   -- the text is written: the draft's rows with these choices
-  pub written : take (m .size) (m .text) ≡ textOf (chosen (f .rows) cs)
+  pub written : take (m .length) (m .text) ≡ textOf (chosen (f .rows) cs)
   -- it reads as these choices
-  pub read : allRead H x (take (m .size) (m .text)) (roomsOf t) (length c) ≡ good (record { files = f; choices = cs })
+  pub read : allRead H x (take (m .length) (m .text)) (roomsOf t) (length c) ≡ good (record { files = f; choices = cs })
   -- and it is accepted against the same files
-  pub accepted : checked H x (take (m .size) (m .text)) t c .answer ≡ Accepted
+  pub accepted : checked H x (take (m .length) (m .text)) t c .answer ≡ Accepted
 
 -- the written text fits the lent buffer; the text limit always suffices
 abbrev pub HasRoom : Files → List Configuration → (buffer : List ℕ) → Type 0

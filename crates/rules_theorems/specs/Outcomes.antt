@@ -40,7 +40,7 @@ pub record SameReport (a b : Reported) : Type 0 where
 
 pub record SameMerge (a b : Merged) : Type 0 where
   pub answer : a .answer ≡ b .answer
-  pub size : a .size ≡ b .size
+  pub length : a .length ≡ b .length
 
 module _ (H : ℕ) (x : Texts) (s : List ℕ) where
   abbrev pub ChecksOwnInput : Type 0

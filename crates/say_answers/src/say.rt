@@ -2,6 +2,7 @@
 use libc::STDOUT_FILENO;
 use rules::figures::Peak;
 use say_words::energies;
+use say_words::names;
 use say_words::numbers;
 use say_words::times;
 use text_read::pieces;
@@ -53,11 +54,11 @@ fn put(line: &mut [u8], letter: u8, n: u64) -> usize {
         Letter::COUNT => numbers::put_whole(line, 0, n),
         Letter::TIME => times::put_time(line, 0, n),
         Letter::ENERGY => energies::put_mwh(line, 0, n),
-        Letter::KIND => say_names::put_kind(line, 0, number),
-        Letter::LIST => say_names::put_list(line, 0, number),
-        Letter::MEANING => say_names::put_meaning(line, 0, number),
-        Letter::FILE => say_names::put_file(line, 0, number),
-        Letter::BYTE => say_bytes::put_shown(line, 0, number),
+        Letter::KIND => names::put_kind(line, 0, number),
+        Letter::LIST => names::put_list(line, 0, number),
+        Letter::MEANING => names::put_meaning(line, 0, number),
+        Letter::FILE => names::put_file(line, 0, number),
+        Letter::BYTE => say_words::bytes::put_shown(line, 0, number),
         _ => 0,
     }
 }
@@ -114,7 +115,7 @@ pub fn peak(h: u32, p: Peak) {
 
 pub fn formula(kind: u8, inequality: u8) {
     let mut line = [0u8; LINE];
-    let end = say_names::put_formula(&mut line, 0, kind, inequality);
+    let end = names::put_formula(&mut line, 0, kind, inequality);
     front(&line, end);
 }
 

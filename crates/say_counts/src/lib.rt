@@ -1,4 +1,4 @@
-// How much was read, counted off the tables: they are lent filled with a number that no field can have, so the entries end at the first of it.
+// How much was read, counted off the tables: they are lent filled with a number that no field can have, so the entries end at the first of it. The small program says it of every acceptance.
 ghost use mathlib.Core.Path.{_≡_};
 ghost use Prim.Native.Nat.{_/_, _<_};
 ghost use lib.ListN.{length};

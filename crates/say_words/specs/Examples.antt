@@ -5,6 +5,7 @@ use mathlib.Core.List.{[], _∷_, map}
 use Rattle.rules.specs.Bytes.{bytes}
 use Rattle.say_words.specs.Times.{hour, clockOf, timeOf, quarterOf}
 use Rattle.say_words.specs.Energies.{decimalsOf, mwhOf, mwOf, peakText}
+use Rattle.say_words.specs.Shown.{shown}
 
 -- past midnight, on the hour, the last second of a day, the first of the next
 pub clocks : map clockOf (0 ∷ 59 ∷ 3_600 ∷ (24 * hour - 1) ∷ 24 * hour ∷ 90_850 ∷ 360_000 ∷ []) ≡ bytes "00:00:00" ∷ bytes "00:00:59" ∷ bytes "01:00:00" ∷ bytes "23:59:59" ∷ bytes "24:00:00" ∷ bytes "25:14:10" ∷ bytes "100:00:00" ∷ []
@@ -33,3 +34,7 @@ peaks = refl
 pub peak-texts : peakText 899 (record { kj = 0; quarter = 0 }) ∷ peakText 900 (record { kj = 2_050; quarter = 0 }) ∷ peakText 90_000 (record { kj = 1_234_567; quarter = 29 }) ∷ [] ≡ bytes "0 kJ, no whole quarter hour within the horizon" ∷ bytes "2050 kJ, 0.002 MW, 00:00:00 to 00:15:00" ∷ bytes "1234567 kJ, 1.371 MW, 07:15:00 to 07:30:00" ∷ []
 unfolding clockOf quarterOf decimalsOf peakText
 peak-texts = refl
+
+-- a space, a tilde, the byte past it, an escape, a line feed, the greatest byte
+pub bytes-shown : map shown (32 ∷ 126 ∷ 127 ∷ 27 ∷ 10 ∷ 255 ∷ []) ≡ bytes " " ∷ bytes "~" ∷ bytes "\\x7f" ∷ bytes "\\x1b" ∷ bytes "\\x0a" ∷ bytes "\\xff" ∷ []
+bytes-shown = refl

@@ -3,5 +3,7 @@ pub mod Numbers
 pub mod Times
 pub mod Energies
 pub mod Needs
+pub mod Names
+pub mod Shown
 -- Computed.
 pub mod Examples

@@ -1,9 +1,9 @@
 // The groups: what a group's word asks for, its files read, and the entry called.
 ghost use Prim.Native.Nat.{_+_, _<_, _^_};
 ghost use Rattle.io.specs.Counts.{Counts};
-ghost use Rattle.small_words.specs.Words.{ofSolution, ofTwo};
-use merge_choice::Direction;
+ghost use Rattle.small_input.specs.Words.{ofSolution, ofTwo};
 use rules::answers::File;
+use rules::outcomes::Direction;
 use say_answers::say;
 use small_check::checks;
 use small_check::energies;
@@ -12,7 +12,7 @@ use small_input::arguments::Given;
 use small_input::files;
 use small_input::files::Loaded;
 use small_input::rooms;
-use small_words::Words;
+use small_input::words::Words;
 
 pub enum Asked {
     Verdict,

@@ -9,9 +9,10 @@ mod groups; // the groups
 ghost use Prim.Native.Nat.{_+_, _<_, _^_};
 use groups::Asked;
 use groups::Entry;
-use merge_choice::Direction;
+use rules::outcomes::Direction;
 use say_answers::say;
-use small_words::Words;
+use small_input::words;
+use small_input::words::Words;
 
 // The group that starts at argument `at`, of the `left` that are left: how many it takes.
 fn solution_group(at: usize, left: usize, asked: Asked) -> usize
@@ -19,7 +20,7 @@ fn solution_group(at: usize, left: usize, asked: Asked) -> usize
     requires { ⌜ at + left < 2 ^ 64 ⌝ }
     ensures { λ r. ⌜ 0 < r ⌝ }
 {
-    if small_words::is_whole(Words::OF_SOLUTION, left) {
+    if words::is_whole(Words::OF_SOLUTION, left) {
         groups::answer_solution(at, asked);
         return Words::OF_SOLUTION;
     }
@@ -34,7 +35,7 @@ fn merge_group(at: usize, left: usize, direction: Direction) -> usize
     requires { ⌜ at + left < 2 ^ 64 ⌝ }
     ensures { λ r. ⌜ 0 < r ⌝ }
 {
-    if small_words::is_whole(Words::OF_TWO, left) {
+    if words::is_whole(Words::OF_TWO, left) {
         groups::answer_two(at, direction);
         return Words::OF_TWO;
     }

@@ -1,8 +1,9 @@
 // `merge-earlier H TIMETABLE PROFILES CONSTRAINTS FIRST SECOND OUT`, and `merge-later`: the merged timetable goes to OUT and the report to standard output.
 use checker::display;
-use merge_choice::Direction;
+use checker::merges;
 use rules::answers::Answer;
 use rules::answers::File;
+use rules::outcomes::Direction;
 use say_answers::say;
 use small_input::files;
 use small_input::rooms;
@@ -55,7 +56,7 @@ fn close(answer: Answer, out: usize, text: &[u8], length: usize) {
     }
 }
 
-// The merge of a direction, which is what both entries are. Every table is lent full of a number that no field can have. The text has room for any merge: a merged row differs from the draft's in its nominal alone,
+// Every table is lent full of a number that no field can have. The text has room for any merge: a merged row differs from the draft's in its nominal alone,
 // which stands in its list too, so it is not twice as long.
 pub fn merge<'a>(
     direction: Direction,
@@ -76,7 +77,7 @@ pub fn merge<'a>(
     let mut choices = rooms::table();
     let mut second_choices = rooms::table();
     let mut text = io::large_buffer();
-    let merged = merge::merge(
+    let merged = merges::merge(
         direction,
         h,
         timetable,

@@ -19,10 +19,10 @@ use Rattle.rules.specs.Reading.{sameLeg, differsFrom, matched}
 use Rattle.rules.proofs.Truth.{and-true}
 use Rattle.timetable_row.specs.Slots.{heldIds}
 use Rattle.timetable.proofs.Words.{length-snoc}
-use Rattle.solution_draft.specs.declared.Compared.{Compared}
-use Rattle.solution_draft.specs.declared.Choices.{Choices}
-use Rattle.solution_draft.specs.declared.Choices.the-variants.{Fault, Read}
-use Rattle.solution_draft.specs.Against.{sameAt, differsAt, comparedWith, comparedAnswer}
+use Rattle.solution_row.specs.declared.draft.Compared.{Compared}
+use Rattle.solution_row.specs.declared.draft.Choices.{Choices}
+use Rattle.solution_row.specs.declared.draft.Choices.the-variants.{Fault, Read}
+use Rattle.solution_row.specs.Against.{sameAt, differsAt, comparedWith, comparedAnswer}
 use Rattle.solution.specs.Promise.{HoldsRows, choicesAnswer}
 use Rattle.solution.specs.Whole.{choicesAfter}
 

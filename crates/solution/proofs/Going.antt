@@ -22,11 +22,11 @@ use Rattle.text_read.proofs.Laws.{pieces-next, pieces-last}
 use Rattle.timetable_row.specs.declared.line.Line.{Line}
 use Rattle.timetable.specs.Text.{firstLine}
 use Rattle.timetable.proofs.Words.{length-snoc}
-use Rattle.solution_draft.specs.declared.Compared.{Compared}
-use Rattle.solution_draft.specs.declared.Choices.{Choices}
-use Rattle.solution_draft.specs.declared.Choices.the-variants.{Fault}
+use Rattle.solution_row.specs.declared.draft.Compared.{Compared}
+use Rattle.solution_row.specs.declared.draft.Choices.{Choices}
+use Rattle.solution_row.specs.declared.draft.Choices.the-variants.{Fault}
 use Rattle.solution_row.specs.Tests.{Roomy}
-use Rattle.solution_draft.specs.Against.{noneDiffers, comparedWith, comparedAnswer}
+use Rattle.solution_row.specs.Against.{noneDiffers, comparedWith, comparedAnswer}
 use Rattle.solution.specs.Said.{Alone}
 use Rattle.solution.specs.Before.{packedRow, Counted, AfterRow, Turned}
 use Rattle.solution.specs.Promise.{HoldsRows}

@@ -14,8 +14,8 @@ use Rattle.rules.specs.Rows.{csvOf}
 use Rattle.rules.specs.Timetable.{Row, solutionOf, timetableHeader, choicesOf, configurationNumbers}
 use Rattle.rules.specs.Reading.{Files, differsFrom, matched, choicesRead}
 use Rattle.rules.specs.declared.sizes.Configuration.{Configuration}
-use Rattle.solution_draft.specs.declared.Choices.{Choices}
-use Rattle.solution_draft.specs.declared.Choices.the-variants.{Fault, Read}
+use Rattle.solution_row.specs.declared.draft.Choices.{Choices}
+use Rattle.solution_row.specs.declared.draft.Choices.the-variants.{Fault, Read}
 use Rattle.solution.specs.Promise.{Able, HoldsRows, choicesAnswer, ChoicesRead}
 use Rattle.solution.specs.Whole.{Headed, rowsAfter, choicesAfter, RowsRead, unpacked}
 use Rattle.solution.proofs.Differing.{choices-length}

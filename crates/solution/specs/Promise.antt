@@ -9,8 +9,8 @@ use Rattle.rules.specs.Answers.{Reading, refused, good}
 use Rattle.rules.specs.Timetable.{Row, legsOf, legNumbers, configurationNumbers}
 use Rattle.rules.specs.Reading.{Files, choicesRead}
 use Rattle.rules.specs.declared.sizes.Configuration.{Configuration}
-use Rattle.solution_draft.specs.declared.Choices.{Choices}
-use Rattle.solution_draft.specs.declared.Choices.the-variants.{Fault, Read}
+use Rattle.solution_row.specs.declared.draft.Choices.{Choices}
+use Rattle.solution_row.specs.declared.draft.Choices.the-variants.{Fault, Read}
 
 -- a horizon that is not too long, and a table of so many legs
 pub record Able (H : ℕ) (legs : List ℕ) (n : ℕ) : Type 0 where

@@ -14,8 +14,8 @@ use Rattle.rules.specs.Reading.{differsFrom, matched}
 use Rattle.rules.specs.Energy.{tabulate}
 use Rattle.rules.specs.Verdict.{All}
 use Rattle.rules.specs.declared.sizes.Configuration.{Configuration}
-use Rattle.solution_draft.specs.declared.Choices.{Choices}
-use Rattle.solution_draft.specs.declared.Choices.the-variants.{Read}
+use Rattle.solution_row.specs.declared.draft.Choices.{Choices}
+use Rattle.solution_row.specs.declared.draft.Choices.the-variants.{Read}
 use Rattle.solution.specs.Before.{travels, timesAt, profileAt, packedRow}
 use Rattle.solution.specs.Promise.{Able, HoldsRows, choicesAnswer}
 

@@ -6,6 +6,7 @@ ghost use Rattle.solution.specs.Before.{countedAs, Turned};
 use crate::row;
 use rules::sizes::Configuration;
 use rules::sizes::Leg;
+use solution_row::faults;
 use timetable_row::line;
 use timetable_row::line::Line;
 
@@ -35,7 +36,7 @@ pub fn turn(bytes: &[u8], h: u32, before: Line, choices: &mut [u32]) -> Line
         return alone;
     }
     let line = counted_as(alone, before);
-    let number = solution_row::fault(line, h, choices);
+    let number = faults::fault(line, h, choices);
     if number != 0 {
         return line::stopped(line, number);
     }

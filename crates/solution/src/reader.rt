@@ -6,12 +6,14 @@ ghost use Rattle.rules.specs.Limits.{configurationWidth};
 ghost use Rattle.solution.specs.Promise.{Able, ChoicesRead};
 ghost use Rattle.solution.specs.Whole.{Headed, RowsRead, unpacked};
 use crate::after;
+use csv_lines::ends;
 use rules::answers::Refusal;
 use rules::sizes::Choice;
 use rules::sizes::Configuration;
 use rules::sizes::Leg;
 use rules::sizes::Text;
-use solution_draft::Choices;
+use solution_row::draft;
+use solution_row::draft::Choices;
 use text_read::words;
 use timetable::reader;
 use timetable_row::line;
@@ -22,11 +24,11 @@ fn read_rows(text: &[u8], h: u32, legs: &[u32], n: usize, choices: &mut [u32]) -
     ensures { λ r. ⌜ RowsRead h (now (text .entry)) (now (legs .entry)) n (now (choices .entry)) r (now (choices .exit)) ⌝ }
 {
     let mut line = reader::first_line();
-    let mut compared = solution_draft::none_differs();
+    let mut compared = draft::none_differs();
     let mut i = Leg::HEADER_LENGTH;
     while i < text.len() {
         let place = i as u32;
-        let e = csv_line_end::line_end(text, i);
+        let e = ends::line_end(text, i);
         if text.len() <= e {
             return Choices::Fault(Refusal::ROW_FORM, place);
         }
@@ -36,10 +38,10 @@ fn read_rows(text: &[u8], h: u32, legs: &[u32], n: usize, choices: &mut [u32]) -
             return Choices::Fault(line.fault, place);
         }
         let numbers = line.numbers;
-        compared = solution_draft::compared_with(compared, numbers, legs, n, row, place);
+        compared = draft::compared_with(compared, numbers, legs, n, row, place);
         i = e + 1;
     }
-    solution_draft::compared_answer(compared, line.rows, n, text.len())
+    draft::compared_answer(compared, line.rows, n, text.len())
 }
 
 // The choices of n rows, out of ids and choices.

@@ -13,8 +13,8 @@ use Rattle.rules.specs.declared.sizes.Configuration.{Configuration}
 use Rattle.rules.specs.declared.answers.Refusal.{Refusal}
 use Rattle.rules_theorems.proofs.FileRefusals.{Refuses, refuses, choices-refuse}
 use Rattle.rules_theorems.proofs.GoodFiles.{files-good}
-use Rattle.solution_draft.specs.declared.Choices.{Choices}
-use Rattle.solution_draft.specs.declared.Choices.the-variants.{Fault, Read}
+use Rattle.solution_row.specs.declared.draft.Choices.{Choices}
+use Rattle.solution_row.specs.declared.draft.Choices.the-variants.{Fault, Read}
 use Rattle.solution.specs.Promise.{Able, HoldsRows, choicesAnswer, ChoicesRead}
 use Rattle.tables_lent.specs.declared.Counts.{Counts}
 use Rattle.tables_lent.proofs.Filing.{same-refusal}

@@ -1,9 +1,9 @@
-// A solution over files that were read: it is chosen from, and judged.
+// A solution over files that were read: its choices are read, and judged. Check and energy ask it once, a merge twice.
 ghost use Rattle.solution_verdict.specs.Left.{Choosable, Chooses, Ready, Judges};
 use rules::answers::Answer;
 use rules::answers::Refusal;
 use solution::reader;
-use solution_draft::Choices;
+use solution_row::draft::Choices;
 use tables_lent::Counts;
 
 pub enum Chosen {

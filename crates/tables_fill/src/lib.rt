@@ -1,5 +1,5 @@
-// After a refusal a lent table or text holds only a number that no field can have (document 01, "The tables"):
-// one function for each type of element, over the whole slice.
+// After a refusal a lent table or text holds only a number that no field can have (document 01, "The tables"): one function for each type of element, over the whole slice. `tables_lent` calls them
+// for the entries, and the curves begin with zeros by them.
 ghost use mathlib.Core.Path.{_≡_};
 ghost use Rattle.rules.specs.Limits.{unsignedFill, signedFill, byteFill};
 ghost use Rattle.rules.specs.Entries.{filled};

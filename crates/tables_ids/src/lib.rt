@@ -1,5 +1,5 @@
-// Where an id stands in a flat table of records, each of which begins with its id; and whether an id is new.
-// Ids mostly rise from record to record, so what rises is searched by halves, and the rest record by record.
+// Where an id stands in a flat table of records, each of which begins with its id; and whether an id is new. Ids mostly rise from record to record, so what rises is searched by halves, and the rest
+// record by record. The readers and the energies look up by it.
 ghost use mathlib.Core.Path.{_≡_};
 ghost use Prim.Native.Nat.{_≤_};
 ghost use lib.Dec.{eqb};

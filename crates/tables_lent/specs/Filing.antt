@@ -1,17 +1,12 @@
--- The texts of the files, and what their reading answers.
-use Prim.Native.Nat.{ℕ}
-use mathlib.Core.List.{List}
+-- What the reading of the files answers.
 use lib.ListN.{length}
 use Rattle.rules.specs.Answers.{Reading, refused, good}
 use Rattle.rules.specs.Timetable.{listed}
 use Rattle.rules.specs.Profiles.{sampled}
-use Rattle.rules.specs.Reading.{Texts, Files}
+use Rattle.rules.specs.Reading.{Files}
 use Rattle.tables_lent.specs.declared.Counts.{Counts}
 use Rattle.tables_lent.specs.declared.Filed.{Filed}
 use Rattle.tables_lent.specs.declared.Filed.the-variants.{Whole, Refused}
-
-abbrev pub texts : (timetable profiles constraints : List ℕ) → Texts
-texts timetable profiles constraints = record { timetable = timetable; profiles = profiles; constraints = constraints }
 
 -- the entries of the tables, and the subnets
 abbrev pub countsOf : Files → Counts

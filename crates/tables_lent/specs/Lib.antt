@@ -1,2 +1,2 @@
 pub mod Filing
-pub mod Lent
+pub mod After

@@ -1,4 +1,5 @@
-// Reading the flat tables of document 01 record by record. What lies past the end of a table reads as 0, so nothing is asked of a caller.
+// Reading the flat tables of document 01 record by record. What lies past the end of a table reads as 0, so nothing is asked of a caller. Whatever works on tables that were read does it by these:
+// 12 to 15, the verdict, the energies, the merges.
 ghost use mathlib.Core.Path.{_≡_};
 ghost use Prim.Native.Nat.{_<_};
 ghost use Rattle.tables_views.specs.View.{entryAt, legAt, configurationAt, profileAt, constraintAt, trackAt};

@@ -1,5 +1,5 @@
 // Bytes and whole numbers, written at a place of a lent buffer. Each function answers the place after the whole text, as if there were room:
-// so a caller knows afterwards how long the text is, and whether it fits.
+// so a caller knows afterwards how long the text is, and whether it fits. Merged timetables and the words of an answer are written by it.
 ghost use mathlib.Core.Path.{_≡_};
 ghost use Prim.Native.Nat.{_+_, min};
 ghost use mathlib.Core.List.{_∷_, []};

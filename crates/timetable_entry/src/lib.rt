@@ -1,4 +1,4 @@
-// A whole entry of a list, where one stands: three numbers, each with the byte that closes it. What is no whole entry is a miss.
+// A whole entry of a list, where one stands: three numbers, each with the byte that closes it. It is the fast way of `timetable`; what is no whole entry is a miss, and goes byte by byte.
 ghost use Rattle.timetable_entry.specs.Spots.{Cuts, Spots};
 use timetable_row::number;
 use timetable_row::number::Number;

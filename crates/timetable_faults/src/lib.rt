@@ -1,4 +1,4 @@
-// The number by which a timetable's row that is over is at fault: its tests, in the order of their numbers.
+// The number by which a timetable's row that is over is at fault: its tests, in the order of their numbers. The draft's reader asks it, and a solution's shares its laws.
 ghost use mathlib.Core.Path.{_≡_};
 ghost use mathlib.Core.Bool.{not};
 ghost use Rattle.timetable_row.specs.RowOver.{isNew, roomHolds, lineTests, lowest};

@@ -1,4 +1,4 @@
-// timetable.csv's header, compared byte by byte, whole or in parts.
+// timetable.csv's header, compared byte by byte, whole or in parts. It stands apart from `timetable` because the wrong program is refused here in seconds.
 ghost use mathlib.Core.Path.{_≡_};
 ghost use Prim.Native.Nat.{_+_, _≤_};
 ghost use lib.ListN.{length};

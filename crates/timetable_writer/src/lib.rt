@@ -1,4 +1,4 @@
-// The header and the rows of a timetable, written out of the draft's tables.
+// The header and the rows of a timetable, written out of the draft's tables. `merge_text` puts the chosen nominal into each row.
 ghost use mathlib.Core.List.{_++_, _∷_, []};
 ghost use Rattle.rules.specs.Bytes.{spelled};
 ghost use Rattle.rules.specs.Timetable.{timetableHeader};

@@ -1,4 +1,4 @@
-// The verdict over the tables: first each row in order, then the constraint table in order, up to the first inequality that fails.
+// The verdict over the tables: first each row in order, then the constraint table in order, up to the first inequality that fails. `solution_verdict` asks it about a solution that was read.
 ghost use mathlib.Core.Path.{_≡_};
 ghost use Rattle.rules.specs.Verdict.{verdict, answerOf};
 ghost use Rattle.tables_views.specs.View.{offersIn, constraintsIn, configurationsIn};

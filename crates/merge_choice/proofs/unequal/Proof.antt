@@ -2,7 +2,7 @@
 use Prim.Native.Nat.{_-_}
 use mathlib.Core.Path.{_≡_, refl, ap, sym, _∙_}
 use borrow.Author.Needs.{needs}
-use Rattle.merge_choice.specs.Either.{travelsOf}
+use Rattle.merge_choice.specs.Travels.{travelsOf}
 use Rattle.merge_choice.proofs.EqualTravel.{unequalAfter, unequal-here, unequal-later, unequal-none}
 use Rattle.merge_choice.proofs.unequal.Statement.{statement}
 use Rattle.merge_choice.proofs.unequal.Tie as tie

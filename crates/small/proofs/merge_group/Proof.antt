@@ -1,6 +1,6 @@
 -- `small::merge_group` meets its contract: the words of a whole group are there. Assumes nothing.
 use borrow.Author.Needs.{needs}
-use Rattle.small_words.proofs.Whole.{whole-within}
+use Rattle.small_input.proofs.Whole.{whole-within}
 use Rattle.small.proofs.merge_group.Statement.{statement}
 use Rattle.small.proofs.merge_group.Tie as tie
 

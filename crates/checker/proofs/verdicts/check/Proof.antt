@@ -1,8 +1,8 @@
 -- `checker::verdicts::check` meets its contract: what was read stands, and after a refusal everything is filled. Assumes nothing.
 use mathlib.Core.Path.{_∙_}
 use borrow.Author.Needs.{needs}
+use Rattle.rules.specs.Reading.{texts}
 use Rattle.rules.specs.Entries.{tables}
-use Rattle.tables_lent.specs.Filing.{texts}
 use Rattle.checker.proofs.CheckWays.{check-ends}
 use Rattle.checker.proofs.verdicts.check.Statement.{statement}
 use Rattle.checker.proofs.verdicts.check.Tie as tie

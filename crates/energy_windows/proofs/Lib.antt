@@ -1,3 +1,0 @@
-pub mod Adding
-pub mod Cutting
-pub mod Homes

@@ -1,0 +1,28 @@
+// What the entries give back, and which merge is asked for. Every crate that makes a part of an outcome names these; what is promised of each stands in ../specs/Promises.antt.
+use crate::answers::Answer;
+use crate::figures::Desk;
+use crate::figures::Figures;
+
+// What `check` gives back.
+pub struct Checked {
+    pub answer: Answer,
+}
+
+// What `energy` gives back: short of acceptance all figures are 0.
+pub struct Report {
+    pub answer: Answer,
+    pub figures: Figures,
+    pub desk: Desk,
+}
+
+// What `merge` gives back: the length is that of the text it wrote, and 0 short of acceptance.
+pub struct Merged {
+    pub answer: Answer,
+    pub length: usize,
+}
+
+// Which of two choices `merge` takes at each leg. An enum, so that there is no wrong one.
+pub enum Direction {
+    Earlier,
+    Later,
+}

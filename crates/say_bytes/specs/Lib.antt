@@ -1,3 +1,0 @@
-pub mod Shown
--- Computed.
-pub mod Examples

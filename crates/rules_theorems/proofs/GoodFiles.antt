@@ -44,6 +44,7 @@ horizon-good H n e =
 pub record GoodFiles (H : ℕ) (x : Texts) (room : Rooms) (files : Files) : Type 0 where
   pub horizon : (leastHorizon ≤ H) × (H ≤ mostHorizon)
   pub timetable : Written H (draftFits (room .legs / legWidth) (room .configurations / configurationWidth)) (x .timetable) (files .rows)
+  pub profiles-read : profilesOf (room .profiles / profileWidth) (room .samples) (x .profiles) ≡ good (files .curves)
   pub profiles : LawfulCurves (room .profiles / profileWidth) (room .samples) (files .curves)
   pub powered : firstFault 0 (profileFault (files .curves)) (files .rows) ≡ none
   pub constraints : constraintsOf (legIds (files .rows)) (room .constraints / constraintWidth) (room .tracks / trackWidth) plainRules (x .constraints) ≡ good (files .document)
@@ -76,6 +77,7 @@ files-good H x room files e =
         (record {
           horizon = h;
           timetable = timetable-good H (room .legs / legWidth) (room .configurations / configurationWidth) (x .timetable) rows .0 t;
+          profiles-read = p;
           profiles = profiles-good (room .profiles / profileWidth) (room .samples) (x .profiles) curves p;
           powered = q;
           constraints = d;

@@ -1,1 +1,4 @@
-pub mod DemandThree
+-- What the answers of a report and of a merge rest on
+pub mod Answers
+-- The three demands
+pub mod DemandOne

@@ -2,3 +2,4 @@
 pub mod Answers
 -- The three demands
 pub mod DemandOne
+pub mod DemandTwo

@@ -3,3 +3,4 @@ pub mod Answers
 -- The three demands
 pub mod DemandOne
 pub mod DemandTwo
+pub mod DemandThree

@@ -9,7 +9,7 @@ use lib.ListN.{length, drop}
 use Rattle.rules.specs.Limits.{mostText, mostId, mostConstraints, mostTracks, configurationWidth}
 use Rattle.rules.specs.Lists.{startsWith, any}
 use Rattle.rules.specs.Kinds.{subnets}
-use Rattle.rules.specs.Answers.{Reading, refused, good, Judged, wrong, right, timetableFile, profilesFile, solutionFile}
+use Rattle.rules.specs.Answers.{Reading, refused, good, Judged, wrong, right, timetableFile, profilesFile, solutionFile, secondFile}
 use Rattle.rules.specs.Bytes.{lineFeed, splitOn}
 use Rattle.rules.specs.Rows.{onRow, lastLine, rowsFrom, csvOf, placeOfRow}
 use Rattle.rules.specs.Timetable.{Row, rowOf, formOf, timetableHeader, timetableOf, solutionOf, draftFits, solutionFits, choicesOf}
@@ -17,7 +17,7 @@ use Rattle.rules.specs.Profiles.{Curve, profilesHeader, profilesOf, formOf as c
 use Rattle.rules.specs.Tokens.{Token, tokensOf}
 use Rattle.rules.specs.Constraints.{actionOf, Document, Turn, fault, on, finish, isNumber, numberOf, start, empty, plainRules, listName, documentEnds, recordOpens, keyName, recordEnds, stringValue, stringCut, legValue, subnetValue, secondsValue, numberValue, tracksOpen, trackNumber, act, turnOf, onward, run, constraintsOf}
 use Rattle.rules.specs.Reading.{Rooms, Texts, Files, legIds, filesOf, sameLeg, differsFrom, choicesRead}
-use Rattle.rules.specs.Entries.{Whole, allRead}
+use Rattle.rules.specs.Entries.{Whole, allRead, Both, bothRead}
 use Rattle.rules.specs.declared.sizes.Configuration.{Configuration}
 use Rattle.rules.specs.declared.tokens.Action.{Action}
 use Rattle.rules.specs.declared.tokens.Action.the-variants.{Broken, Early, Goes, ListName, DocumentEnds, RecordOpens, KeyName, RecordEnds, StringValue, StringCut, NumberValue, TracksOpen, TrackNumber, Finishes}
@@ -27,7 +27,7 @@ use Rattle.rules_theorems.specs.WellFormed.{Written}
 use Rattle.rules_theorems.proofs.GoodText.{never-good, good-test}
 use Rattle.rules_theorems.proofs.GoodRows.{form-right, curve-right, timetable-good, solution-good}
 use Rattle.rules_theorems.proofs.LawfulRows.{choices-fit}
-use Rattle.rules_theorems.proofs.GoodFiles.{files-good, choices-good, good-choices, all-good, good-all}
+use Rattle.rules_theorems.proofs.GoodFiles.{files-good, choices-good, good-choices, all-good, both-good}
 
 -- ---- CSV: two judges that take a line for the same row, where neither finds it wrong
 
@@ -221,3 +221,14 @@ all-alike H x s room₁ room₂ choices₁ choices₂ w v e k =
     let choices : w .choices ≡ v .choices =
     choices-alike H (w .files) solutionFile solutionFile choices₁ choices₂ s (w .choices) (v .choices) (one .1) (rw files (two .1)) in
     λ i. record { files = files i; choices = choices i }
+
+-- and so it is with two solutions
+pub both-alike : (H : ℕ) (x : Texts) (s r : List ℕ) (room₁ room₂ : Rooms) (choices₁ second₁ choices₂ second₂ : ℕ) (b : Both) (f : Files) (cs ds : List Configuration)
+    → bothRead H x s r room₁ choices₁ second₁ ≡ good b → filesOf H x room₂ ≡ good f
+    → choicesRead H f solutionFile choices₂ s ≡ good cs → choicesRead H f solutionFile second₂ r ≡ good ds → b ≡ record { files = f; first = cs; second = ds }
+both-alike H x s r room₁ room₂ choices₁ second₁ choices₂ second₂ b f cs ds e k c d =
+    let one = both-good H x s r room₁ choices₁ second₁ b e in
+    let files : b .files ≡ f = files-alike H x room₁ room₂ (b .files) f (one .0) k in
+    let first : b .first ≡ cs = choices-alike H f solutionFile solutionFile choices₁ choices₂ s (b .first) cs (rw files at (one .1)) c in
+    let second : b .second ≡ ds = choices-alike H f secondFile solutionFile second₁ second₂ r (b .second) ds (rw files at (one .2)) d in
+    λ i. record { files = files i; first = first i; second = second i }

@@ -98,8 +98,8 @@ module _ (H : ℕ) (x : Texts) (f : Files) where
       merge-says : m .result .answer ≡ Accepted → BothRead H x a b (m .lent) (m .lentChoices) (m .lentSecond) f s r
       merge-says h =
           let w =
-              merge-read (mergeOf direction) H x a b (m .lent) (m .lentChoices) (m .lentSecond) (m .lentText)
-              (λ q. accepted-not-refused (refused-as (sym (m .keeps .answer) ∙ h) q)) in
+          merge-read (mergeOf direction) H x a b (m .lent) (m .lentChoices) (m .lentSecond) (m .lentText)
+          (λ q. accepted-not-refused (refused-as (sym (m .keeps .answer) ∙ h) q)) in
           w .1
           ∙ ap good
           (both-alike H x a b (roomsOf (m .lent)) (roomsOf (one .t)) (length (m .lentChoices)) (length (m .lentSecond)) (length (one .c)) (length (two .c)) (w .0) f s r
@@ -125,8 +125,8 @@ module _ (H : ℕ) (x : Texts) (f : Files) where
       reports-accept h k room fits =
           let v = merge-fair direction f s r same (one .verdict) (two .verdict) in
           let reads =
-              subst (λ e. Reads H x e (k .lent) (k .lentChoices) f (mergeOf direction s r)) (sym (judges h .written h))
-              (text-reads (mergeOf direction s r) v (k .lent) (k .lentChoices) room) in
+          subst (λ e. Reads H x e (k .lent) (k .lentChoices) f (mergeOf direction s r)) (sym (judges h .written h))
+          (text-reads (mergeOf direction s r) v (k .lent) (k .lentChoices) room) in
           demand-two H x f .energy k reads .accepted .1 (is-fair (new-known h), fits)
 
   module _ (a b : List ℕ) (s r : List Configuration) (one : Known H x f a s) (two : Known H x f b r) (same : SameTravel s r) where

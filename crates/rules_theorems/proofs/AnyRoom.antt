@@ -77,7 +77,7 @@ unfolding solutionOf
 solutions-alike H file choices₁ choices₂ s rs qs =
     csv-alike file (rowOf H (solutionFits choices₁)) (rowOf H (solutionFits choices₂))
     (λ before line r q e k.
-        one-form (formOf line) r q (form-right H (solutionFits choices₁) before (formOf line) r e .0) (form-right H (solutionFits choices₂) before (formOf line) q k .0))
+    one-form (formOf line) r q (form-right H (solutionFits choices₁) before (formOf line) r e .0) (form-right H (solutionFits choices₂) before (formOf line) q k .0))
     timetableHeader s rs qs
 
 profiles-alike : (profiles₁ samples₁ profiles₂ samples₂ : ℕ) (s : List ℕ) (rs qs : List Curve)
@@ -86,7 +86,7 @@ unfolding profilesOf
 profiles-alike profiles₁ samples₁ profiles₂ samples₂ s rs qs =
     csv-alike profilesFile (curveRow profiles₁ samples₁) (curveRow profiles₂ samples₂)
     (λ before line r q e k.
-        one-form (curveForm line) r q (curve-right profiles₁ samples₁ before (curveForm line) r e .0) (curve-right profiles₂ samples₂ before (curveForm line) q k .0))
+    one-form (curveForm line) r q (curve-right profiles₁ samples₁ before (curveForm line) r e .0) (curve-right profiles₂ samples₂ before (curveForm line) q k .0))
     profilesHeader s rs qs
 
 -- ---- constraints.json: two turns that are the same, unless one of them is a fault
@@ -118,7 +118,7 @@ module _ (legs : List ℕ) (constraints₁ tracks₁ constraints₂ tracks₂ : 
   act-alike (Goes p) st d t = same
   act-alike ListName st d t = same
   act-alike DocumentEnds st d t = same
-  act-alike RecordOpens st d t = 
+  act-alike RecordOpens st d t =
       after-other (eqb (st .list) subnets) _ _ _
       (after-test (ltb (length (d .constraints)) mostConstraints) _ _ _
       (room-alike (ltb (length (d .constraints)) constraints₁) (ltb (length (d .constraints)) constraints₂) _ _ _))

@@ -12,9 +12,10 @@ use Rattle.rules.specs.declared.sizes.Configuration.{Configuration}
 use Rattle.rules.specs.declared.answers.Answer.{Answer}
 use Rattle.rules.specs.declared.answers.Answer.the-variants.{Accepted}
 use Rattle.rules.specs.declared.outcomes.Direction.{Direction}
+use Rattle.rules_theorems.specs.Outcomes.{SameRoom}
 use Rattle.rules_theorems.specs.Demands.{IsRefused, EmptiedCheck, EmptiedReport, EmptiedMerge}
 use Rattle.rules_theorems.proofs.GoodFiles.{all-good, both-good}
-use Rattle.rules_theorems.proofs.OneOutcome.{one-outcome}
+use Rattle.rules_theorems.proofs.OneOutcome.{one-outcome, check-own-input, report-own-input, merge-own-input}
 use Rattle.rules_theorems.proofs.Fills.{no-field-is-fill, no-choice-is-fill, no-power-is-fill}
 use Rattle.rules_theorems.proofs.DemandOne.{demand-one as check-one, report-demand-one, merge-demand-one}
 use Rattle.checker_theorems.specs.Demands.{CheckOutcome, EnergyOutcome, MergeOutcome, TablesRead, ChoicesStand, CurvesStand, CheckEnds, EnergyEnds, MergeEnds, DemandOne}
@@ -134,6 +135,34 @@ module _ {H : ℕ} {x : Texts} where
             choices-stand H x (k .lent) (w .0 .files) (read .0) secondFile (k .lentSecond) b (w .0 .second) (read .2) (k .keeps .second ∙ left .2),
           )
 
+  -- ---- what the tables held before does not count
+
+  check-same : {solution : List ℕ} (k l : CheckOutcome H x solution) → SameRoom (k .lent) (l .lent) (k .lentChoices) (l .lentChoices) → k .result ≡ l .result
+  check-same {solution} k l room =
+      let answer : k .result .answer ≡ l .result .answer =
+      k .keeps .answer ∙ check-own-input H x solution (k .lent) (l .lent) (k .lentChoices) (l .lentChoices) room ∙ sym (l .keeps .answer) in
+      λ i. record { answer = answer i }
+
+  energy-same : {solution : List ℕ} (k l : EnergyOutcome H x solution) → SameRoom (k .lent) (l .lent) (k .lentChoices) (l .lentChoices)
+      → length (k .lentCurves) ≡ length (l .lentCurves) → k .result ≡ l .result
+  energy-same {solution} k l room curves =
+      let one = report-own-input H x solution (k .lent) (l .lent) (k .lentChoices) (l .lentChoices) (k .lentCurves) (l .lentCurves) room curves in
+      let answer : k .result .answer ≡ l .result .answer = k .keeps .answer ∙ one .answer ∙ sym (l .keeps .answer) in
+      let figures : k .result .figures ≡ l .result .figures = k .keeps .figures ∙ one .figures ∙ sym (l .keeps .figures) in
+      let desk : k .result .desk ≡ l .result .desk = k .keeps .desk ∙ one .desk ∙ sym (l .keeps .desk) in
+      λ i. record { answer = answer i; figures = figures i; desk = desk i }
+
+  merge-same : {direction : Direction} {a b : List ℕ} (k l : MergeOutcome direction H x a b) → SameRoom (k .lent) (l .lent) (k .lentChoices) (l .lentChoices)
+      → length (k .lentSecond) ≡ length (l .lentSecond) → length (k .lentText) ≡ length (l .lentText) → k .result ≡ l .result
+  merge-same {direction} {a} {b} k l room second text =
+      let one =
+          merge-own-input H x a (mergeOf direction) b (k .lent) (l .lent) (k .lentChoices) (l .lentChoices) (k .lentSecond) (l .lentSecond) (k .lentText) (l .lentText)
+          room second text in
+      let answer : k .result .answer ≡ l .result .answer = k .keeps .answer ∙ one .answer ∙ sym (l .keeps .answer) in
+      let size : k .result .length ≡ l .result .length = k .keeps .length ∙ one .length ∙ sym (l .keeps .length) in
+      λ i. record { answer = answer i; length = size i }
+
 -- THE DEMAND
 pub demand-one : (H : ℕ) (x : Texts) → DemandOne H x
-demand-one H x = record { check = check-ends; energy = energy-ends; merge = merge-ends }
+demand-one H x =
+    record { check = check-ends; energy = energy-ends; merge = merge-ends; check-own = check-same; energy-own = energy-same; merge-own = merge-same }

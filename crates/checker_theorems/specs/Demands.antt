@@ -26,7 +26,7 @@ use Rattle.rules.specs.declared.outcomes.Merged.{Merged}
 use Rattle.rules.specs.declared.outcomes.Direction.{Direction}
 use Rattle.rules.specs.declared.outcomes.Direction.the-variants.{Earlier, Later}
 use Rattle.rules_theorems.specs.Tests.{tests, FirstFailing, Numbered}
-use Rattle.rules_theorems.specs.Outcomes.{Outcome}
+use Rattle.rules_theorems.specs.Outcomes.{Outcome, SameRoom}
 use Rattle.rules_theorems.specs.Demands.{IsRefused, NoFieldIsFill, NoChoiceIsFill, NoPowerIsFill, HasRoom}
 
 -- ---- an outcome of a call: what was lent, what it gave back, and what was lent, as it is left
@@ -108,6 +108,12 @@ pub record DemandOne (H : ℕ) (x : Texts) : Type 0 where
   pub check : {solution : List ℕ} (k : CheckOutcome H x solution) → CheckEnds k
   pub energy : {solution : List ℕ} (k : EnergyOutcome H x solution) → EnergyEnds k
   pub merge : {direction : Direction} {a b : List ℕ} (k : MergeOutcome direction H x a b) → MergeEnds k
+  -- "Every public entry judges its own input": the texts, and how much was lent; what the tables held before does not count
+  pub check-own : {solution : List ℕ} (k l : CheckOutcome H x solution) → SameRoom (k .lent) (l .lent) (k .lentChoices) (l .lentChoices) → k .result ≡ l .result
+  pub energy-own : {solution : List ℕ} (k l : EnergyOutcome H x solution) → SameRoom (k .lent) (l .lent) (k .lentChoices) (l .lentChoices)
+      → length (k .lentCurves) ≡ length (l .lentCurves) → k .result ≡ l .result
+  pub merge-own : {direction : Direction} {a b : List ℕ} (k l : MergeOutcome direction H x a b) → SameRoom (k .lent) (l .lent) (k .lentChoices) (l .lentChoices)
+      → length (k .lentSecond) ≡ length (l .lentSecond) → length (k .lentText) ≡ length (l .lentText) → k .result ≡ l .result
 
 -- ---- DEMAND 2: "once every file reads": f is what the files say, cs, s and r are solutions' choices
 

@@ -1,7 +1,7 @@
 -- What an answer rests on: the reading, the verdicts, the travel times and the room. Assumes nothing.
 use Prim.Native.Nat.{ℕ, _*_}
 use mathlib.Core.Path.{_≡_, refl, sym, _∙_}
-use mathlib.Core.Bool.{Bool, true, false, _&&_}
+use mathlib.Core.Bool.{Bool, true, false, true≢false, _&&_}
 use mathlib.Core.List.{List}
 use mathlib.Core.Logic.{_↔_, _⊎_, inl, inr}
 use mathlib.Core.Option.{Option, none, some}
@@ -19,7 +19,9 @@ use Rattle.rules.specs.declared.sizes.Configuration.{Configuration}
 use Rattle.rules.specs.declared.answers.Refusal.{Refusal}
 use Rattle.rules.specs.declared.answers.Violation.{Violation}
 use Rattle.rules.specs.declared.answers.Answer.the-variants.{Accepted, Violated, Refused}
+use Rattle.rules.proofs.Truth.{missing}
 use Rattle.rules_theorems.specs.Demands.{IsRefused}
+use Rattle.rules_theorems.proofs.DemandOne.{accepted-not-refused, violated-not-refused}
 
 -- three answers are three
 pub refused-not-accepted : {r : Refusal} {A : Type 0} → Refused r ≡ Accepted → A
@@ -115,6 +117,14 @@ module _ (H : ℕ) (x : Texts) (s : List ℕ) (t : Tables) (c : List ℕ) where
           fitted false n = absurd (n (_, refl))
       judged-stands (violated k m i d) n = (refl, refl)
 
+      judged-decided : (v : Verdict) → fits ≡ true → IsRefused (reportJudged v H w t c p .answer) → ⊥
+      judged-decided accepted e = fitted fits e
+        where
+          fitted : (b : Bool) → b ≡ true → IsRefused (reportAccepted b H w t c p .answer) → ⊥
+          fitted true e = accepted-not-refused
+          fitted false e = absurd (true≢false (sym e))
+      judged-decided (violated k m i d) e = violated-not-refused _
+
       module _ (e : allRead H x s (roomsOf t) (length c) ≡ good w) where
         abbrev verdict : Verdict
         verdict = verdictOf (w .files) (w .choices)
@@ -132,6 +142,9 @@ module _ (H : ℕ) (x : Texts) (s : List ℕ) (t : Tables) (c : List ℕ) where
 
         pub report-violated : (y : Violation) → (reported H x s t c p .answer ≡ Violated y) ↔ (answerOf solutionFile verdict ≡ Violated y)
         report-violated y = rw says (judged-violated verdict y)
+
+        pub report-decided : fits ≡ true → IsRefused (reported H x s t c p .answer) → ⊥
+        report-decided = rw says (judged-decided verdict)
 
         pub report-stands : (IsRefused (reported H x s t c p .answer) → ⊥)
             → (reported H x s t c p .tables ≡ writtenTables (w .files) t) × (reported H x s t c p .choices ≡ writtenChoices (w .choices) c)
@@ -237,6 +250,22 @@ module _ (merge : List Configuration → List Configuration → List Configurati
         back (inl e) = e
         back (inr e) = let q = e .0 in let o : _≡_ {A = ℕ} 0 1 = cc in absurd (omega arith)
 
+    travelled-decided : (o : Option ℕ) → o ≡ none → room ≡ true → IsRefused (mergeTravel t c d text s₂ merge o b .answer) → ⊥
+    travelled-decided none e = fitted room
+      where
+        fitted : (z : Bool) → z ≡ true → IsRefused (mergeFitted t c d text z written b .answer) → ⊥
+        fitted true e = accepted-not-refused
+        fitted false e = absurd (true≢false (sym e))
+    travelled-decided (some row) e = missing row (sym e)
+
+    second-decided : (v : Verdict) → (v ≡ accepted → (unequal ≡ none) × (room ≡ true)) → IsRefused (mergeSecond t c d text s₂ merge v b .answer) → ⊥
+    second-decided accepted h = travelled-decided unequal (h refl .0) (h refl .1)
+    second-decided (violated k m i z) h = violated-not-refused _
+
+    first-decided : (v : Verdict) → (v ≡ accepted → two ≡ accepted → (unequal ≡ none) × (room ≡ true)) → IsRefused (mergeFirst t c d text s₂ merge v b .answer) → ⊥
+    first-decided accepted h = second-decided two (h refl)
+    first-decided (violated k m i z) h = violated-not-refused _
+
     -- what a merge that is not refused leaves of the readings
     abbrev Stands : Merged → Type 0
     Stands m = (IsRefused (m .answer) → ⊥)
@@ -277,6 +306,10 @@ module _ (merge : List Configuration → List Configuration → List Configurati
       pub merge-violated : (y : Violation) → (merged merge H x s₁ s₂ t c d text .answer ≡ Violated y)
           ↔ ((answerOf solutionFile one ≡ Violated y) ⊎ ((one ≡ accepted) × (answerOf secondFile two ≡ Violated y)))
       merge-violated y = rw joins (first-violated one y)
+
+      -- where the travel times are equal and the text fits, nothing is refused
+      pub merge-decided : (one ≡ accepted → two ≡ accepted → (unequal ≡ none) × (room ≡ true)) → IsRefused (merged merge H x s₁ s₂ t c d text .answer) → ⊥
+      merge-decided = rw joins (first-decided one)
 
       pub merge-stands : Stands (merged merge H x s₁ s₂ t c d text)
       merge-stands = rw joins (first-stands one)

@@ -156,8 +156,8 @@ module _ {H : ℕ} {x : Texts} where
       → length (k .lentSecond) ≡ length (l .lentSecond) → length (k .lentText) ≡ length (l .lentText) → k .result ≡ l .result
   merge-same {direction} {a} {b} k l room second text =
       let one =
-          merge-own-input H x a (mergeOf direction) b (k .lent) (l .lent) (k .lentChoices) (l .lentChoices) (k .lentSecond) (l .lentSecond) (k .lentText) (l .lentText)
-          room second text in
+      merge-own-input H x a (mergeOf direction) b (k .lent) (l .lent) (k .lentChoices) (l .lentChoices) (k .lentSecond) (l .lentSecond) (k .lentText) (l .lentText)
+      room second text in
       let answer : k .result .answer ≡ l .result .answer = k .keeps .answer ∙ one .answer ∙ sym (l .keeps .answer) in
       let size : k .result .length ≡ l .result .length = k .keeps .length ∙ one .length ∙ sym (l .keeps .length) in
       λ i. record { answer = answer i; length = size i }

@@ -40,7 +40,7 @@ use Rattle.rules_theorems.proofs.DemandOne.{verdict-not-refused}
 use Rattle.rules_theorems.proofs.DemandTwo.{answer-accepted, answer-violated, acceptable-in-order, files-kinds, checked-answer}
 use Rattle.rules_theorems.proofs.DemandThree.{over-front}
 use Rattle.checker_theorems.specs.Demands.{CheckOutcome, EnergyOutcome, MergeOutcome, Reads, BothRead, Fair, FirstFailure, Room, writtenBy, powerAt, CheckJudges, EnergyJudges, ReadsBack, MergeJudges, DemandTwo}
-use Rattle.checker_theorems.proofs.Answers.{violated-not-accepted, check-choices, report-accepted, report-laid, report-violated, merge-accepted, merge-written, merge-violated}
+use Rattle.checker_theorems.proofs.Answers.{violated-not-accepted, check-choices, report-accepted, report-laid, report-violated, report-decided, merge-accepted, merge-written, merge-violated, merge-decided}
 use Rattle.checker_theorems.proofs.DemandOne.{refused-as}
 
 -- ---- the verdict over the files
@@ -137,6 +137,7 @@ module _ {H : ℕ} {x : Texts} {f : Files} where
           λ h. verdict-names f cs solutionFile v .0 (named v .0 (sym says ∙ h)),
           λ h. says ∙ named v .1 (verdict-names f cs solutionFile v .1 h),
         );
+        not-refused = λ fits h. report-decided H x solution (k .lent) (k .lentChoices) (k .lentCurves) w e (le-leb _ _ fits) (refused-as says h);
         energies = λ h. k .keeps .figures ∙ ap (λ (q : Reported). q .figures) (laid (sym says ∙ h));
         powers = λ h subnet second g u.
             ap (λ curves. getD curves (subnet * H + second) (pos 0)) (k .keeps .curves ∙ ap (λ (q : Reported). q .curves) (laid (sym says ∙ h)))
@@ -183,6 +184,13 @@ module _ {H : ℕ} {x : Texts} {f : Files} where
     lengths : verdictOf f s ≡ accepted → verdictOf f r ≡ accepted → length s ≡ length r
     lengths v w = sym (offered-length (f .rows) s (are-offered f s v)) ∙ offered-length (f .rows) r (are-offered f r w)
 
+    fits : verdictOf f s ≡ accepted → verdictOf f r ≡ accepted → SameTravel s r → HasRoom f (mergeOf direction s r) (k .lentText)
+        → (unequalFrom 0 s r ≡ none) × (leb (length new) (length (k .lentText)) && leb (length new) mostText ≡ true)
+    fits v w same room = (
+      unequal-none s r (lengths v w) .1 same,
+      rw (le-leb (length new) (length (k .lentText)) room, le-leb (length new) mostText (short (merge-fair direction f s r same v w))),
+    )
+
     abbrev AllRight : Type 0
     AllRight = (verdictOf f s ≡ accepted) × (verdictOf f r ≡ accepted) × SameTravel s r × HasRoom f (mergeOf direction s r) (k .lentText)
 
@@ -197,12 +205,8 @@ module _ {H : ℕ} {x : Texts} {f : Files} where
 
         back : AllRight → said .answer ≡ Accepted
         back h =
-            merge-accepted (mergeOf direction) H x a b (k .lent) (k .lentChoices) (k .lentSecond) (k .lentText) both e .1 (
-              h .0,
-              h .1,
-              unequal-none s r (lengths (h .0) (h .1)) .1 (h .2),
-              rw (le-leb (length new) (length (k .lentText)) (h .3), le-leb (length new) mostText (short (merge-fair direction f s r (h .2) (h .0) (h .1)))),
-            )
+            let q = fits (h .0) (h .1) (h .2) (h .3) in
+            merge-accepted (mergeOf direction) H x a b (k .lent) (k .lentChoices) (k .lentSecond) (k .lentText) both e .1 (h .0, h .1, q .0, q .1)
 
     wrote : said .answer ≡ Accepted → writtenBy k ≡ new
     wrote h =
@@ -222,6 +226,8 @@ module _ {H : ℕ} {x : Texts} {f : Files} where
             λ h. there v (merge-violated (mergeOf direction) H x a b (k .lent) (k .lentChoices) (k .lentSecond) (k .lentText) both e v .0 (sym says ∙ h)),
             λ h. says ∙ merge-violated (mergeOf direction) H x a b (k .lent) (k .lentChoices) (k .lentSecond) (k .lentText) both e v .1 (back v h),
           );
+          not-refused = λ same room h.
+              merge-decided (mergeOf direction) H x a b (k .lent) (k .lentChoices) (k .lentSecond) (k .lentText) both e (λ v w. fits v w same room) (refused-as says h);
           written = λ h. wrote (sym says ∙ h);
           reads-back = λ h.
               let q = right .0 (sym says ∙ h) in

@@ -170,6 +170,7 @@ module _ {H : ℕ} {x : Texts} where
   pub record EnergyJudges {solution : List ℕ} (k : EnergyOutcome H x solution) (f : Files) (cs : List Configuration) : Type 0 where
     pub accepted : (k .result .answer ≡ Accepted) ↔ (Fair f cs × CurvesFit H f (k .lentCurves))
     pub violated : (v : Violation) → (k .result .answer ≡ Violated v) ↔ FirstFailure f cs solutionFile v
+    pub not-refused : CurvesFit H f (k .lentCurves) → IsRefused (k .result .answer) → ⊥
     pub energies : k .result .answer ≡ Accepted → k .result .figures ≡ figuresOf H f cs
     pub powers : k .result .answer ≡ Accepted → (subnet second : ℕ) → subnet < f .document .opened → second < H
         → powerAt k subnet second ≡ power (samplesIn (f .curves)) (homesOf (f .document .tracks) (f .rows)) cs subnet second
@@ -178,6 +179,7 @@ module _ {H : ℕ} {x : Texts} where
   pub record MergeJudges {direction : Direction} {a b : List ℕ} (k : MergeOutcome direction H x a b) (f : Files) (s r : List Configuration) : Type 0 where
     pub accepted : (k .result .answer ≡ Accepted) ↔ (Fair f s × Fair f r × SameTravel s r × HasRoom f (mergeOf direction s r) (k .lentText))
     pub violated : (v : Violation) → (k .result .answer ≡ Violated v) ↔ (FirstFailure f s solutionFile v ⊎ (Fair f s × FirstFailure f r secondFile v))
+    pub not-refused : SameTravel s r → HasRoom f (mergeOf direction s r) (k .lentText) → IsRefused (k .result .answer) → ⊥
     pub written : k .result .answer ≡ Accepted → writtenBy k ≡ textOf (chosen (f .rows) (mergeOf direction s r))
     pub reads-back : k .result .answer ≡ Accepted → ReadsBack H x f (mergeOf direction s r) (writtenBy k)
 
@@ -191,7 +193,7 @@ pub record DemandTwo (H : ℕ) (x : Texts) (f : Files) : Type 0 where
 
 -- ---- DEMAND 3: "Take two solutions, both accepted against the same files, with equal travel times leg by leg."
 
--- `check` accepts a solution, in whatever room: f is what the files say, cs are its choices
+-- `check` accepts a solution, in whatever room: f is what the files say, and they say one thing in any room (`files-alike`); cs are its choices
 pub record Accepts (H : ℕ) (x : Texts) (solution : List ℕ) (f : Files) (cs : List Configuration) : Type 0 where
   pub outcome : CheckOutcome H x solution
   pub accepted : outcome .result .answer ≡ Accepted

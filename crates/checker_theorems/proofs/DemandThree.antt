@@ -1,21 +1,19 @@
 -- DEMAND 3, about the entries: both merges of two accepted solutions are written and accepted, the curves add up, and absorption holds, in whatever rooms. Assumes nothing.
-use Prim.Native.Nat.{ℕ, _/_, _≤_, _<_}
+use Prim.Native.Nat.{ℕ, _<_}
 use mathlib.Core.Path.{_≡_, sym, ap, ap₂, subst, _∙_}
 use mathlib.Core.List.{List}
 use lib.ListN.{length}
-use lib.IntN.{ℤ, _+ℤ_}
-use Rattle.rules.specs.Limits.{configurationWidth}
+use lib.IntN.{_+ℤ_}
 use Rattle.rules.specs.Answers.{good, solutionFile, secondFile}
 use Rattle.rules.specs.Reading.{Texts, Files, filesOf, choicesRead}
 use Rattle.rules.specs.Verdict.{accepted}
 use Rattle.rules.specs.Energy.{samplesIn, homesOf, power}
-use Rattle.rules.specs.Merge.{earlier, later, mergeOf, SameTravel, chosen, textOf}
-use Rattle.rules.specs.Entries.{Tables, roomsOf, verdictOf, Whole, allRead}
+use Rattle.rules.specs.Merge.{earlier, later, mergeOf, SameTravel}
+use Rattle.rules.specs.Entries.{Tables, roomsOf, verdictOf}
 use Rattle.rules.specs.declared.sizes.Configuration.{Configuration}
 use Rattle.rules.specs.declared.answers.Answer.the-variants.{Accepted}
 use Rattle.rules.specs.declared.outcomes.Direction.{Direction}
 use Rattle.rules.specs.declared.outcomes.Direction.the-variants.{Earlier, Later}
-use Rattle.rules_theorems.specs.Demands.{IsRefused, HasRoom}
 use Rattle.rules_theorems.proofs.Chosen.{offered-length}
 use Rattle.rules_theorems.proofs.GoodFiles.{choices-good, choices-room, all-good, good-both}
 use Rattle.rules_theorems.proofs.AnyRoom.{choices-anywhere, all-alike, both-alike}
@@ -23,7 +21,7 @@ use Rattle.rules_theorems.proofs.Merges.{travel-lengths, merge-travel, absorpti
 use Rattle.rules_theorems.proofs.Curves.{curves-add}
 use Rattle.rules_theorems.proofs.DemandOne.{accepted-not-refused}
 use Rattle.rules_theorems.proofs.DemandTwo.{answer-accepted, checked-answer}
-use Rattle.checker_theorems.specs.Demands.{EnergyOutcome, MergeOutcome, Reads, BothRead, Fair, CurvesFit, Room, writtenBy, powerAt, ReadsBack, MergeJudges, Accepts, Suffices, Wrote, MergesHold, DemandThree}
+use Rattle.checker_theorems.specs.Demands.{EnergyOutcome, MergeOutcome, Reads, BothRead, Fair, CurvesFit, Room, writtenBy, powerAt, MergeJudges, Accepts, Suffices, Wrote, MergesHold, DemandThree}
 use Rattle.checker_theorems.proofs.Answers.{report-read, merge-read}
 use Rattle.checker_theorems.proofs.DemandOne.{refused-as}
 use Rattle.checker_theorems.proofs.DemandTwo.{are-offered, fair, merge-fair, text-reads, demand-two}

@@ -1,12 +1,11 @@
 -- DEMAND 2, about the entries: accepted exactly when; otherwise the first failure with its file; energies; and what is written reads back. Assumes nothing.
 use Prim.Native.Nat.{ℕ, _+_, _*_, _/_, _%_, _≤_, _<_}
 use mathlib.Core.Path.{_≡_, refl, sym, ap, ap₂, subst, _∙_}
-use mathlib.Core.Bool.{Bool, true, _&&_}
+use mathlib.Core.Bool.{true, _&&_}
 use mathlib.Core.List.{List}
 use mathlib.Core.Logic.{_↔_, _⊎_, inl, inr}
 use mathlib.Core.Option.{none}
 use native.Mathlib.Nat.{zero-add}
-use native.Mathlib.Omega.{arith}
 use lib.Arith.{digits-lt, digits-div, digits-mod}
 use lib.Dec.{leb}
 use lib.ListN.{length, take, getD, List·getD-append}
@@ -21,7 +20,7 @@ use Rattle.rules.specs.Reading.{Rooms, Texts, Files, filesOf}
 use Rattle.rules.specs.Verdict.{offered, Offered, Verdict, accepted, violated, answerOf}
 use Rattle.rules.specs.Energy.{samplesIn, homesOf, power, curvesOf}
 use Rattle.rules.specs.Merge.{mergeOf, SameTravel, unequalFrom, chosen, textOf}
-use Rattle.rules.specs.Entries.{Tables, roomsOf, verdictOf, Whole, allRead, checked, Reported, reported, Both, bothRead, Merged, merged}
+use Rattle.rules.specs.Entries.{Tables, roomsOf, verdictOf, Whole, Reported, Both, Merged, merged}
 use Rattle.rules.specs.declared.sizes.Configuration.{Configuration}
 use Rattle.rules.specs.declared.answers.Violation.{Violation}
 use Rattle.rules.specs.declared.answers.Answer.the-variants.{Accepted, Violated}
@@ -39,7 +38,7 @@ use Rattle.rules_theorems.proofs.Merges.{merge-verdicts, unequal-none}
 use Rattle.rules_theorems.proofs.DemandOne.{verdict-not-refused}
 use Rattle.rules_theorems.proofs.DemandTwo.{answer-accepted, answer-violated, acceptable-in-order, files-kinds, checked-answer}
 use Rattle.rules_theorems.proofs.DemandThree.{over-front}
-use Rattle.checker_theorems.specs.Demands.{CheckOutcome, EnergyOutcome, MergeOutcome, Reads, BothRead, Fair, FirstFailure, Room, writtenBy, powerAt, CheckJudges, EnergyJudges, ReadsBack, MergeJudges, DemandTwo}
+use Rattle.checker_theorems.specs.Demands.{CheckOutcome, EnergyOutcome, MergeOutcome, Reads, BothRead, Fair, FirstFailure, Room, writtenBy, CheckJudges, EnergyJudges, ReadsBack, MergeJudges, DemandTwo}
 use Rattle.checker_theorems.proofs.Answers.{violated-not-accepted, check-choices, report-accepted, report-laid, report-violated, report-decided, merge-accepted, merge-written, merge-violated, merge-decided}
 use Rattle.checker_theorems.proofs.DemandOne.{refused-as}
 

@@ -18,7 +18,6 @@ use Rattle.rules.specs.Entries.{Tables, roomsOf, filled, filledTables, writtenT
 use Rattle.rules.specs.Promises.{Checks, Reports, Merges}
 use Rattle.rules.specs.declared.sizes.Configuration.{Configuration}
 use Rattle.rules.specs.declared.answers.Violation.{Violation}
-use Rattle.rules.specs.declared.answers.Answer.{Answer}
 use Rattle.rules.specs.declared.answers.Answer.the-variants.{Accepted, Violated}
 use Rattle.rules.specs.declared.outcomes.Checked.{Checked}
 use Rattle.rules.specs.declared.outcomes.Report.{Report}

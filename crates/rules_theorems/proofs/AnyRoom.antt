@@ -9,9 +9,9 @@ use lib.ListN.{length, drop}
 use Rattle.rules.specs.Limits.{mostText, mostId, mostConstraints, mostTracks, configurationWidth}
 use Rattle.rules.specs.Lists.{startsWith, any}
 use Rattle.rules.specs.Kinds.{subnets}
-use Rattle.rules.specs.Answers.{Reading, refused, good, Judged, wrong, right, timetableFile, profilesFile, solutionFile, secondFile}
+use Rattle.rules.specs.Answers.{Reading, good, Judged, wrong, right, timetableFile, profilesFile, solutionFile, secondFile}
 use Rattle.rules.specs.Bytes.{lineFeed, splitOn}
-use Rattle.rules.specs.Rows.{onRow, lastLine, rowsFrom, csvOf, placeOfRow}
+use Rattle.rules.specs.Rows.{onRow, rowsFrom, csvOf, placeOfRow}
 use Rattle.rules.specs.Timetable.{Row, rowOf, formOf, timetableHeader, timetableOf, solutionOf, draftFits, solutionFits, choicesOf}
 use Rattle.rules.specs.Profiles.{Curve, profilesHeader, profilesOf, formOf as curveForm, rowOf as curveRow}
 use Rattle.rules.specs.Tokens.{Token, tokensOf}
@@ -22,8 +22,7 @@ use Rattle.rules.specs.declared.sizes.Configuration.{Configuration}
 use Rattle.rules.specs.declared.tokens.Action.{Action}
 use Rattle.rules.specs.declared.tokens.Action.the-variants.{Broken, Early, Goes, ListName, DocumentEnds, RecordOpens, KeyName, RecordEnds, StringValue, StringCut, NumberValue, TracksOpen, TrackNumber, Finishes}
 use Rattle.rules.specs.declared.tokens.State.{State}
-use Rattle.rules.proofs.Truth.{by-case, missing}
-use Rattle.rules_theorems.specs.WellFormed.{Written}
+use Rattle.rules.proofs.Truth.{missing}
 use Rattle.rules_theorems.proofs.GoodText.{never-good, good-test}
 use Rattle.rules_theorems.proofs.GoodRows.{form-right, curve-right, timetable-good, solution-good}
 use Rattle.rules_theorems.proofs.LawfulRows.{choices-fit}

@@ -1,4 +1,4 @@
--- The three demands, each as one statement over the definitions of `rules`.
+-- The three demands, each as one statement over the definitions of `rules`. About the entries they stand in `checker_theorems/specs/Demands.antt`.
 use Prim.Native.Nat.{ℕ, _/_, _≤_, _<_}
 use mathlib.Core.Path.{_≡_}
 use mathlib.Core.List.{List}

@@ -21,7 +21,7 @@ use Rattle.rules_theorems.proofs.Merges.{travel-lengths, merge-travel, absorpti
 use Rattle.rules_theorems.proofs.Curves.{curves-add}
 use Rattle.rules_theorems.proofs.DemandOne.{accepted-not-refused}
 use Rattle.rules_theorems.proofs.DemandTwo.{answer-accepted, checked-answer}
-use Rattle.checker_theorems.specs.Demands.{EnergyOutcome, MergeOutcome, Reads, BothRead, Fair, CurvesFit, Room, writtenBy, powerAt, MergeJudges, Accepts, Suffices, Wrote, MergesHold, DemandThree}
+use Rattle.checker_theorems.specs.Demands.{EnergyOutcome, MergeOutcome, Reads, BothRead, AcceptableIn, CurvesFit, Room, writtenBy, powerAt, MergeJudges, Accepts, Suffices, Wrote, MergesHold, DemandThree}
 use Rattle.checker_theorems.proofs.Answers.{report-read, merge-read}
 use Rattle.checker_theorems.proofs.DemandOne.{refused-as}
 use Rattle.checker_theorems.proofs.DemandTwo.{are-offered, fair, merge-fair, text-reads, demand-two}
@@ -53,7 +53,7 @@ module _ (H : ℕ) (x : Texts) (f : Files) where
     choices-read : choicesRead H f solutionFile (length (k .c)) solution ≡ good cs
     choices-read = all-good H x solution (roomsOf (k .t)) (length (k .c)) (record { files = f; choices = cs }) (k .reads) .1
 
-    is-fair : Fair f cs
+    is-fair : AcceptableIn f cs
     is-fair = fair f cs H x (roomsOf (k .t)) files-read .0 (k .verdict)
 
     -- its room has a place for any choices that the draft offers

@@ -38,7 +38,7 @@ use Rattle.rules_theorems.proofs.Merges.{merge-verdicts, unequal-none}
 use Rattle.rules_theorems.proofs.DemandOne.{verdict-not-refused}
 use Rattle.rules_theorems.proofs.DemandTwo.{answer-accepted, answer-violated, acceptable-in-order, files-kinds, checked-answer}
 use Rattle.rules_theorems.proofs.DemandThree.{over-front}
-use Rattle.checker_theorems.specs.Demands.{CheckOutcome, EnergyOutcome, MergeOutcome, Reads, BothRead, Fair, FirstFailure, Room, writtenBy, CheckJudges, EnergyJudges, ReadsBack, MergeJudges, DemandTwo}
+use Rattle.checker_theorems.specs.Demands.{CheckOutcome, EnergyOutcome, MergeOutcome, Reads, BothRead, AcceptableIn, FirstFailure, Room, writtenBy, CheckJudges, EnergyJudges, ReadsBack, MergeJudges, DemandTwo}
 use Rattle.checker_theorems.proofs.Answers.{violated-not-accepted, check-choices, report-accepted, report-laid, report-violated, report-decided, merge-accepted, merge-written, merge-violated, merge-decided}
 use Rattle.checker_theorems.proofs.DemandOne.{refused-as}
 
@@ -74,7 +74,7 @@ module _ (f : Files) (cs : List Configuration) where
   are-offered v = verdict-accepted (offered (f .rows)) (ordered (f .document .constraints)) cs .1 v .offered
 
   module _ (H : ℕ) (x : Texts) (room : Rooms) (read : filesOf H x room ≡ good f) where
-    pub fair : (verdictOf f cs ≡ accepted) ↔ Fair f cs
+    pub fair : (verdictOf f cs ≡ accepted) ↔ AcceptableIn f cs
     fair =
         let order = acceptable-in-order f cs (files-kinds H x room f read) in
         let all = verdict-accepted (offered (f .rows)) (ordered (f .document .constraints)) cs in
@@ -215,7 +215,7 @@ module _ {H : ℕ} {x : Texts} {f : Files} where
     merge-judges : MergeJudges k f s r
     merge-judges =
         let says = k .keeps .answer in
-        let good-for : (cs : List Configuration) → (verdictOf f cs ≡ accepted) ↔ Fair f cs = λ cs. fair f cs H x (roomsOf (k .lent)) files in
+        let good-for : (cs : List Configuration) → (verdictOf f cs ≡ accepted) ↔ AcceptableIn f cs = λ cs. fair f cs H x (roomsOf (k .lent)) files in
         record {
           accepted = (
             λ h. let q = right .0 (sym says ∙ h) in (good-for s .0 (q .0), good-for r .0 (q .1), q .2, q .3),
@@ -235,11 +235,11 @@ module _ {H : ℕ} {x : Texts} {f : Files} where
         }
       where
         there : (v : Violation) → (answerOf solutionFile (verdictOf f s) ≡ Violated v) ⊎ ((verdictOf f s ≡ accepted) × (answerOf secondFile (verdictOf f r) ≡ Violated v))
-            → FirstFailure f s solutionFile v ⊎ (Fair f s × FirstFailure f r secondFile v)
+            → FirstFailure f s solutionFile v ⊎ (AcceptableIn f s × FirstFailure f r secondFile v)
         there v (inl h) = inl (verdict-names f s solutionFile v .0 h)
         there v (inr h) = inr (fair f s H x (roomsOf (k .lent)) files .0 (h .0), verdict-names f r secondFile v .0 (h .1))
 
-        back : (v : Violation) → FirstFailure f s solutionFile v ⊎ (Fair f s × FirstFailure f r secondFile v)
+        back : (v : Violation) → FirstFailure f s solutionFile v ⊎ (AcceptableIn f s × FirstFailure f r secondFile v)
             → (answerOf solutionFile (verdictOf f s) ≡ Violated v) ⊎ ((verdictOf f s ≡ accepted) × (answerOf secondFile (verdictOf f r) ≡ Violated v))
         back v (inl h) = inl (verdict-names f s solutionFile v .1 h)
         back v (inr h) = inr (fair f s H x (roomsOf (k .lent)) files .1 (h .0), verdict-names f r secondFile v .1 (h .1))

@@ -124,8 +124,8 @@ module _ (H : ℕ) (x : Texts) where
   BothRead a b t c d f s r = bothRead H x a b (roomsOf t) (length c) (length d) ≡ good (record { files = f; first = s; second = r })
 
 -- "each leg's choice is offered in the draft and every headway, single-track, dwell, turnaround and connection inequality holds"
-abbrev pub Fair : Files → List Configuration → Type 0
-Fair f cs = Acceptable (offered (f .rows)) (f .document .constraints) cs
+abbrev pub AcceptableIn : Files → List Configuration → Type 0
+AcceptableIn f cs = Acceptable (offered (f .rows)) (f .document .constraints) cs
 
 -- "the first failure in the fixed order is named with its shortfall in seconds"; and with the file that it lies in
 pub record FirstFailure (f : Files) (cs : List Configuration) (file : ℕ) (v : Violation) : Type 0 where
@@ -161,13 +161,13 @@ ReadsBack H x f cs text =
 
 module _ {H : ℕ} {x : Texts} where
   pub record CheckJudges {solution : List ℕ} (k : CheckOutcome H x solution) (f : Files) (cs : List Configuration) : Type 0 where
-    pub accepted : (k .result .answer ≡ Accepted) ↔ Fair f cs
+    pub accepted : (k .result .answer ≡ Accepted) ↔ AcceptableIn f cs
     pub violated : (v : Violation) → (k .result .answer ≡ Violated v) ↔ FirstFailure f cs solutionFile v
     pub not-refused : IsRefused (k .result .answer) → ⊥
 
   -- "Energies are exact whole kilojoules by document 01"
   pub record EnergyJudges {solution : List ℕ} (k : EnergyOutcome H x solution) (f : Files) (cs : List Configuration) : Type 0 where
-    pub accepted : (k .result .answer ≡ Accepted) ↔ (Fair f cs × CurvesFit H f (k .lentCurves))
+    pub accepted : (k .result .answer ≡ Accepted) ↔ (AcceptableIn f cs × CurvesFit H f (k .lentCurves))
     pub violated : (v : Violation) → (k .result .answer ≡ Violated v) ↔ FirstFailure f cs solutionFile v
     pub not-refused : CurvesFit H f (k .lentCurves) → IsRefused (k .result .answer) → ⊥
     pub energies : k .result .answer ≡ Accepted → k .result .figures ≡ figuresOf H f cs
@@ -176,8 +176,8 @@ module _ {H : ℕ} {x : Texts} where
 
   -- a violation lies in the first solution, or else in the second
   pub record MergeJudges {direction : Direction} {a b : List ℕ} (k : MergeOutcome direction H x a b) (f : Files) (s r : List Configuration) : Type 0 where
-    pub accepted : (k .result .answer ≡ Accepted) ↔ (Fair f s × Fair f r × SameTravel s r × HasRoom f (mergeOf direction s r) (k .lentText))
-    pub violated : (v : Violation) → (k .result .answer ≡ Violated v) ↔ (FirstFailure f s solutionFile v ⊎ (Fair f s × FirstFailure f r secondFile v))
+    pub accepted : (k .result .answer ≡ Accepted) ↔ (AcceptableIn f s × AcceptableIn f r × SameTravel s r × HasRoom f (mergeOf direction s r) (k .lentText))
+    pub violated : (v : Violation) → (k .result .answer ≡ Violated v) ↔ (FirstFailure f s solutionFile v ⊎ (AcceptableIn f s × FirstFailure f r secondFile v))
     pub not-refused : SameTravel s r → HasRoom f (mergeOf direction s r) (k .lentText) → IsRefused (k .result .answer) → ⊥
     pub written : k .result .answer ≡ Accepted → writtenBy k ≡ textOf (chosen (f .rows) (mergeOf direction s r))
     pub reads-back : k .result .answer ≡ Accepted → ReadsBack H x f (mergeOf direction s r) (writtenBy k)

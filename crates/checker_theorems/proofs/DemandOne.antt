@@ -18,7 +18,7 @@ use Rattle.rules_theorems.proofs.GoodFiles.{all-good, both-good}
 use Rattle.rules_theorems.proofs.OneOutcome.{one-outcome, check-own-input, report-own-input, merge-own-input}
 use Rattle.rules_theorems.proofs.Fills.{no-field-is-fill, no-choice-is-fill, no-power-is-fill}
 use Rattle.rules_theorems.proofs.DemandOne.{demand-one as check-one, report-demand-one, merge-demand-one}
-use Rattle.checker_theorems.specs.Demands.{CheckOutcome, EnergyOutcome, MergeOutcome, TablesRead, ChoicesStand, CurvesStand, CheckEnds, EnergyEnds, MergeEnds, DemandOne}
+use Rattle.checker_theorems.specs.Demands.{CheckOutcome, EnergyOutcome, MergeOutcome, Reads, BothRead, TablesRead, ChoicesStand, CurvesStand, CheckEnds, EnergyEnds, MergeEnds, DemandOne}
 use Rattle.checker_theorems.proofs.Answers.{check-read, check-tables, check-choices, report-read, report-short, report-stands, report-accepted, report-laid, merge-read, merge-short, merge-stands}
 
 -- an answer that equals another is refused where that is
@@ -48,12 +48,13 @@ module _ {H : ℕ} {x : Texts} where
       emptied h = check-one H x solution (k .lent) (k .lentChoices) .emptied (refused-as (k .keeps .answer) h)
 
       stands : (IsRefused (k .result .answer) → ⊥)
-          → (f : Files) × (cs : List Configuration) × TablesRead f (k .lent) (k .tables) × ChoicesStand cs (k .lentChoices) (k .choices)
+          → (f : Files) × (cs : List Configuration) × Reads H x solution (k .lent) (k .lentChoices) f cs × TablesRead f (k .lent) (k .tables) × ChoicesStand cs (k .lentChoices) (k .choices)
       stands n =
           let w = check-read H x solution (k .lent) (k .lentChoices) (λ h. n (refused-as (sym (k .keeps .answer)) h)) in
           let read = all-good H x solution (roomsOf (k .lent)) (length (k .lentChoices)) (w .0) (w .1) in (
             w .0 .files,
             w .0 .choices,
+            w .1,
             tables-read H x (k .lent) (w .0 .files) (read .0) (k .keeps .tables ∙ check-tables H x solution (k .lent) (k .lentChoices) (w .0) (w .1)),
             choices-stand H x (k .lent) (w .0 .files) (read .0) solutionFile (k .lentChoices) solution (w .0 .choices) (read .1)
                 (k .keeps .choices ∙ check-choices H x solution (k .lent) (k .lentChoices) (w .0) (w .1)),
@@ -80,7 +81,7 @@ module _ {H : ℕ} {x : Texts} where
       short n = report-short H x solution (k .lent) (k .lentChoices) (k .lentCurves) (λ h. n (k .keeps .answer ∙ h))
 
       stands : (IsRefused (k .result .answer) → ⊥)
-          → (f : Files) × (cs : List Configuration) × TablesRead f (k .lent) (k .tables) × ChoicesStand cs (k .lentChoices) (k .choices)
+          → (f : Files) × (cs : List Configuration) × Reads H x solution (k .lent) (k .lentChoices) f cs × TablesRead f (k .lent) (k .tables) × ChoicesStand cs (k .lentChoices) (k .choices)
           × (k .result .answer ≡ Accepted → CurvesStand H f cs (k .lentCurves) (k .curves))
       stands n =
           let not-refused : IsRefused (said .answer) → ⊥ = λ h. n (refused-as (sym (k .keeps .answer)) h) in
@@ -89,6 +90,7 @@ module _ {H : ℕ} {x : Texts} where
           let left = report-stands H x solution (k .lent) (k .lentChoices) (k .lentCurves) (w .0) (w .1) not-refused in (
             w .0 .files,
             w .0 .choices,
+            w .1,
             tables-read H x (k .lent) (w .0 .files) (read .0) (k .keeps .tables ∙ left .0),
             choices-stand H x (k .lent) (w .0 .files) (read .0) solutionFile (k .lentChoices) solution (w .0 .choices) (read .1) (k .keeps .choices ∙ left .1),
             λ h.
@@ -120,7 +122,7 @@ module _ {H : ℕ} {x : Texts} where
       short n = merge-short (mergeOf direction) H x a b (k .lent) (k .lentChoices) (k .lentSecond) (k .lentText) (λ h. n (k .keeps .answer ∙ h))
 
       stands : (IsRefused (k .result .answer) → ⊥)
-          → (f : Files) × (s : List Configuration) × (r : List Configuration) × TablesRead f (k .lent) (k .tables) × ChoicesStand s (k .lentChoices) (k .choices)
+          → (f : Files) × (s : List Configuration) × (r : List Configuration) × BothRead H x a b (k .lent) (k .lentChoices) (k .lentSecond) f s r × TablesRead f (k .lent) (k .tables) × ChoicesStand s (k .lentChoices) (k .choices)
           × ChoicesStand r (k .lentSecond) (k .second)
       stands n =
           let not-refused : IsRefused (said .answer) → ⊥ = λ h. n (refused-as (sym (k .keeps .answer)) h) in
@@ -130,6 +132,7 @@ module _ {H : ℕ} {x : Texts} where
             w .0 .files,
             w .0 .first,
             w .0 .second,
+            w .1,
             tables-read H x (k .lent) (w .0 .files) (read .0) (k .keeps .tables ∙ left .0),
             choices-stand H x (k .lent) (w .0 .files) (read .0) solutionFile (k .lentChoices) a (w .0 .first) (read .1) (k .keeps .choices ∙ left .1),
             choices-stand H x (k .lent) (w .0 .files) (read .0) secondFile (k .lentSecond) b (w .0 .second) (read .2) (k .keeps .second ∙ left .2),

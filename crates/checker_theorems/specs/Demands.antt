@@ -60,6 +60,15 @@ pub record MergeOutcome (direction : Direction) (H : ℕ) (x : Texts) (a b : Lis
   pub text : List ℕ
   pub keeps : Merges direction H x a b lent lentChoices lentSecond lentText result tables choices second text
 
+-- ---- what the texts say, read into this room: f is what the files say, cs, s and r are solutions' choices
+
+module _ (H : ℕ) (x : Texts) where
+  abbrev pub Reads : (solution : List ℕ) → Tables → (choices : List ℕ) → Files → List Configuration → Type 0
+  Reads solution t c f cs = allRead H x solution (roomsOf t) (length c) ≡ good (record { files = f; choices = cs })
+
+  abbrev pub BothRead : (a b : List ℕ) → Tables → (choices second : List ℕ) → Files → (s r : List Configuration) → Type 0
+  BothRead a b t c d f s r = bothRead H x a b (roomsOf t) (length c) (length d) ≡ good (record { files = f; first = s; second = r })
+
 -- ---- DEMAND 1: "Any bytes in any of the files end in one of three answers: accepted, the first violation, or a numbered refusal",
 -- "after a refusal each lent table holds only a number that no field can have"
 
@@ -79,7 +88,7 @@ module _ {H : ℕ} {x : Texts} where
     pub tables-emptied : IsRefused (k .result .answer) → k .tables ≡ filledTables (k .lent)
     pub choices-emptied : IsRefused (k .result .answer) → k .choices ≡ filled unsignedFill (k .lentChoices)
     pub otherwise : (IsRefused (k .result .answer) → ⊥) → (f : Files) × (cs : List Configuration)
-        × TablesRead f (k .lent) (k .tables) × ChoicesStand cs (k .lentChoices) (k .choices)
+        × Reads H x solution (k .lent) (k .lentChoices) f cs × TablesRead f (k .lent) (k .tables) × ChoicesStand cs (k .lentChoices) (k .choices)
 
   -- short of acceptance there are no figures, and the curve table holds only such a number
   pub record EnergyEnds {solution : List ℕ} (k : EnergyOutcome H x solution) : Type 0 where
@@ -89,7 +98,7 @@ module _ {H : ℕ} {x : Texts} where
     pub curves-emptied : (k .result .answer ≡ Accepted → ⊥) → k .curves ≡ filled signedFill (k .lentCurves)
     pub no-figures : (k .result .answer ≡ Accepted → ⊥) → k .result .figures ≡ noFigures
     pub otherwise : (IsRefused (k .result .answer) → ⊥) → (f : Files) × (cs : List Configuration)
-        × TablesRead f (k .lent) (k .tables) × ChoicesStand cs (k .lentChoices) (k .choices)
+        × Reads H x solution (k .lent) (k .lentChoices) f cs × TablesRead f (k .lent) (k .tables) × ChoicesStand cs (k .lentChoices) (k .choices)
         × (k .result .answer ≡ Accepted → CurvesStand H f cs (k .lentCurves) (k .curves))
 
   -- short of acceptance no text is left
@@ -101,7 +110,7 @@ module _ {H : ℕ} {x : Texts} where
     pub text-emptied : (k .result .answer ≡ Accepted → ⊥) → k .text ≡ filled byteFill (k .lentText)
     pub no-length : (k .result .answer ≡ Accepted → ⊥) → k .result .length ≡ 0
     pub otherwise : (IsRefused (k .result .answer) → ⊥) → (f : Files) × (s : List Configuration) × (r : List Configuration)
-        × TablesRead f (k .lent) (k .tables) × ChoicesStand s (k .lentChoices) (k .choices) × ChoicesStand r (k .lentSecond) (k .second)
+        × BothRead H x a b (k .lent) (k .lentChoices) (k .lentSecond) f s r × TablesRead f (k .lent) (k .tables) × ChoicesStand s (k .lentChoices) (k .choices) × ChoicesStand r (k .lentSecond) (k .second)
 
 pub record DemandOne (H : ℕ) (x : Texts) : Type 0 where
   pub check : {solution : List ℕ} (k : CheckOutcome H x solution) → CheckEnds k
@@ -114,14 +123,7 @@ pub record DemandOne (H : ℕ) (x : Texts) : Type 0 where
   pub merge-own : {direction : Direction} {a b : List ℕ} (k l : MergeOutcome direction H x a b) → SameRoom (k .lent) (l .lent) (k .lentChoices) (l .lentChoices)
       → length (k .lentSecond) ≡ length (l .lentSecond) → length (k .lentText) ≡ length (l .lentText) → k .result ≡ l .result
 
--- ---- DEMAND 2: "once every file reads": f is what the files say, cs, s and r are solutions' choices
-
-module _ (H : ℕ) (x : Texts) where
-  abbrev pub Reads : (solution : List ℕ) → Tables → (choices : List ℕ) → Files → List Configuration → Type 0
-  Reads solution t c f cs = allRead H x solution (roomsOf t) (length c) ≡ good (record { files = f; choices = cs })
-
-  abbrev pub BothRead : (a b : List ℕ) → Tables → (choices second : List ℕ) → Files → (s r : List Configuration) → Type 0
-  BothRead a b t c d f s r = bothRead H x a b (roomsOf t) (length c) (length d) ≡ good (record { files = f; first = s; second = r })
+-- ---- DEMAND 2: "once every file reads"
 
 -- "each leg's choice is offered in the draft and every headway, single-track, dwell, turnaround and connection inequality holds"
 abbrev pub AcceptableIn : Files → List Configuration → Type 0

@@ -17,7 +17,7 @@ use Rattle.rules.specs.Answers.{good, solutionFile, secondFile, violation}
 use Rattle.rules.specs.Timetable.{configurationNumbers}
 use Rattle.rules.specs.Constraints.{ordered}
 use Rattle.rules.specs.Reading.{Rooms, Texts, Files, filesOf}
-use Rattle.rules.specs.Verdict.{offered, Offered, Verdict, accepted, violated, answerOf}
+use Rattle.rules.specs.Verdict.{All, offered, Offered, Verdict, accepted, violated, answerOf}
 use Rattle.rules.specs.Energy.{samplesIn, homesOf, power, curvesOf}
 use Rattle.rules.specs.Merge.{mergeOf, SameTravel, unequalFrom, chosen, textOf}
 use Rattle.rules.specs.Entries.{Tables, roomsOf, verdictOf, Whole, Reported, Both, Merged, merged}
@@ -36,6 +36,7 @@ use Rattle.rules_theorems.proofs.Verdicts.{verdict-accepted}
 use Rattle.rules_theorems.proofs.Tests.{names-the-first, shortfalls}
 use Rattle.rules_theorems.proofs.Merges.{merge-verdicts, unequal-none}
 use Rattle.rules_theorems.proofs.DemandOne.{verdict-not-refused}
+use Rattle.rules_theorems.proofs.Ordered.{OfKind, ordered-keeps}
 use Rattle.rules_theorems.proofs.DemandTwo.{answer-accepted, answer-violated, acceptable-in-order, files-kinds, checked-answer}
 use Rattle.rules_theorems.proofs.DemandThree.{over-front}
 use Rattle.checker_theorems.specs.Demands.{CheckOutcome, EnergyOutcome, MergeOutcome, Reads, BothRead, AcceptableIn, FirstFailure, Room, writtenBy, CheckJudges, EnergyJudges, ReadsBack, MergeJudges, DemandTwo}
@@ -51,16 +52,16 @@ file-of file (violated k n i m) v e =
     cc
 
 module _ (f : Files) (cs : List Configuration) where
-  -- an answer names the first failure, and nothing else
-  verdict-names : (file : ℕ) (v : Violation) → (answerOf file (verdictOf f cs) ≡ Violated v) ↔ FirstFailure f cs file v
-  verdict-names file v = (there, back)
+  -- an answer names the first failure, and nothing else; what was read has the five kinds alone
+  verdict-names : All OfKind (f .document .constraints) → (file : ℕ) (v : Violation) → (answerOf file (verdictOf f cs) ≡ Violated v) ↔ FirstFailure f cs file v
+  verdict-names kinds file v = (there, back)
     where
       there : answerOf file (verdictOf f cs) ≡ Violated v → FirstFailure f cs file v
       there e =
           let u = answer-violated file (verdictOf f cs) v e in
           record {
             first = names-the-first (offered (f .rows)) (ordered (f .document .constraints)) cs (v .kind) (v .position) (v .inequality) (v .shortfall) .0 u;
-            numbered = shortfalls (offered (f .rows)) (ordered (f .document .constraints)) cs (v .kind) (v .position) (v .inequality) (v .shortfall) u;
+            numbered = shortfalls (offered (f .rows)) (ordered (f .document .constraints)) cs (ordered-keeps OfKind (f .document .constraints) kinds) (v .kind) (v .position) (v .inequality) (v .shortfall) u;
             of-file = file-of file (verdictOf f cs) v e;
           }
 
@@ -111,11 +112,13 @@ module _ {H : ℕ} {x : Texts} {f : Files} where
   check-judges {solution} {cs} k e =
       let w : Whole = record { files = f; choices = cs } in
       let says = k .keeps .answer ∙ checked-answer H x solution (k .lent) (k .lentChoices) w e in
-      let good-for = fair f cs H x (roomsOf (k .lent)) (all-good H x solution (roomsOf (k .lent)) (length (k .lentChoices)) w e .0) in
+      let read = all-good H x solution (roomsOf (k .lent)) (length (k .lentChoices)) w e .0 in
+      let kinds = files-kinds H x (roomsOf (k .lent)) f read in
+      let good-for = fair f cs H x (roomsOf (k .lent)) read in
       let judged = answer-accepted solutionFile (verdictOf f cs) in
       record {
         accepted = (λ h. good-for .0 (judged .0 (sym says ∙ h)), λ h. says ∙ judged .1 (good-for .1 h));
-        violated = λ v. (λ h. verdict-names f cs solutionFile v .0 (sym says ∙ h), λ h. says ∙ verdict-names f cs solutionFile v .1 h);
+        violated = λ v. (λ h. verdict-names f cs kinds solutionFile v .0 (sym says ∙ h), λ h. says ∙ verdict-names f cs kinds solutionFile v .1 h);
         not-refused = λ h. verdict-not-refused solutionFile (verdictOf f cs) (refused-as says h);
       }
 
@@ -123,7 +126,9 @@ module _ {H : ℕ} {x : Texts} {f : Files} where
   energy-judges {solution} {cs} k e =
       let w : Whole = record { files = f; choices = cs } in
       let says = k .keeps .answer in
-      let good-for = fair f cs H x (roomsOf (k .lent)) (all-good H x solution (roomsOf (k .lent)) (length (k .lentChoices)) w e .0) in
+      let read = all-good H x solution (roomsOf (k .lent)) (length (k .lentChoices)) w e .0 in
+      let kinds = files-kinds H x (roomsOf (k .lent)) f read in
+      let good-for = fair f cs H x (roomsOf (k .lent)) read in
       let judged = report-accepted H x solution (k .lent) (k .lentChoices) (k .lentCurves) w e in
       let laid = report-laid H x solution (k .lent) (k .lentChoices) (k .lentCurves) w e in
       let named = report-violated H x solution (k .lent) (k .lentChoices) (k .lentCurves) w e in
@@ -133,8 +138,8 @@ module _ {H : ℕ} {x : Texts} {f : Files} where
           λ h. says ∙ judged .1 (good-for .1 (h .0), le-leb _ _ (h .1)),
         );
         violated = λ v. (
-          λ h. verdict-names f cs solutionFile v .0 (named v .0 (sym says ∙ h)),
-          λ h. says ∙ named v .1 (verdict-names f cs solutionFile v .1 h),
+          λ h. verdict-names f cs kinds solutionFile v .0 (named v .0 (sym says ∙ h)),
+          λ h. says ∙ named v .1 (verdict-names f cs kinds solutionFile v .1 h),
         );
         not-refused = λ fits h. report-decided H x solution (k .lent) (k .lentChoices) (k .lentCurves) w e (le-leb _ _ fits) (refused-as says h);
         energies = λ h. k .keeps .figures ∙ ap (λ (q : Reported). q .figures) (laid (sym says ∙ h));
@@ -172,6 +177,9 @@ module _ {H : ℕ} {x : Texts} {f : Files} where
 
     files : filesOf H x (roomsOf (k .lent)) ≡ good f
     files = both-good H x a b (roomsOf (k .lent)) (length (k .lentChoices)) (length (k .lentSecond)) both e .0
+
+    kinds : All OfKind (f .document .constraints)
+    kinds = files-kinds H x (roomsOf (k .lent)) f files
 
     -- where all is as it should be the text limit suffices
     short : verdictOf f (mergeOf direction s r) ≡ accepted → length new ≤ mostText
@@ -236,13 +244,13 @@ module _ {H : ℕ} {x : Texts} {f : Files} where
       where
         there : (v : Violation) → (answerOf solutionFile (verdictOf f s) ≡ Violated v) ⊎ ((verdictOf f s ≡ accepted) × (answerOf secondFile (verdictOf f r) ≡ Violated v))
             → FirstFailure f s solutionFile v ⊎ (AcceptableIn f s × FirstFailure f r secondFile v)
-        there v (inl h) = inl (verdict-names f s solutionFile v .0 h)
-        there v (inr h) = inr (fair f s H x (roomsOf (k .lent)) files .0 (h .0), verdict-names f r secondFile v .0 (h .1))
+        there v (inl h) = inl (verdict-names f s kinds solutionFile v .0 h)
+        there v (inr h) = inr (fair f s H x (roomsOf (k .lent)) files .0 (h .0), verdict-names f r kinds secondFile v .0 (h .1))
 
         back : (v : Violation) → FirstFailure f s solutionFile v ⊎ (AcceptableIn f s × FirstFailure f r secondFile v)
             → (answerOf solutionFile (verdictOf f s) ≡ Violated v) ⊎ ((verdictOf f s ≡ accepted) × (answerOf secondFile (verdictOf f r) ≡ Violated v))
-        back v (inl h) = inl (verdict-names f s solutionFile v .1 h)
-        back v (inr h) = inr (fair f s H x (roomsOf (k .lent)) files .1 (h .0), verdict-names f r secondFile v .1 (h .1))
+        back v (inl h) = inl (verdict-names f s kinds solutionFile v .1 h)
+        back v (inr h) = inr (fair f s H x (roomsOf (k .lent)) files .1 (h .0), verdict-names f r kinds secondFile v .1 (h .1))
 
 -- THE DEMAND
 pub demand-two : (H : ℕ) (x : Texts) (f : Files) → DemandTwo H x f

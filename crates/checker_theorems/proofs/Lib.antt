@@ -1,1 +1,6 @@
+-- What the answers of a report and of a merge rest on
+pub mod Answers
+-- The three demands
+pub mod DemandOne
+pub mod DemandTwo
 pub mod DemandThree

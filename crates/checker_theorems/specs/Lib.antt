@@ -1,1 +1,1 @@
-pub mod DemandThree
+pub mod Demands

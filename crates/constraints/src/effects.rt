@@ -20,7 +20,9 @@ pub fn emit(
     after: State,
 ) -> State
     requires { ⌜ (getD (now next) (after .entry .kind) 0 ≤ mostConstraints + mostConstraints) × (now count ≤ mostConstraints) ⌝ }
-    ensures { λ r. ⌜ (now (constraints .exit) ≡ sets (now (constraints .entry)) (cond sorts (getD (now (next .entry)) (after .entry .kind) 0) (now (count .entry)) * constraintWidth) (constraintNumbers (after .entry))) × (now (next .exit) ≡ bumped (now (next .entry)) (after .entry .kind)) × (now (count .exit) ≡ now (count .entry) + 1) × (r ≡ after) ⌝ }
+    ensures { λ r. ⌜ (now (constraints .exit) ≡ sets (now (constraints .entry))
+        (cond sorts (getD (now (next .entry)) (after .entry .kind) 0) (now (count .entry)) * constraintWidth) (constraintNumbers (after .entry)))
+        × (now (next .exit) ≡ bumped (now (next .entry)) (after .entry .kind)) × (now (count .exit) ≡ now (count .entry) + 1) × (r ≡ after) ⌝ }
 {
     constraints_tables::emit(sorts, constraints, next, *count, after.entry);
     *count += 1;

@@ -28,7 +28,8 @@ pub fn walk(
     sorts: bool,
 ) -> Walked
     requires { ⌜ Able (now text) (now legs) n (now next) ⌝ }
-    ensures { λ r. ⌜ Walks (now (next .entry)) sorts (outcome (now (text .entry)) (now (legs .entry)) n (now (constraints .entry)) (now (tracks .entry))) (now (constraints .entry)) (now (tracks .entry)) r (now (next .exit)) (now (constraints .exit)) (now (tracks .exit)) ⌝ }
+    ensures { λ r. ⌜ Walks (now (next .entry)) sorts (outcome (now (text .entry)) (now (legs .entry)) n (now (constraints .entry)) (now (tracks .entry)))
+        (now (constraints .entry)) (now (tracks .entry)) r (now (next .exit)) (now (constraints .exit)) (now (tracks .exit)) ⌝ }
 {
     let room = Room::of(constraints.len(), tracks.len());
     let mut seen = Counts::none();

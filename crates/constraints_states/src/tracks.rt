@@ -31,7 +31,8 @@ pub fn tracks_open(st: State, place: u32) -> Step
 // A track that no subnet has listed before.
 fn track_listed(tracks: &[u32], n: usize, room: usize, id: u32, st: State, place: u32) -> Step
     requires { ⌜ Records trackWidth n (now tracks) ⌝ }
-    ensures { λ r. ⌜ ((legs : List ℕ) (constraints : ℕ) (d : Document) (t : Token) → Says t place (Whole.Number id) → column trackWidth n (now (tracks .entry)) ≡ trackIdsOf (d .tracks) → turned r d ≡ law.trackNumber legs constraints room st d t) ⌝ }
+    ensures { λ r. ⌜ ((legs : List ℕ) (constraints : ℕ) (d : Document) (t : Token)
+        → Says t place (Whole.Number id) → column trackWidth n (now (tracks .entry)) ≡ trackIdsOf (d .tracks) → turned r d ≡ law.trackNumber legs constraints room st d t) ⌝ }
 {
     if Track::MOST <= n {
         return Step::Fault(Refusal::COUNT, place);
@@ -57,7 +58,8 @@ pub fn track_number(
     place: u32,
 ) -> Step
     requires { ⌜ Records trackWidth n (now tracks) ⌝ }
-    ensures { λ r. ⌜ ((legs : List ℕ) (constraints : ℕ) (d : Document) (t : Token) → Says t place number → column trackWidth n (now (tracks .entry)) ≡ trackIdsOf (d .tracks) → turned r d ≡ law.trackNumber legs constraints room st d t) ⌝ }
+    ensures { λ r. ⌜ ((legs : List ℕ) (constraints : ℕ) (d : Document) (t : Token)
+        → Says t place number → column trackWidth n (now (tracks .entry)) ≡ trackIdsOf (d .tracks) → turned r d ≡ law.trackNumber legs constraints room st d t) ⌝ }
 {
     match number {
         Whole::Malformed => Step::Fault(Refusal::JSON_FORM, place),

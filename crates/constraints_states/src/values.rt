@@ -67,7 +67,8 @@ pub fn leg_value(legs: &[u32], n: usize, number: Whole, st: State, place: u32) -
 // The id of a subnet, which no subnet before it has.
 pub fn subnet_value(ids: &[u32], n: usize, number: Whole, st: State, place: u32) -> Step
     requires { ⌜ Records idWidth n (now ids) ⌝ }
-    ensures { λ r. ⌜ ((legs : List ℕ) (constraints tracks : ℕ) (d : Document) (t : Token) → Says t place number → column idWidth n (now (ids .entry)) ≡ d .ids → turned r d ≡ law.subnetValue legs constraints tracks st d t) ⌝ }
+    ensures { λ r. ⌜ ((legs : List ℕ) (constraints tracks : ℕ) (d : Document) (t : Token)
+        → Says t place number → column idWidth n (now (ids .entry)) ≡ d .ids → turned r d ≡ law.subnetValue legs constraints tracks st d t) ⌝ }
 {
     match number {
         Whole::Malformed => Step::Fault(Refusal::JSON_FORM, place),
@@ -108,7 +109,8 @@ pub fn number_value(
     place: u32,
 ) -> Step
     requires { ⌜ Records legWidth n (now legs) × ((n ≤ mostLegs) × Records idWidth named (now ids)) ⌝ }
-    ensures { λ r. ⌜ ((constraints tracks : ℕ) (d : Document) (t : Token) → Says t place number → column idWidth named (now (ids .entry)) ≡ d .ids → turned r d ≡ law.numberValue (column legWidth n (now (legs .entry))) constraints tracks st d t) ⌝ }
+    ensures { λ r. ⌜ ((constraints tracks : ℕ) (d : Document) (t : Token)
+        → Says t place number → column idWidth named (now (ids .entry)) ≡ d .ids → turned r d ≡ law.numberValue (column legWidth n (now (legs .entry))) constraints tracks st d t) ⌝ }
 {
     if st.key == Key::CONNECTION_TYPE {
         return Step::Fault(Refusal::JSON_FORM, place);

@@ -59,7 +59,8 @@ pub fn document_ends(st: State, place: u32) -> Step
 
 // Constraints are counted over all lists, and so is their room.
 pub fn record_opens(seen: Counts, room: usize, st: State, place: u32) -> Step
-    ensures { λ r. ⌜ ((legs : List ℕ) (tracks : ℕ) (d : Document) (t : Token) → t .place ≡ place → seen .constraints ≡ length (d .constraints) → seen .subnets ≡ d .opened → turned r d ≡ law.recordOpens legs room tracks st d t) ⌝ }
+    ensures { λ r. ⌜ ((legs : List ℕ) (tracks : ℕ) (d : Document) (t : Token)
+        → t .place ≡ place → seen .constraints ≡ length (d .constraints) → seen .subnets ≡ d .opened → turned r d ≡ law.recordOpens legs room tracks st d t) ⌝ }
 {
     if st.list == Lists::SUBNETS {
         if seen.subnets < Subnet::MOST {

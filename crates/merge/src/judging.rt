@@ -23,7 +23,8 @@ fn merge_chosen(
     text: &mut [u8],
 ) -> Merged
     requires { ⌜ Disputable counts (now second) (now legs) (now configurations) (now constraints) (now choices) (now «second_choices») ⌝ }
-    ensures { λ r. ⌜ Judges direction counts (now (second .entry)) (now (legs .entry)) (now (configurations .entry)) (now (constraints .entry)) (now (choices .entry)) (now («second_choices» .entry)) (now (text .entry)) r (now (text .exit)) ⌝ }
+    ensures { λ r. ⌜ Judges direction counts (now (second .entry)) (now (legs .entry)) (now (configurations .entry)) (now (constraints .entry))
+        (now (choices .entry)) (now («second_choices» .entry)) (now (text .entry)) r (now (text .exit)) ⌝ }
 {
     let judged = merge_order::judge_both(
         counts,
@@ -63,7 +64,8 @@ pub fn merge_solutions(
     text: &mut [u8],
 ) -> Merged
     requires { ⌜ Judgeable h counts (now legs) (now configurations) (now constraints) ⌝ }
-    ensures { λ r. ⌜ Solves h direction counts (now (first .entry)) (now (second .entry)) (now (legs .entry)) (now (configurations .entry)) (now (constraints .entry)) (now (choices .entry)) (now («second_choices» .entry)) (now (text .entry)) r (now (choices .exit)) (now («second_choices» .exit)) (now (text .exit)) ⌝ }
+    ensures { λ r. ⌜ Solves h direction counts (now (first .entry)) (now (second .entry)) (now (legs .entry)) (now (configurations .entry)) (now (constraints .entry))
+        (now (choices .entry)) (now («second_choices» .entry)) (now (text .entry)) r (now (choices .exit)) (now («second_choices» .exit)) (now (text .exit)) ⌝ }
 {
     match merge_order::choose_both(first, second, h, counts, legs, choices, second_choices) {
         Chosen::Refused(refusal) => not_written(Answer::Refused(refusal)),

@@ -85,3 +85,9 @@ module _ {A : Type 0} (w t : List A) where
       let rest : drop (length w + length v) (w ++ drop (length w) t) ≡ drop (length (w ++ v)) t =
       drop-append-add w (drop (length w) t) (length v) ∙ drop-drop (length v) (length w) t ∙ ap (λ (k : ℕ). drop k t) (sym (length-append w v)) in
       sets-eq v (w ++ drop (length w) t) (length w) fits ∙ rw (take-append-seam w (drop (length w) t), rest)
+
+-- within a list no default counts
+pub getD-within : {A : Type 0} (l : List A) (k : ℕ) (d e : A) → k < length l → getD l k d ≡ getD l k e
+getD-within [] k d e h = absurd (omega arith)
+getD-within (x ∷ l) zero d e h = refl
+getD-within (x ∷ l) (suc k) d e h = getD-within l k d e (omega arith)

@@ -7,6 +7,8 @@ use lib.ListN.{getD, take}
 use Rattle.rules.specs.Lists.{sameList}
 use Rattle.rules.specs.Bytes.{bytes}
 use Rattle.rules.specs.declared.kinds.Kind.{Kind}
+use Rattle.rules.specs.declared.kinds.Time.{Time}
+use Rattle.rules.specs.declared.kinds.Time.the-variants.{At, Unknown}
 use Rattle.rules.specs.declared.sizes.Configuration.{Configuration}
 
 -- ---- the kinds by number; 0 is a choice that is not offered
@@ -144,16 +146,25 @@ departure c = c .departure
 abbrev pub arrival : Configuration → ℕ
 arrival c = c .departure + c .travel
 
--- x of kind 5
-abbrev pub anchored : (type : ℕ) → Configuration → ℕ
-anchored type x = cond (eqb type byArrival) (arrival x) (departure x)
+-- What cannot hold: a record of no kind has this inequality, and so has a connection of no type. No reading gives such a record; no default can say that it is met
+abbrev pub cannotHold : Inequality
+cannotHold = 1 ≤? 0
+
+-- x of kind 5; another type has none
+abbrev pub anchored : (type : ℕ) → Configuration → Time
+anchored type x = cond (eqb type byArrival) (At (arrival x)) (cond (eqb type byDeparture) (At (departure x)) Unknown)
+
+-- an inequality about a time: where there is none it cannot hold
+abbrev pub about : Time → (ℕ → Inequality) → Inequality
+about (At x) asked = asked x
+about Unknown asked = cannotHold
 
 -- THE TABLE: a record's numbers low and high, its type, and the choices of its first and second leg
 abbrev pub Rule : Type 0
 Rule = (low high type : ℕ) → Configuration → Configuration → List Inequality
 
 abbrev pub noRule : Rule
-noRule low high type one two = []
+noRule low high type one two = cannotHold ∷ []
 
 abbrev pub headwayRule : Rule
 headwayRule h high type one two = (departure one + h ≤? departure two) ∷ (arrival one + h ≤? arrival two) ∷ []
@@ -168,7 +179,7 @@ abbrev pub turnaroundRule : Rule
 turnaroundRule w high type one two = (arrival one + w ≤? departure two) ∷ []
 
 abbrev pub connectionRule : Rule
-connectionRule a b type one two = (anchored type one + a ≤? departure two) ∷ (departure two ≤? anchored type one + b) ∷ []
+connectionRule a b type one two = about (anchored type one) (λ x. x + a ≤? departure two) ∷ about (anchored type one) (λ x. departure two ≤? x + b) ∷ []
 
 abbrev pub rules : List Rule
 rules = noRule ∷ headwayRule ∷ singleTrackRule ∷ dwellRule ∷ turnaroundRule ∷ connectionRule ∷ []
@@ -181,8 +192,9 @@ ruleOf kind = getD rules kind noRule
 abbrev pub kindRow : (keys inequalities : ℕ) → List ℕ → Kind
 kindRow keys inequalities anchors = record { keys = keys; inequalities = inequalities; anchors = anchors }
 
+-- what is no kind: one inequality, and no anchors
 abbrev pub noKind : Kind
-noKind = kindRow 0 0 []
+noKind = kindRow 0 1 []
 
 abbrev pub noAnchor : ℕ
 noAnchor = 0
@@ -210,9 +222,11 @@ kindTable =
 
 -- ---- the rule of a row of that table
 
--- a leg by an anchor
-abbrev pub measured : (anchor type : ℕ) → Configuration → ℕ
-measured anchor type x = cond (eqb anchor byD) (departure x) (cond (eqb anchor byDT) (arrival x) (anchored type x))
+-- a leg by an anchor; without one it has no time
+abbrev pub measured : (anchor type : ℕ) → Configuration → Time
+measured anchor type x =
+    cond (eqb anchor byD) (At (departure x))
+    (cond (eqb anchor byDT) (At (arrival x)) (cond (eqb anchor byX) (anchored type x) (cond (eqb anchor latest) (anchored type x) Unknown)))
 
 -- the least seconds, where the kind has further keys than those of its two legs
 abbrev pub withLeast : (keys low : ℕ) → ℕ → ℕ
@@ -221,8 +235,7 @@ withLeast keys low x = cond (eqb keys (firstLeg + secondLeg)) x (x + low)
 -- one inequality, by the anchors of the first leg and of the second
 abbrev pub byAnchor : (keys : ℕ) → (first second : ℕ) → (low high type : ℕ) → Configuration → Configuration → Inequality
 byAnchor keys first second low high type one two =
-    cond (eqb first latest) (measured second type two ≤? measured first type one + high)
-    (withLeast keys low (measured first type one) ≤? measured second type two)
+    about (measured first type one) (λ x. about (measured second type two) (λ y. cond (eqb first latest) (y ≤? x + high) (withLeast keys low x ≤? y)))
 
 -- the inequalities of a row, as many as it says: the first by its first two anchors, the second by its last two
 unfoldable pub byAnchors : Kind → Rule

@@ -35,7 +35,7 @@ impl Key {
 pub struct Anchor {}
 
 impl Anchor {
-    // There is no second inequality.
+    // There is no second inequality; a leg has no time by it.
     pub const NONE: u8 = 0;
 
     // d, and d + t.
@@ -47,6 +47,12 @@ impl Anchor {
     pub const CONNECTION: u8 = 3;
 
     pub const LATEST: u8 = 4;
+}
+
+// The time of a leg by an anchor. There is none where nobody knows the anchor, or the type that it asks for; an inequality about no time cannot hold.
+pub enum Time {
+    At(u64),
+    Unknown,
 }
 
 // A kind: the keys of its records, how many inequalities it has, and the anchors of both legs in each.

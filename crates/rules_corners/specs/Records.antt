@@ -1,4 +1,4 @@
--- Inequalities met exactly and missed by a second, one leg named twice, a above b, choices that are nearly offered. Assumes nothing.
+-- Inequalities met exactly and missed by a second, one leg named twice, a above b, choices that are nearly offered, records that no reading gives. Assumes nothing.
 use Prim.Native.Nat.{ℕ, _+_, _-_}
 use Prim.Native.String.{String}
 use mathlib.Core.Path.{_≡_, refl}
@@ -8,8 +8,10 @@ use lib.Dec.{eqb}
 use lib.ListN.{getD}
 use Rattle.rules.specs.Limits.{mostSeconds}
 use Rattle.rules.specs.Bytes.{bytes, spelled, joined, comma}
-use Rattle.rules.specs.Kinds.{notOffered, headway, singleTrack, dwell, turnaround, connection, listNames}
-use Rattle.rules.specs.Verdict.{All}
+use Rattle.rules.specs.Timetable.{configuration}
+use Rattle.rules.specs.Kinds.{notOffered, headway, singleTrack, dwell, turnaround, connection, subnets, listNames, noType}
+use Rattle.rules.specs.Kinds.{byArrival as arrivalType, byDeparture as departureType}
+use Rattle.rules.specs.Verdict.{All, Verdict, accepted, violated, recordsFrom}
 use Rattle.rules.specs.Computed.{computed}
 use Rattle.rules.specs.Examples.{draft, profiles, rows, dwell20, oneSubnet, list, object}
 use Rattle.rules.specs.declared.answers.Answer.{Answer}
@@ -66,6 +68,8 @@ pub data Corner : Type 0 where
   -- leg 2 from another departure
   judgesAt : (departure : String) → Listed → Answer → Corner
   answers : (draft constraints solution : List ℕ) → Answer → Corner
+  -- a record that the table might hold, with the least and the greatest seconds, of the same two legs
+  gives : (kind type : ℕ) → Verdict → Corner
 
 abbrev leaving : String → List ℕ
 leaving d =
@@ -76,6 +80,8 @@ abbrev pub Right : Corner → Type 0
 Right (judges r a) = answerTo (input 100 draft profiles (with r) draft) ≡ a
 Right (judgesAt d r a) = answerTo (input 100 (leaving d) profiles (with r) (leaving d)) ≡ a
 Right (answers t c s a) = answerTo (input 100 t profiles c s) ≡ a
+Right (gives k type v) =
+    recordsFrom notOffered 0 (configuration 10 4 7 ∷ configuration 40 3 8 ∷ []) (record { kind = k; first = 0; second = 1; low = 0; high = mostSeconds; connection = type } ∷ []) ≡ v
 
 abbrev pub records : List Corner
 records =
@@ -137,8 +143,16 @@ records =
     ∷ answers draft dwell20 (rows "1,1,1,1,2,10_4_7,10_4_7\n2,1,2,2,3,40_3_9,40_3_9\n") (violates notOffered 1 0 0)
     -- a choice of another leg's list is not offered to this one, and comes before every constraint
     ∷ answers draft (with (dwells 2 1 0)) (rows "1,1,1,1,2,10_4_7,10_4_7\n2,1,2,2,3,10_4_7,10_4_7\n") (violates notOffered 1 0 0)
+    -- no reading gives them: what is no kind, and a connection of a type that is none of the two, cannot hold; the other kinds do not look at the type
+    ∷ gives notOffered noType (violated notOffered 0 1 1)
+    ∷ gives subnets noType (violated subnets 0 1 1)
+    ∷ gives connection arrivalType accepted
+    ∷ gives connection departureType accepted
+    ∷ gives connection noType (violated connection 0 1 1)
+    ∷ gives connection (departureType + 1) (violated connection 0 1 1)
+    ∷ gives dwell (departureType + 1) accepted
     ∷ []
 
 records-hold : All Right records
 unfolding computed
-records-hold = (refl, (refl, (refl, (refl, (refl, (refl, (refl, (refl, (refl, (refl, (refl, (refl, (refl, (refl, (refl, (refl, (refl, (refl, (refl, (refl, (refl, (refl, (refl, (refl, (refl, (refl, (refl, (refl, (refl, (refl, (refl, (refl, (refl, (refl, (refl, (refl, (refl, (refl, (refl, (refl, (refl, (refl, (refl, (refl, (refl, (refl, (refl, (refl, tt))))))))))))))))))))))))))))))))))))))))))))))))
+records-hold = (refl, (refl, (refl, (refl, (refl, (refl, (refl, (refl, (refl, (refl, (refl, (refl, (refl, (refl, (refl, (refl, (refl, (refl, (refl, (refl, (refl, (refl, (refl, (refl, (refl, (refl, (refl, (refl, (refl, (refl, (refl, (refl, (refl, (refl, (refl, (refl, (refl, (refl, (refl, (refl, (refl, (refl, (refl, (refl, (refl, (refl, (refl, (refl, (refl, (refl, (refl, (refl, (refl, (refl, (refl, tt)))))))))))))))))))))))))))))))))))))))))))))))))))))))

@@ -30,7 +30,7 @@ use Rattle.rules_theorems.proofs.Curves.{curves-add}
 use Rattle.rules_theorems.proofs.DemandTwo.{answer-accepted, checked-answer}
 
 -- what is written over a buffer stands at its front
-over-front : {A : Type 0} (w t : List A) → take (length w) (over w t) ≡ w
+pub over-front : {A : Type 0} (w t : List A) → take (length w) (over w t) ≡ w
 unfolding over
 over-front w t = take-append-seam w _
 

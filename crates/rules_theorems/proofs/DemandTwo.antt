@@ -78,13 +78,14 @@ module _ (H : ℕ) (x : Texts) (s : List ℕ) (t : Tables) (c : List ℕ) where
       let read = all-good H x s (roomsOf t) (length c) w e .0 in
       let judged = answer-accepted solutionFile v in
       let fair = verdict-accepted draft table (w .choices) in
-      let order = acceptable-in-order (w .files) (w .choices) (files-kinds H x (roomsOf t) (w .files) read) in
+      let kinds = files-kinds H x (roomsOf t) (w .files) read in
+      let order = acceptable-in-order (w .files) (w .choices) kinds in
       rw (checked-answer w e)
       (record {
         accepted = (λ h. order .1 (fair .1 (judged .0 h)), λ h. judged .1 (fair .0 (order .0 h)));
         accepted-in-order = (λ h. fair .1 (judged .0 h), λ h. judged .1 (fair .0 h));
         violated = λ k h. names-the-first draft table (w .choices) (k .kind) (k .position) (k .inequality) (k .shortfall) .0 (answer-violated solutionFile v k h);
-        numbered = λ k h. shortfalls draft table (w .choices) (k .kind) (k .position) (k .inequality) (k .shortfall) (answer-violated solutionFile v k h);
+        numbered = λ k h. shortfalls draft table (w .choices) (ordered-keeps OfKind (w .files .document .constraints) kinds) (k .kind) (k .position) (k .inequality) (k .shortfall) (answer-violated solutionFile v k h);
         judged = verdict-not-refused solutionFile v;
         reads-back = λ file room choices. files-choices-back H x (roomsOf t) (w .files) file room choices read;
       })

@@ -1,4 +1,4 @@
--- "A number that no field can have": nothing that a reading writes into a table is what fills it after a refusal. Assumes nothing.
+-- "A number that no field can have": nothing that an entry writes into a table is what fills it after a refusal. Assumes nothing.
 use Prim.Native.Nat.{ℕ, suc, _+_, _≤_, _<_}
 use mathlib.Core.Path.{_≡_, refl}
 use mathlib.Core.Bool.{Bool, true, false}
@@ -12,26 +12,29 @@ use lib.IntN.{ℤ, natAbs}
 use borrow.Author.Tests.{eqb-true, eqb-false}
 use Rattle.rules.specs.Limits.{mostHorizon, mostLegs, mostKw, mostConfigurations, mostSamples, mostSubnets, unsignedFill, signedFill}
 use Rattle.rules.specs.Lists.{placeFrom}
-use Rattle.rules.specs.Answers.{good, solutionFile}
+use Rattle.rules.specs.Answers.{good}
 use Rattle.rules.specs.Kinds.{connection, byArrival, byDeparture}
 use Rattle.rules.specs.Timetable.{Row, same, listed, legsFrom, legsOf, configurationsOf, legNumbers, configurationNumbers, nominalPlace}
 use Rattle.rules.specs.Profiles.{Curve, sampled, profilesFrom, profileNumbers}
 use Rattle.rules.specs.Constraints.{constraintNumbers, trackNumbers, ordered}
-use Rattle.rules.specs.Reading.{Rooms, Texts, legIds}
-use Rattle.rules.specs.Verdict.{All}
-use Rattle.rules.specs.Entries.{Whole, allRead}
+use Rattle.rules.specs.Reading.{Rooms, Texts, Files, legIds, filesOf, choicesRead}
+use Rattle.rules.specs.Verdict.{All, accepted}
+use Rattle.rules.specs.Energy.{curvesOf}
+use Rattle.rules.specs.Entries.{verdictOf, Whole, allRead}
 use Rattle.rules.specs.declared.sizes.Configuration.{Configuration}
 use Rattle.rules.specs.declared.sizes.Constraint.{Constraint}
 use Rattle.rules.specs.declared.sizes.Track.{Track}
 use Rattle.rules.proofs.Truth.{by-case, all-map}
 use Rattle.rules_theorems.specs.WellFormed.{InRange, KeptRow, KeptCurve}
 use Rattle.rules_theorems.specs.LawfulDocument.{LawfulConstraint, LawfulTrack}
-use Rattle.rules_theorems.specs.Demands.{Unfilled, NoFieldIsFill}
+use Rattle.rules_theorems.specs.Demands.{Unfilled, NoFieldIsFill, NoChoiceIsFill, NoPowerIsFill}
+use Rattle.rules_theorems.specs.Sized.{mostPower}
 use Rattle.rules_theorems.proofs.All.{all-mapped, all-flat}
 use Rattle.rules_theorems.proofs.LawfulRows.{rows-kept, legs-most, listed-most, curves-kept, sampled-most}
 use Rattle.rules_theorems.proofs.Documents.{good-is-lawful}
 use Rattle.rules_theorems.proofs.Ordered.{ordered-keeps}
-use Rattle.rules_theorems.proofs.GoodFiles.{files-good, choices-good, all-good}
+use Rattle.rules_theorems.proofs.GoodFiles.{files-good, choices-good}
+use Rattle.rules_theorems.proofs.Sized.{figures-bounded}
 
 -- ---- timetables
 
@@ -66,6 +69,9 @@ profiles-unfilled n (c ∷ curves) h k =
 sample-unfilled : (x : ℤ) → natAbs x ≤ mostKw → x ≡ signedFill → ⊥
 sample-unfilled x h e = let k : natAbs signedFill ≤ mostKw = rw e at h in omega arith
 
+power-unfilled : (p : ℤ) → natAbs p ≤ mostPower → p ≡ signedFill → ⊥
+power-unfilled p h e = let k : natAbs signedFill ≤ mostPower = rw e at h in omega arith
+
 -- ---- constraints.json
 
 type-low : (c : Constraint) (legs : List ℕ) → LawfulConstraint legs c → c .connection < unsignedFill
@@ -93,18 +99,16 @@ track-unfilled opened few t h = (omega (arith, h .id-in-range), (omega (arith, h
 
 -- ---- all tables
 
--- of texts that are read without refusal, no field of a table is the number that fills it after a refusal
-pub no-field-is-fill : (H : ℕ) (x : Texts) (s : List ℕ) (room : Rooms) (choices : ℕ) (w : Whole) → allRead H x s room choices ≡ good w → NoFieldIsFill w
-no-field-is-fill H x s room choices w e =
-    let read = all-good H x s room choices w e in
-    let g = files-good H x room (w .files) (read .0) in
-    let solution = choices-good H (w .files) solutionFile choices s (w .choices) (read .1) in
-    let rows = w .files .rows in
-    let curves = w .files .curves in
+-- of files that are read without refusal, no field of a table is the number that fills it after a refusal
+pub no-field-is-fill : (H : ℕ) (x : Texts) (room : Rooms) (f : Files) → filesOf H x room ≡ good f → NoFieldIsFill f
+no-field-is-fill H x room f e =
+    let g = files-good H x room f e in
+    let rows = f .rows in
+    let curves = f .curves in
     let low : ℕ → Type 0 = λ n. n < unsignedFill in
     let kept = rows-kept H rows (g .timetable .lawful) in
     let sound = curves-kept _ _ curves (g .profiles) in
-    let document = good-is-lawful (legIds rows) _ _ _ (x .constraints) (w .files .document) (g .constraints) .tables in
+    let document = good-is-lawful (legIds rows) _ _ _ (x .constraints) (f .document) (g .constraints) .tables in
     let each = configuration-unfilled H (g .horizon .1) in
     let few : length (legIds rows) ≤ mostLegs = rw (length-map rows (λ r. r .leg)) (legs-most H rows (g .timetable .lawful)) in
     record {
@@ -118,15 +122,27 @@ no-field-is-fill H x s room choices w e =
           all-flat (λ x. x ≡ signedFill → ⊥) (λ c. c .samples) curves
           (all-map KeptCurve _ (λ c k. all-map (λ x. natAbs x ≤ mostKw) _ sample-unfilled (c .samples) (k .sizes)) curves sound);
       constraints =
-          all-flat low constraintNumbers (ordered (w .files .document .constraints))
-          (ordered-keeps (λ c. Unfilled (constraintNumbers c)) (w .files .document .constraints)
-          (all-map (LawfulConstraint (legIds rows)) _ (constraint-unfilled (legIds rows) few) (w .files .document .constraints) (document .constraints-lawful .each)));
+          all-flat low constraintNumbers (ordered (f .document .constraints))
+          (ordered-keeps (λ c. Unfilled (constraintNumbers c)) (f .document .constraints)
+          (all-map (LawfulConstraint (legIds rows)) _ (constraint-unfilled (legIds rows) few) (f .document .constraints) (document .constraints-lawful .each)));
       tracks =
-          all-flat low trackNumbers (w .files .document .tracks)
-          (all-map (LawfulTrack (w .files .document .opened)) _ (track-unfilled (w .files .document .opened) (document .subnets-in-limit)) (w .files .document .tracks) (document .tracks-lawful .each));
-      choices =
-          all-flat low configurationNumbers (w .choices)
-          (rw (← solution .choices)
-          (all-mapped (λ c. Unfilled (configurationNumbers c)) (λ r. r .nominal) (solution .rows)
-          (all-map (KeptRow H) _ (λ r k. each (r .nominal) (k .nominalIn)) (solution .rows) (rows-kept H (solution .rows) (solution .solution .lawful)))));
+          all-flat low trackNumbers (f .document .tracks)
+          (all-map (LawfulTrack (f .document .opened)) _ (track-unfilled (f .document .opened) (document .subnets-in-limit)) (f .document .tracks) (document .tracks-lawful .each));
     }
+
+-- of a solution that is read without refusal, whichever file it is, no number of a choice is
+pub no-choice-is-fill : (H : ℕ) (x : Texts) (room : Rooms) (f : Files) → filesOf H x room ≡ good f → (file choices : ℕ) (s : List ℕ) (cs : List Configuration)
+    → choicesRead H f file choices s ≡ good cs → NoChoiceIsFill cs
+no-choice-is-fill H x room f e file choices s cs k =
+    let solution = choices-good H f file choices s cs k in
+    all-flat (λ n. n < unsignedFill) configurationNumbers cs
+    (rw (← solution .choices)
+    (all-mapped (λ c. Unfilled (configurationNumbers c)) (λ r. r .nominal) (solution .rows)
+    (all-map (KeptRow H) _ (λ r k. configuration-unfilled H (files-good H x room f e .horizon .1) (r .nominal) (k .nominalIn)) (solution .rows)
+    (rows-kept H (solution .rows) (solution .solution .lawful)))))
+
+-- and of an accepted solution no power of its curves is
+pub no-power-is-fill : (H : ℕ) (x : Texts) (s : List ℕ) (room : Rooms) (choices : ℕ) (w : Whole) → allRead H x s room choices ≡ good w
+    → verdictOf (w .files) (w .choices) ≡ accepted → NoPowerIsFill H (w .files) (w .choices)
+no-power-is-fill H x s room choices w e v =
+    all-map (λ p. natAbs p ≤ mostPower) _ power-unfilled (curvesOf H (w .files) (w .choices)) (figures-bounded H x s room choices w e v .curves)

@@ -13,7 +13,7 @@ use Rattle.rules.specs.Timetable.{Row, draftFits, solutionFits, timetableOf, so
 use Rattle.rules.specs.Profiles.{Curve, profilesOf, profileFault}
 use Rattle.rules.specs.Constraints.{Document, plainRules, constraintsOf, subnetFault}
 use Rattle.rules.specs.Reading.{Rooms, Texts, Files, horizonOf, legIds, filesOf, differsFrom, matched, choicesRead}
-use Rattle.rules.specs.Entries.{Whole, allRead, bothRead}
+use Rattle.rules.specs.Entries.{Whole, allRead, Both, bothRead}
 use Rattle.rules.specs.declared.sizes.Configuration.{Configuration}
 use Rattle.rules.proofs.Truth.{and-both}
 use Rattle.rules_theorems.specs.WellFormed.{Written, LawfulCurves}
@@ -44,6 +44,7 @@ horizon-good H n e =
 pub record GoodFiles (H : ℕ) (x : Texts) (room : Rooms) (files : Files) : Type 0 where
   pub horizon : (leastHorizon ≤ H) × (H ≤ mostHorizon)
   pub timetable : Written H (draftFits (room .legs / legWidth) (room .configurations / configurationWidth)) (x .timetable) (files .rows)
+  pub profiles-read : profilesOf (room .profiles / profileWidth) (room .samples) (x .profiles) ≡ good (files .curves)
   pub profiles : LawfulCurves (room .profiles / profileWidth) (room .samples) (files .curves)
   pub powered : firstFault 0 (profileFault (files .curves)) (files .rows) ≡ none
   pub constraints : constraintsOf (legIds (files .rows)) (room .constraints / constraintWidth) (room .tracks / trackWidth) plainRules (x .constraints) ≡ good (files .document)
@@ -76,6 +77,7 @@ files-good H x room files e =
         (record {
           horizon = h;
           timetable = timetable-good H (room .legs / legWidth) (room .configurations / configurationWidth) (x .timetable) rows .0 t;
+          profiles-read = p;
           profiles = profiles-good (room .profiles / profileWidth) (room .samples) (x .profiles) curves p;
           powered = q;
           constraints = d;
@@ -142,3 +144,19 @@ pub good-both : (H : ℕ) (x : Texts) (s r : List ℕ) (room : Rooms) (choices s
     → bothRead H x s r room choices second ≡ good (record { files = files; first = a; second = b })
 unfolding bothRead
 good-both H x s r room choices second files a b f c d = rw (f, c, d)
+
+pub both-good : (H : ℕ) (x : Texts) (s r : List ℕ) (room : Rooms) (choices second : ℕ) (b : Both) → bothRead H x s r room choices second ≡ good b
+    → (filesOf H x room ≡ good (b .files)) × (choicesRead H (b .files) solutionFile choices s ≡ good (b .first))
+    × (choicesRead H (b .files) secondFile second r ≡ good (b .second))
+unfolding bothRead
+both-good H x s r room choices second b e =
+    let f = good-first (filesOf H x room) _ b e in
+    let c = good-first (choicesRead H (f .0) solutionFile choices s) _ b (f .2) in
+    let d = good-first (choicesRead H (f .0) secondFile second r) _ b (c .2) in
+    made (f .0) (c .0) (d .0) (f .1) (c .1) (d .1) (d .2)
+  where
+    made : (files : Files) (cs ds : List Configuration) → filesOf H x room ≡ good files → choicesRead H files solutionFile choices s ≡ good cs
+        → choicesRead H files secondFile second r ≡ good ds → _≡_ {A = Reading Both} (good (record { files = files; first = cs; second = ds })) (good b)
+        → (filesOf H x room ≡ good (b .files)) × (choicesRead H (b .files) solutionFile choices s ≡ good (b .first))
+        × (choicesRead H (b .files) secondFile second r ≡ good (b .second))
+    made files cs ds f c d e = let k : _≡_ {A = Both} (record { files = files; first = cs; second = ds }) b = cc in rw (← k) (f, c, d)

@@ -45,7 +45,7 @@ module _ (H : ℕ) (fits : List Row → Row → Bool) where
   tests-together : (before : List Row) (r : Row) → Passed (rowTests H anyRoom before r) → T (fits before r) → Passed (rowTests H fits before r)
   tests-together before r h k = (h .0, (h .1 .0, (h .1 .1 .0, (h .1 .1 .1 .0, (k, tt)))))
 
-  form-right : (before : List Row) (o : Option Row) (r : Row) → judgeForm H fits before o ≡ right r → (o ≡ some r) × Passed (rowTests H fits before r)
+  pub form-right : (before : List Row) (o : Option Row) (r : Row) → judgeForm H fits before o ≡ right r → (o ≡ some r) × Passed (rowTests H fits before r)
   form-right before none r e = never-right badRow r e
   form-right before (some q) r e = passed-own (rowTests H fits before) q r e
 
@@ -136,7 +136,7 @@ curve-some (i ∷ l ∷ []) c e =
 curve-some (i ∷ l ∷ x ∷ more) c e = missing c e
 
 module _ (profiles samples : ℕ) where
-  curve-right : (before : List Curve) (o : Option Curve) (c : Curve) → judgeCurve profiles samples before o ≡ right c → (o ≡ some c) × Passed (curveTests profiles samples before c)
+  pub curve-right : (before : List Curve) (o : Option Curve) (c : Curve) → judgeCurve profiles samples before o ≡ right c → (o ≡ some c) × Passed (curveTests profiles samples before c)
   curve-right before none c e = never-right badRow c e
   curve-right before (some q) c e = passed-own (curveTests profiles samples before) q c e
 

@@ -24,8 +24,9 @@ pub mod OneMore
 pub mod Phases
 pub mod Documents
 pub mod Ordered
--- All files together, and how long a text can be
+-- All files together, in whatever room they are read, and how long a text can be
 pub mod GoodFiles
+pub mod AnyRoom
 pub mod TextBound
 -- The verdict and the merges
 pub mod Verdicts

@@ -12,7 +12,9 @@ use borrow.Author.Tests.{leb-true, leb-false, le-leb, lt-leb, eqb-true, eqb-fals
 use Rattle.rules.specs.declared.sizes.Configuration.{Configuration}
 use Rattle.rules.specs.declared.sizes.Constraint.{Constraint}
 use Rattle.rules.specs.Timetable.{offers}
-use Rattle.rules.specs.Kinds.{Rule, rules, noRule, ruleOf, departure, arrival, byArrival, connectionRule}
+use Rattle.rules.specs.Kinds.{_≤?_, Rule, rules, noRule, ruleOf, departure, arrival, byArrival, byDeparture, about, connectionRule}
+use Rattle.rules.specs.declared.kinds.Time.{Time}
+use Rattle.rules.specs.declared.kinds.Time.the-variants.{At, Unknown}
 use Rattle.rules.specs.Verdict.{noChoice, choiceAt, All, Holds, Offered, Kept, Acceptable, accepted, verdict}
 use Rattle.rules.specs.Merge.{sooner, tardier, zipped, earlier, later, SameTravel, unequalFrom}
 use Rattle.rules_theorems.proofs.All.{all-at}
@@ -60,15 +62,16 @@ Crosses rule =
     → All Holds (rule low high type x₁ y₁) → All Holds (rule low high type x₂ y₂)
     → All Holds (rule low high type x₁ y₂) × All Holds (rule low high type x₂ y₁)
 
--- x of kind 5 is the arrival or the departure, as the type says
+-- x of kind 5 is the arrival or the departure, as the type says; another type keeps no pair
 connection-crosses : Crosses connectionRule
-connection-crosses low high type x₁ y₁ x₂ y₂ ex ey hx hy = go (eqb type byArrival)
+connection-crosses low high type x₁ y₁ x₂ y₂ ex ey hx hy = go (eqb type byArrival) (eqb type byDeparture)
   where
-    go : (b : Bool) → let x : Configuration → ℕ = λ c. cond b (arrival c) (departure c) in
-        let Both : Configuration → Configuration → Type 0 = λ u v. (x u + low ≤ departure v) × ((departure v ≤ x u + high) × Unit {0}) in
+    go : (a d : Bool) → let x : Configuration → Time = λ c. cond a (At (arrival c)) (cond d (At (departure c)) Unknown) in
+        let Both : Configuration → Configuration → Type 0 = λ u v. All Holds (about (x u) (λ t. t + low ≤? departure v) ∷ about (x u) (λ t. departure v ≤? t + high) ∷ []) in
         Both x₁ y₁ → Both x₂ y₂ → Both x₁ y₂ × Both x₂ y₁
-    go true h k = omega arith
-    go false h k = omega arith
+    go true d h k = omega arith
+    go false true h k = omega arith
+    go false false h k = omega arith
 
 crosses : (k : ℕ) → Crosses (ruleOf k)
 unfolding ruleOf

@@ -3,7 +3,7 @@ use Prim.Native.Nat.{ℕ, zero, suc, _+_, _*_, _-_, _≤_}
 use native.Mathlib.Omega.{arith}
 use native.Mathlib.Nat.{add-zero}
 use mathlib.Core.Path.{_≡_, refl, sym, ap, ap₂, _∙_, subst}
-use mathlib.Core.Logic.{_↔_, _⊎_, inl, inr}
+use mathlib.Core.Logic.{_↔_}
 use mathlib.Core.Bool.{Bool, true, false, cond}
 use mathlib.Core.List.{List, [], _∷_, _++_, append-nil}
 use lib.Dec.{T, leb}
@@ -12,11 +12,12 @@ use borrow.Author.Tests.{leb-false}
 use Rattle.rules.specs.declared.sizes.Configuration.{Configuration}
 use Rattle.rules.specs.declared.sizes.Constraint.{Constraint}
 use Rattle.rules.specs.Timetable.{offers}
-use Rattle.rules.specs.Kinds.{Inequality, ruleOf, notOffered, connection}
+use Rattle.rules.specs.Kinds.{Inequality, Rule, noRule, rules, ruleOf, notOffered, connection}
 use Rattle.rules.specs.Verdict.{All, choiceAt, inequalities, positionAfter, Verdict, accepted, violated, andThen, rowsFrom, inequalitiesFrom, recordsFrom, verdict}
 use Rattle.rules_theorems.specs.Tests.{Test, test, rowTest, rowTests, inequalityTests, recordTests, tests, firstFailing, made, Passes, FirstFailing, Numbered}
 use Rattle.rules.proofs.Truth.{all-append}
-use Rattle.rules_theorems.proofs.All.{all-second}
+use Rattle.rules_theorems.proofs.All.{all-second, all-at}
+use Rattle.rules_theorems.proofs.Ordered.{OfKind}
 use Rattle.rules_theorems.proofs.Verdicts.{not-accepted}
 
 -- ---- the verdict is the first failing test
@@ -105,22 +106,16 @@ rows-fair n [] (c ∷ s) = (row-fair n false, tt)
 rows-fair n (o ∷ os) [] = (row-fair n false, tt)
 rows-fair n (o ∷ os) (c ∷ s) = (row-fair n (offers o c), rows-fair (suc n) os s)
 
--- the table of kinds: no inequality, or those of a kind 1 to 5, at most two
-abbrev Ruled : ℕ → List Inequality → Type 0
-Ruled k qs = (qs ≡ []) ⊎ ((1 ≤ k) × (k ≤ connection) × (length qs ≤ 2))
+-- the table of kinds: no rule has more than two inequalities
+abbrev AtMostTwo : Rule → Type 0
+AtMostTwo rule = (low high type : ℕ) (one two : Configuration) → length (rule low high type one two) ≤ 2
 
-ruled : (k low high type : ℕ) (one two : Configuration) → Ruled k (ruleOf k low high type one two)
+at-most-two : (k : ℕ) → AtMostTwo (ruleOf k)
 unfolding ruleOf
-ruled zero low high type one two = inl refl
-ruled (suc zero) low high type one two = inr (omega arith)
-ruled (suc (suc zero)) low high type one two = inr (omega arith)
-ruled (suc (suc (suc zero))) low high type one two = inr (omega arith)
-ruled (suc (suc (suc (suc zero)))) low high type one two = inr (omega arith)
-ruled (suc (suc (suc (suc (suc zero))))) low high type one two = inr (omega arith)
-ruled (suc (suc (suc (suc (suc (suc k)))))) low high type one two = inl refl
+at-most-two = all-at AtMostTwo rules noRule (omega arith, (omega arith, (omega arith, (omega arith, (omega arith, (omega arith, tt)))))) (omega arith)
 
-ruled-record : (s : List Configuration) (c : Constraint) → Ruled (c .kind) (inequalities s c)
-ruled-record s c = ruled (c .kind) (c .low) (c .high) (c .connection) (choiceAt s (c .first)) (choiceAt s (c .second))
+two-each : (s : List Configuration) (c : Constraint) → length (inequalities s c) ≤ 2
+two-each s c = at-most-two (c .kind) (c .low) (c .high) (c .connection) (choiceAt s (c .first)) (choiceAt s (c .second))
 
 known-fair : (k n i : ℕ) (qs : List Inequality) → (1 ≤ k) × (k ≤ connection) → 1 ≤ i → i + length qs ≤ 3 → All Fair (inequalityTests k n i qs)
 known-fair k n i [] known one two = tt
@@ -137,20 +132,16 @@ known-fair k n i (q ∷ qs) known one two = (
   known-fair k n (suc i) qs known (omega arith) (omega arith),
 )
 
-record-fair : (k n : ℕ) (qs : List Inequality) → Ruled k qs → All Fair (inequalityTests k n 1 qs)
-record-fair k n qs (inl none) = rw none tt
-record-fair k n qs (inr r) = known-fair k n 1 qs (r .0, r .1) (omega arith) (omega arith)
-
-records-fair : (j n : ℕ) (s : List Configuration) (cs : List Constraint) → All Fair (recordTests j n s cs)
-records-fair j n s [] = tt
-records-fair j n s (c ∷ cs) =
+records-fair : (j n : ℕ) (s : List Configuration) (cs : List Constraint) → All OfKind cs → All Fair (recordTests j n s cs)
+records-fair j n s [] kinds = tt
+records-fair j n s (c ∷ cs) kinds =
     let p = positionAfter j n (c .kind) in
     all-append Fair (inequalityTests (c .kind) p 1 (inequalities s c)) (recordTests (c .kind) (suc p) s cs)
-    (record-fair (c .kind) p (inequalities s c) (ruled-record s c))
-    (records-fair (c .kind) (suc p) s cs)
+    (known-fair (c .kind) p 1 (inequalities s c) (kinds .0 .from-first-kind, kinds .0 .to-last-kind) (omega arith) (omega (arith, two-each s c)))
+    (records-fair (c .kind) (suc p) s cs (kinds .1))
 
-tests-fair : (draft : List (List Configuration)) (cs : List Constraint) (s : List Configuration) → All Fair (tests draft cs s)
-tests-fair draft cs s = all-append Fair (rowTests 0 draft s) (recordTests notOffered 0 s cs) (rows-fair 0 draft s) (records-fair notOffered 0 s cs)
+tests-fair : (draft : List (List Configuration)) (cs : List Constraint) (s : List Configuration) → All OfKind cs → All Fair (tests draft cs s)
+tests-fair draft cs s kinds = all-append Fair (rowTests 0 draft s) (recordTests notOffered 0 s cs) (rows-fair 0 draft s) (records-fair notOffered 0 s cs kinds)
 
 -- ---- how many tests are made
 
@@ -175,10 +166,6 @@ record-count : (k n i : ℕ) (qs : List Inequality) → length (inequalityTests 
 record-count k n i [] = refl
 record-count k n i (q ∷ qs) = ap suc (record-count k n (suc i) qs)
 
-at-most-two : (k : ℕ) (qs : List Inequality) → Ruled k qs → length qs ≤ 2
-at-most-two k qs (inl none) = rw none (omega arith)
-at-most-two k qs (inr r) = r .2
-
 records-count : (j n : ℕ) (s : List Configuration) (cs : List Constraint) → length (recordTests j n s cs) ≤ 2 * length cs
 records-count j n s [] = omega arith
 records-count j n s (c ∷ cs) =
@@ -187,7 +174,7 @@ records-count j n s (c ∷ cs) =
       arith,
       length-append (inequalityTests (c .kind) p 1 (inequalities s c)) (recordTests (c .kind) (suc p) s cs),
       record-count (c .kind) p 1 (inequalities s c),
-      at-most-two (c .kind) (inequalities s c) (ruled-record s c),
+      two-each s c,
       records-count (c .kind) (suc p) s cs,
     )
 
@@ -208,11 +195,11 @@ module _ (draft : List (List Configuration)) (cs : List Constraint) (s : List Co
   pub names-the-first : (k n i m : ℕ) → (verdict draft cs s ≡ violated k n i m) ↔ FirstFailing (tests draft cs s) k n i m
   names-the-first k n i m = rw verdict-tests (first-failing (tests draft cs s) k n i m, failing-first (tests draft cs s) k n i m)
 
-  -- 0 for kind 0; else inequality 1 or 2, and a shortfall of at least 1
-  pub shortfalls : (k n i m : ℕ) → verdict draft cs s ≡ violated k n i m → Numbered k i m
-  shortfalls k n i m e =
+  -- of records of the five kinds: 0 for kind 0; else inequality 1 or 2, and a shortfall of at least 1
+  pub shortfalls : All OfKind cs → (k n i m : ℕ) → verdict draft cs s ≡ violated k n i m → Numbered k i m
+  shortfalls kinds k n i m e =
       let f = names-the-first k n i m .0 e in
-      all-second Fair (f .passed) (test k n i m false ∷ f .rest) (subst (All Fair) (f .whole) (tests-fair draft cs s)) .0 .1 refl
+      all-second Fair (f .passed) (test k n i m false ∷ f .rest) (subst (All Fair) (f .whole) (tests-fair draft cs s kinds)) .0 .1 refl
 
   -- the tests made are the position of the first that fails, counted from 1
   pub made-first : (k n i m : ℕ) (f : FirstFailing (tests draft cs s) k n i m) → made (tests draft cs s) ≡ length (f .passed) + 1

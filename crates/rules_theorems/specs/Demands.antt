@@ -1,4 +1,4 @@
--- The three demands, each as one statement over the definitions of `rules`.
+-- The three demands, each as one statement over the definitions of `rules`. About the entries they stand in `checker_theorems/specs/Demands.antt`.
 use Prim.Native.Nat.{ℕ, _/_, _≤_, _<_}
 use mathlib.Core.Path.{_≡_}
 use mathlib.Core.List.{List}
@@ -54,21 +54,29 @@ pub record EmptiedMerge (t : Tables) (c d b : List ℕ) (r : Merged) : Type 0 wh
   pub text : r .text ≡ filled byteFill b
   pub length : r .length ≡ 0
 
--- "a number that no field can have": of what a reading writes into the tables, nothing is what fills them after a refusal
+-- "a number that no field can have": nothing that an entry writes into a lent table is what fills it after a refusal
 abbrev pub Unfilled : List ℕ → Type 0
 Unfilled = All (λ n. n < unsignedFill)
 
 abbrev pub UnfilledSigned : List ℤ → Type 0
 UnfilledSigned = All (λ x. x ≡ signedFill → ⊥)
 
-pub record NoFieldIsFill (w : Whole) : Type 0 where
-  pub legs : Unfilled (flat legNumbers (legsOf (w .files .rows)))
-  pub configurations : Unfilled (flat configurationNumbers (configurationsOf (w .files .rows)))
-  pub profiles : Unfilled (flat profileNumbers (profilesFrom 0 (w .files .curves)))
-  pub samples : UnfilledSigned (sampleTable (w .files .curves))
-  pub constraints : Unfilled (flat constraintNumbers (ordered (w .files .document .constraints)))
-  pub tracks : Unfilled (flat trackNumbers (w .files .document .tracks))
-  pub choices : Unfilled (flat configurationNumbers (w .choices))
+-- of what the files say
+pub record NoFieldIsFill (f : Files) : Type 0 where
+  pub legs : Unfilled (flat legNumbers (legsOf (f .rows)))
+  pub configurations : Unfilled (flat configurationNumbers (configurationsOf (f .rows)))
+  pub profiles : Unfilled (flat profileNumbers (profilesFrom 0 (f .curves)))
+  pub samples : UnfilledSigned (sampleTable (f .curves))
+  pub constraints : Unfilled (flat constraintNumbers (ordered (f .document .constraints)))
+  pub tracks : Unfilled (flat trackNumbers (f .document .tracks))
+
+-- of a solution's choices, the first's and the second's
+abbrev pub NoChoiceIsFill : List Configuration → Type 0
+NoChoiceIsFill cs = Unfilled (flat configurationNumbers cs)
+
+-- of the curves that a report lays
+abbrev pub NoPowerIsFill : (H : ℕ) → Files → List Configuration → Type 0
+NoPowerIsFill H f cs = UnfilledSigned (curvesOf H f cs)
 
 -- ---- DEMAND 2: once every file reads, w is what they say
 

@@ -1,11 +1,14 @@
 -- What a violation would have needed: the three ways through `needed`, and that it is the rule's own inequality. Assumes nothing.
-use Prim.Native.Nat.{ℕ, zero, suc, _+_, _-_, _<_}
+use Prim.Native.Nat.{ℕ, zero, suc, _+_, _-_, _≤_, _<_}
 use native.Mathlib.Omega.{arith}
 use mathlib.Core.Path.{_≡_, refl}
+use mathlib.Core.Logic.{_⊎_, inl, inr}
 use mathlib.Core.Bool.{true, false, cond}
 use lib.ListN.{getD}
 use borrow.Author.Tests.{eq-eqb, ne-eqb}
-use Rattle.rules.specs.Kinds.{Inequality, _≤?_, ruleOf, headway, departure, arrival}
+use Rattle.rules.specs.Kinds.{Inequality, _≤?_, headway, connection, byArrival, byDeparture, departure, arrival, anchored, about, ruleOf}
+use Rattle.rules.specs.declared.kinds.Time.{Time}
+use Rattle.rules.specs.declared.kinds.Time.the-variants.{At}
 use Rattle.rules.specs.declared.sizes.Configuration.{Configuration}
 use Rattle.say_words.specs.Needs.{asks, neededOf}
 use Rattle.say_words.specs.declared.needs.Bound.{Bound}
@@ -35,20 +38,38 @@ module _ (low high type : ℕ) (one two : Configuration) where
   abbrev inequalityAfter : (kind j : ℕ) → Inequality
   inequalityAfter kind j = getD (ruleOf kind low high type one two) j (0 ≤? 0)
 
-  pub needed-is : (kind j : ℕ) → inequalityAfter kind j .right < inequalityAfter kind j .left
+  -- the two of a connection, whose x is the arrival or the departure
+  abbrev connectionAsks : (by : Time) → Type 0
+  connectionAsks by =
+      let first : Inequality = about by (λ x. x + low ≤? departure two) in
+      let second : Inequality = about by (λ x. departure two ≤? x + high) in
+      (first .right < first .left → Asked first two (neededOf connection 1 (first .left - first .right) two))
+      × (second .right < second .left → Asked second two (neededOf connection 2 (second .left - second .right) two))
+
+  connection-asks : (t : ℕ) → connectionAsks (At t)
+  unfolding neededOf
+  connection-asks t = (λ h. record { own = refl; needed = omega arith }, λ h. record { own = refl; needed = omega arith })
+
+  typed : (type ≡ byArrival) ⊎ (type ≡ byDeparture) → connectionAsks (anchored type one)
+  typed (inl e) = rw (eq-eqb type byArrival e) (connection-asks (arrival one))
+  typed (inr e) = rw e (connection-asks (departure one))
+
+  -- of a record as every reading gives it: it has a kind, and a type where its kind asks for one
+  pub needed-is : (kind j : ℕ) → headway ≤ kind → kind ≤ connection → (kind ≡ connection → (type ≡ byArrival) ⊎ (type ≡ byDeparture))
+      → inequalityAfter kind j .right < inequalityAfter kind j .left
       → Asked (inequalityAfter kind j) two (neededOf kind (suc j) (inequalityAfter kind j .left - inequalityAfter kind j .right) two)
   unfolding neededOf ruleOf
-  needed-is zero j h = absurd (omega arith)
-  needed-is (suc zero) zero h = record { own = refl; needed = omega arith }
-  needed-is (suc zero) (suc zero) h = record { own = refl; needed = omega arith }
-  needed-is (suc zero) (suc (suc j)) h = absurd (omega arith)
-  needed-is (suc (suc zero)) zero h = record { own = refl; needed = omega arith }
-  needed-is (suc (suc zero)) (suc j) h = absurd (omega arith)
-  needed-is (suc (suc (suc zero))) zero h = record { own = refl; needed = omega arith }
-  needed-is (suc (suc (suc zero))) (suc j) h = absurd (omega arith)
-  needed-is (suc (suc (suc (suc zero)))) zero h = record { own = refl; needed = omega arith }
-  needed-is (suc (suc (suc (suc zero)))) (suc j) h = absurd (omega arith)
-  needed-is (suc (suc (suc (suc (suc zero))))) zero h = record { own = refl; needed = omega arith }
-  needed-is (suc (suc (suc (suc (suc zero))))) (suc zero) h = record { own = refl; needed = omega arith }
-  needed-is (suc (suc (suc (suc (suc zero))))) (suc (suc j)) h = absurd (omega arith)
-  needed-is (suc (suc (suc (suc (suc (suc kind)))))) j h = absurd (omega arith)
+  needed-is zero j l m t h = absurd (omega arith)
+  needed-is (suc zero) zero l m t h = record { own = refl; needed = omega arith }
+  needed-is (suc zero) (suc zero) l m t h = record { own = refl; needed = omega arith }
+  needed-is (suc zero) (suc (suc j)) l m t h = absurd (omega arith)
+  needed-is (suc (suc zero)) zero l m t h = record { own = refl; needed = omega arith }
+  needed-is (suc (suc zero)) (suc j) l m t h = absurd (omega arith)
+  needed-is (suc (suc (suc zero))) zero l m t h = record { own = refl; needed = omega arith }
+  needed-is (suc (suc (suc zero))) (suc j) l m t h = absurd (omega arith)
+  needed-is (suc (suc (suc (suc zero)))) zero l m t h = record { own = refl; needed = omega arith }
+  needed-is (suc (suc (suc (suc zero)))) (suc j) l m t h = absurd (omega arith)
+  needed-is (suc (suc (suc (suc (suc zero))))) zero l m t h = typed (t refl) .0 h
+  needed-is (suc (suc (suc (suc (suc zero))))) (suc zero) l m t h = typed (t refl) .1 h
+  needed-is (suc (suc (suc (suc (suc zero))))) (suc (suc j)) l m t h = absurd (omega arith)
+  needed-is (suc (suc (suc (suc (suc (suc kind)))))) j l m t h = absurd (omega arith)

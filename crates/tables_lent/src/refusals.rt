@@ -1,7 +1,7 @@
 // A refusal fills the tables and the choices.
 ghost use mathlib.Core.Path.{_≡_};
 ghost use Rattle.rules.specs.Answers.{isRefusal};
-ghost use Rattle.rules.specs.Entries.{tables};
+ghost use Rattle.rules.specs.Lent.{before, after};
 ghost use Rattle.tables_lent.specs.After.{tablesAfter, choicesAfter};
 use rules::answers::Answer;
 
@@ -24,7 +24,7 @@ pub fn empty_tables(
     constraints: &mut [u32],
     tracks: &mut [u32],
 )
-    ensures { λ _. ⌜ tables (now (legs .exit)) (now (configurations .exit)) (now (profiles .exit)) (now (samples .exit)) (now (constraints .exit)) (now (tracks .exit)) ≡ tablesAfter answer (tables (now (legs .entry)) (now (configurations .entry)) (now (profiles .entry)) (now (samples .entry)) (now (constraints .entry)) (now (tracks .entry))) ⌝ }
+    ensures { λ _. ⌜ after legs configurations profiles samples constraints tracks ≡ tablesAfter answer (before legs configurations profiles samples constraints tracks) ⌝ }
 {
     if is_refusal(answer) {
         tables_fill::unsigned(legs);

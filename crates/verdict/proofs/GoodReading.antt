@@ -80,7 +80,7 @@ module _ (H : ℕ) (x : Texts) (room : Rooms) (files : Files) (read : filesOf H 
           timely = subst (All Timely) (solution .choices) timely;
           brief =
               ordered-keeps Brief cs
-              (all-map (LawfulConstraint (legIds (files .rows))) Brief (λ c k. (k .low-in-range, k .high-in-range)) cs (lawful .each));
+              (all-map (LawfulConstraint (legIds (files .rows))) Brief (λ c k. (omega (arith, k .to-last-kind), k .low-in-range, k .high-in-range)) cs (lawful .each));
         }
 
     -- ---- the tables that the readers leave: n rows and m records were counted

@@ -8,38 +8,56 @@ use lib.Dec.{leb, eqb}
 use lib.ListN.{take, getD}
 use lib.Seq.{take-nil}
 use borrow.Author.Tests.{le-leb, lt-leb, eq-eqb, ne-eqb}
-use Rattle.rules.specs.Kinds.{Inequality, _≤?_, noAnchor, latest, firstLeg, secondLeg, measured, byAnchor, byAnchors}
+use Rattle.rules.specs.Kinds.{Inequality, _≤?_, about, noAnchor, latest, firstLeg, secondLeg, measured, byAnchor, byAnchors}
 use Rattle.rules.specs.declared.kinds.Kind.{Kind}
+use Rattle.rules.specs.declared.kinds.Time.{Time}
+use Rattle.rules.specs.declared.kinds.Time.the-variants.{At, Unknown}
 use Rattle.rules.specs.declared.sizes.Configuration.{Configuration}
 use Rattle.rules.specs.declared.sizes.Constraint.{Constraint}
 use Rattle.verdict.specs.Found.{shortfallOf, findingFrom, findingOf}
 use Rattle.verdict.specs.declared.records.Finding.{Finding}
 use Rattle.verdict.specs.declared.records.Finding.the-variants.{Kept, Fails}
 
--- ---- one inequality: a and b are the times of its two legs, s the shortfall that was made of them
+-- ---- one inequality: t and u are the times of its two legs, s the shortfall that was made of them
 
-module _ (keys first second low high type : ℕ) (one two : Configuration) (a b s : ℕ)
-    (ea : a ≡ measured first type one) (eb : b ≡ measured second type two) where
-  abbrev by : Bool → Bool → ℕ
-  by upper alone =
-      let x : ℕ = measured first type one in
-      let y : ℕ = measured second type two in
-      shortfallOf (cond upper (y ≤? x + high) (cond alone x (x + low) ≤? y))
+module _ (keys first second low high type : ℕ) (one two : Configuration) where
+  abbrev asked : Inequality
+  asked = byAnchor keys first second low high type one two
 
-  -- what bounds the second leg from above
-  pub by-latest : first ≡ latest → s ≡ b - (a + high) → s ≡ shortfallOf (byAnchor keys first second low high type one two)
-  by-latest e es =
-      es ∙ ap₂ (λ x y. y - (x + high)) ea eb ∙ sym (ap (λ p. by p (eqb keys (firstLeg + secondLeg))) (eq-eqb first latest e))
+  -- of two times, as the tests decide
+  abbrev made : (upper alone : Bool) → Time → Time → ℕ
+  made upper alone t u = shortfallOf (about t (λ x. about u (λ y. cond upper (y ≤? x + high) (cond alone x (x + low) ≤? y))))
 
-  -- the kind has no further keys
-  pub by-legs : (first ≡ latest → ⊥) → keys ≡ firstLeg + secondLeg → s ≡ a - b
-      → s ≡ shortfallOf (byAnchor keys first second low high type one two)
-  by-legs n e es = es ∙ ap₂ (λ x y. x - y) ea eb ∙ sym (ap₂ by (ne-eqb first latest n) (eq-eqb keys (firstLeg + secondLeg) e))
+  module _ (t : Time) (et : t ≡ measured first type one) where
+    -- no time of the first leg
+    pub no-first : t ≡ Unknown → 1 ≡ shortfallOf asked
+    no-first e = sym (ap (λ x. made (eqb first latest) (eqb keys (firstLeg + secondLeg)) x (measured second type two)) (sym et ∙ e))
 
-  -- with its least seconds
-  pub by-least : (first ≡ latest → ⊥) → (keys ≡ firstLeg + secondLeg → ⊥) → s ≡ a + low - b
-      → s ≡ shortfallOf (byAnchor keys first second low high type one two)
-  by-least n e es = es ∙ ap₂ (λ x y. x + low - y) ea eb ∙ sym (ap₂ by (ne-eqb first latest n) (ne-eqb keys (firstLeg + secondLeg) e))
+    module _ (u : Time) (eu : u ≡ measured second type two) (a : ℕ) (ea : t ≡ At a) where
+      of-times : made (eqb first latest) (eqb keys (firstLeg + secondLeg)) (At a) u ≡ shortfallOf asked
+      of-times = ap₂ (made (eqb first latest) (eqb keys (firstLeg + secondLeg))) (sym ea ∙ et) eu
+
+      -- nor of the second
+      pub no-second : u ≡ Unknown → 1 ≡ shortfallOf asked
+      no-second e = sym (ap (made (eqb first latest) (eqb keys (firstLeg + secondLeg)) (At a)) e) ∙ of-times
+
+      module _ (b : ℕ) (eb : u ≡ At b) (s : ℕ) where
+        by : (upper alone : Bool) → eqb first latest ≡ upper → eqb keys (firstLeg + secondLeg) ≡ alone → s ≡ made upper alone (At a) (At b)
+            → s ≡ shortfallOf asked
+        by upper alone e f es =
+            es ∙ sym (ap₂ (λ p q. made p q (At a) (At b)) e f) ∙ sym (ap (made (eqb first latest) (eqb keys (firstLeg + secondLeg)) (At a)) eb) ∙ of-times
+
+        -- what bounds the second leg from above
+        pub by-latest : first ≡ latest → s ≡ b - (a + high) → s ≡ shortfallOf asked
+        by-latest e es = by true (eqb keys (firstLeg + secondLeg)) (eq-eqb first latest e) refl es
+
+        -- the kind has no further keys
+        pub by-legs : (first ≡ latest → ⊥) → keys ≡ firstLeg + secondLeg → s ≡ a - b → s ≡ shortfallOf asked
+        by-legs n e es = by false true (ne-eqb first latest n) (eq-eqb keys (firstLeg + secondLeg) e) es
+
+        -- with its least seconds
+        pub by-least : (first ≡ latest → ⊥) → (keys ≡ firstLeg + secondLeg → ⊥) → s ≡ a + low - b → s ≡ shortfallOf asked
+        by-least n e es = by false false (ne-eqb first latest n) (ne-eqb keys (firstLeg + secondLeg) e) es
 
 -- ---- the first inequality of a row that fails: s and r are the shortfalls of its two
 

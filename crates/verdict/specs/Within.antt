@@ -3,7 +3,7 @@ use Prim.Native.Nat.{ℕ, _+_, _≤_}
 use mathlib.Core.List.{List}
 use lib.ListN.{length}
 use Rattle.rules.specs.Limits.{mostLegs, mostHorizon, mostConstraints, mostSeconds}
-use Rattle.rules.specs.Kinds.{connection, arrival}
+use Rattle.rules.specs.Kinds.{arrival}
 use Rattle.rules.specs.Verdict.{All}
 use Rattle.rules.specs.declared.sizes.Configuration.{Configuration}
 use Rattle.rules.specs.declared.sizes.Constraint.{Constraint}
@@ -12,9 +12,13 @@ use Rattle.rules.specs.declared.sizes.Constraint.{Constraint}
 abbrev pub Timely : Configuration → Type 0
 Timely c = arrival c ≤ mostHorizon
 
--- the seconds that a record carries
+-- a violation names its kind by a byte
+abbrev pub mostNamed : ℕ
+mostNamed = 255
+
+-- the number by which a record's kind is named, and the seconds that it carries
 abbrev pub Brief : Constraint → Type 0
-Brief c = (c .low ≤ mostSeconds) × (c .high ≤ mostSeconds)
+Brief c = (c .kind ≤ mostNamed) × (c .low ≤ mostSeconds) × (c .high ≤ mostSeconds)
 
 pub record Within (cs : List Constraint) (s : List Configuration) : Type 0 where
   pub rows : length s ≤ mostLegs
@@ -22,10 +26,10 @@ pub record Within (cs : List Constraint) (s : List Configuration) : Type 0 where
   pub timely : All Timely s
   pub brief : All Brief cs
 
--- what follows for a record that fails: its kind is one of the five, and its shortfall is small
+-- what follows for a record that fails: its kind can be named, and its shortfall is small
 abbrev pub mostShortfall : ℕ
 mostShortfall = mostHorizon + mostSeconds
 
 pub record Failed (kind short : ℕ) : Type 0 where
-  pub known : kind ≤ connection
+  pub named : kind ≤ mostNamed
   pub small : short ≤ mostShortfall

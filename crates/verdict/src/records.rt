@@ -1,7 +1,7 @@
 // Then the constraint table in order: the check stops at the first inequality that fails.
 ghost use mathlib.Core.Path.{_≡_};
-ghost use Prim.Native.Nat.{_-_, _≤_};
-ghost use Rattle.rules.specs.Kinds.{arrival, measured, byAnchor, byAnchors, notOffered};
+ghost use Prim.Native.Nat.{_-_};
+ghost use Rattle.rules.specs.Kinds.{anchored, measured, byAnchor, byAnchors, notOffered};
 ghost use Rattle.rules.specs.Verdict.{choiceAt, inequalities, positionAfter, recordsFrom, answerOf};
 ghost use Rattle.rules.specs.Verdict.{violated as found};
 ghost use Rattle.tables_views.specs.View.{constraintsIn, configurationsIn};
@@ -12,6 +12,7 @@ use rules::answers::Violation;
 use rules::kinds::Anchor;
 use rules::kinds::Key;
 use rules::kinds::Kind;
+use rules::kinds::Time;
 use rules::sizes::Configuration;
 use rules::sizes::Constraint;
 
@@ -21,22 +22,43 @@ pub enum Finding {
     Fails(u8, u64),
 }
 
-// A leg by an anchor: d, d + t, or x of kind 5 by the record's type.
-pub fn time_of(anchor: u8, connection: u32, c: Configuration) -> u64
-    ensures { λ r. ⌜ (r ≡ measured anchor connection c) × (r ≤ arrival c) ⌝ }
+// What cannot hold (`Kinds.cannotHold`) fails by a second.
+const CANNOT_HOLD: u64 = 1;
+
+// x of kind 5, by the record's type; another type has none.
+pub fn x_of(connection: u32, c: Configuration) -> Time
+    ensures { λ r. ⌜ r ≡ anchored connection c ⌝ }
+{
+    let departure = c.departure as u64;
+    let arrival = departure + c.travel as u64;
+    if connection == Constraint::ARRIVAL {
+        return Time::At(arrival);
+    }
+    if connection != Constraint::DEPARTURE {
+        return Time::Unknown;
+    }
+    Time::At(departure)
+}
+
+// A leg by an anchor: d, d + t, or x.
+pub fn time_of(anchor: u8, connection: u32, c: Configuration) -> Time
+    ensures { λ r. ⌜ r ≡ measured anchor connection c ⌝ }
 {
     let departure = c.departure as u64;
     let arrival = departure + c.travel as u64;
     if anchor == Anchor::DEPARTURE {
-        return departure;
+        return Time::At(departure);
     }
     if anchor == Anchor::ARRIVAL {
-        return arrival;
+        return Time::At(arrival);
     }
-    if connection == Constraint::ARRIVAL {
-        return arrival;
+    if anchor == Anchor::CONNECTION {
+        return x_of(connection, c);
     }
-    departure
+    if anchor == Anchor::LATEST {
+        return x_of(connection, c);
+    }
+    Time::Unknown
 }
 
 // By how much the left side passes the right.
@@ -46,7 +68,7 @@ pub fn beyond(left: u64, right: u64) -> u64
     if right < left { left - right } else { 0 }
 }
 
-// The shortfall of one inequality, by the anchors of the first leg and of the second; 0 where it holds.
+// The shortfall of one inequality, by the anchors of the first leg and of the second; 0 where it holds. Without both times it cannot hold.
 pub fn shortfall(
     keys: u16,
     first: u8,
@@ -58,8 +80,12 @@ pub fn shortfall(
     ensures { λ r. ⌜ r ≡ shortfallOf (byAnchor keys first second (c .low) (c .high) (c .connection) one two) ⌝ }
 {
     let connection = c.connection;
-    let a = time_of(first, connection, one);
-    let b = time_of(second, connection, two);
+    let Time::At(a) = time_of(first, connection, one) else {
+        return CANNOT_HOLD;
+    };
+    let Time::At(b) = time_of(second, connection, two) else {
+        return CANNOT_HOLD;
+    };
     if first == Anchor::LATEST {
         return beyond(b, a + c.high as u64);
     }
@@ -108,18 +134,19 @@ pub fn choice_of(choices: &[u32], n: usize, row: usize) -> Configuration
     }
 }
 
-// A record by its kind's row of the table. Another number than a kind's has no inequalities.
+// A record by its kind's row of the table. Another number than a kind's has one inequality, which cannot hold.
 pub fn judge_record(c: Constraint, choices: &[u32], n: usize) -> Finding
     ensures { λ r. ⌜ r ≡ findingOf (inequalities (configurationsIn n (now (choices .entry))) c) ⌝ }
 {
     let kind = c.kind as usize;
     let first = c.first as usize;
     let second = c.second as usize;
+    let unknown = Finding::Fails(1, CANNOT_HOLD);
     if kind < 1 {
-        return Finding::Kept;
+        return unknown;
     }
     if Kind::COUNT < kind {
-        return Finding::Kept;
+        return unknown;
     }
     let row = rules::kinds::kind_at(kind - 1);
     let one = choice_of(choices, n, first);

@@ -31,7 +31,12 @@ enum-told : tie.Need-enum-told
 enum-told c = search needs
 
 judge-choices-requires : tie.Need-judge-choices-requires
-judge-choices-requires c κs = choice-ready _ _ _ _ _ (c .before .before .before .before .before .before .before .before .before .before .before .before .before .before .before .before .before .before .before .before .before .before .before .before .before .read-files .ensures) (c .before .before .before .before .before .before .before .before .before .before .before .before .filed2 .given .1) (c .before .before .before .before .before .before .before .before .choose .ensures) (c .before .before .before .before .enum-told .given .1)
+judge-choices-requires c κs =
+    let read-files = c .before .before .before .before .before .before .before .before .before .before .before .before .before .before .before .before .before .before .before .before .before .before .before .before .before .read-files in
+    let filed2 = c .before .before .before .before .before .before .before .before .before .before .before .before .filed2 in
+    let choose = c .before .before .before .before .before .before .before .before .choose in
+    let enum-told = c .before .before .before .before .enum-told in
+    choice-ready _ _ _ _ _ (read-files .ensures) (filed2 .given .1) (choose .ensures) (enum-told .given .1)
 
 same-length : tie.Need-same-length
 same-length c = search needs
@@ -76,7 +81,11 @@ same-length-13 : tie.Need-same-length-13
 same-length-13 c = search needs
 
 returns-2 : tie.Need-returns-2
-returns-2 c = choice-stop _ _ _ _ _ (c .before .before .before .before .before .before .before .before .before .before .before .before .before .before .before .before .before .before .before .before .before .before .before .read-files .ensures) (c .before .before .before .before .before .before .before .before .before .before .filed2 .given .1) (c .before .before .before .before .before .before .choose .ensures) (c .before .before .refusal .given .1) (c .refused2 .ensures)
+returns-2 c =
+    let read-files = c .before .before .before .before .before .before .before .before .before .before .before .before .before .before .before .before .before .before .before .before .before .before .before .read-files in
+    let filed2 = c .before .before .before .before .before .before .before .before .before .before .filed2 in
+    let choose = c .before .before .before .before .before .before .choose in
+    choice-stop _ _ _ _ _ (read-files .ensures) (filed2 .given .1) (choose .ensures) (c .before .before .refusal .given .1) (c .refused2 .ensures)
 
 same-length-14 : tie.Need-same-length-14
 same-length-14 c = search needs
@@ -100,7 +109,12 @@ same-length-20 : tie.Need-same-length-20
 same-length-20 c = search needs
 
 returns-3 : tie.Need-returns-3
-returns-3 c = choice-judged _ _ _ _ _ (c .before .before .before .before .before .before .before .before .before .before .before .before .before .before .before .before .before .before .before .before .before .before .before .before .before .before .read-files .ensures) (c .before .before .before .before .before .before .before .before .before .before .before .before .before .filed2 .given .1) (c .before .before .before .before .before .before .before .before .before .choose .ensures) (c .before .before .before .before .before .enum-told .given .1) (c .judge-choices .ensures)
+returns-3 c =
+    let read-files = c .before .before .before .before .before .before .before .before .before .before .before .before .before .before .before .before .before .before .before .before .before .before .before .before .before .before .read-files in
+    let filed2 = c .before .before .before .before .before .before .before .before .before .before .before .before .before .filed2 in
+    let choose = c .before .before .before .before .before .before .before .before .before .choose in
+    let enum-told = c .before .before .before .before .before .enum-told in
+    choice-judged _ _ _ _ _ (read-files .ensures) (filed2 .given .1) (choose .ensures) (enum-told .given .1) (c .judge-choices .ensures)
 
 pub read-and-judge-spec : {M : Type 1} → statement M
 read-and-judge-spec =

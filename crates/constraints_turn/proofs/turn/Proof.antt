@@ -108,7 +108,10 @@ returns c = λ d tied. by-action _ _ _ _ _ _ _ _ _ (c .before .before .action .e
 
 returns-2 : tie.Need-returns-2
 unfolding act
-returns-2 c = λ d tied. by-action _ _ _ _ _ _ _ _ _ (c .before .before .action .ensures) (c .enum-told2 .given .1) (ap (fault badJson) (sym (past-found (now ((c .before .before .before .before .before .before .before .before) .args .text)) ((c .before .before .before .before .before .before .before .before) .args .t) ((c .before .before .before .before .before .before .before .before) .pre .starts))))
+returns-2 c =
+    let given = c .before .before .before .before .before .before .before .before .args in
+    let asked = c .before .before .before .before .before .before .before .before .pre in
+    λ d tied. by-action _ _ _ _ _ _ _ _ _ (c .before .before .action .ensures) (c .enum-told2 .given .1) (ap (fault badJson) (sym (past-found (now (given .text)) (given .t) (asked .starts))))
 
 returns-3 : tie.Need-returns-3
 unfolding act
@@ -140,7 +143,10 @@ returns-9 c = λ d tied. by-action _ _ _ _ _ _ _ _ _ (c .before .before .before 
 
 returns-10 : tie.Need-returns-10
 unfolding act
-returns-10 c = λ d tied. by-action _ _ _ _ _ _ _ _ _ (c .before .before .before .action .ensures) (c .before .enum-told9 .given .1) (c .string-cut .ensures _ _ _ d _ refl (past-found (now ((c .before .before .before .before .before .before .before .before .before) .args .text)) ((c .before .before .before .before .before .before .before .before .before) .args .t) ((c .before .before .before .before .before .before .before .before .before) .pre .starts)))
+returns-10 c =
+    let given = c .before .before .before .before .before .before .before .before .before .args in
+    let asked = c .before .before .before .before .before .before .before .before .before .pre in
+    λ d tied. by-action _ _ _ _ _ _ _ _ _ (c .before .before .before .action .ensures) (c .before .enum-told9 .given .1) (c .string-cut .ensures _ _ _ d _ refl (past-found (now (given .text)) (given .t) (asked .starts)))
 
 returns-11 : tie.Need-returns-11
 unfolding act

@@ -17,7 +17,9 @@ slice-aggregate-figures : tie.Need-slice-aggregate-figures
 slice-aggregate-figures c = front-long _ _ (c .before .before .before .before .before .before .before .before .before .pre .0) _ _ (c .before .before .before .lay .ensures)
 
 figures-requires : tie.Need-figures-requires
-figures-requires c κs = (front-table _ _ (c .before .before .before .before .before .before .before .before .before .pre .0) _ _ (c .before .before .before .lay .ensures), c .before .before .before .before .before .before .before .before .before .pre .0 .legs)
+figures-requires c κs =
+    let asked = c .before .before .before .before .before .before .before .before .before .pre in
+    (front-table _ _ (asked .0) _ _ (c .before .before .before .lay .ensures), asked .0 .legs)
 
 same-length : tie.Need-same-length
 same-length c = search needs

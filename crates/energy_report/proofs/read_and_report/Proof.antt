@@ -41,7 +41,10 @@ same-length-8 c = search needs
 
 returns : tie.Need-returns
 returns c =
-    reported-tested (c .before .before .before .before .before .before .before .before .before .before .before .before .before .before .before .before .before .before .before .before .before .before .before .before .read-and-judge .ensures) (c .before .before .before .before .before .before .before .before .before .is-accepted .ensures) (c .before .before .before .before .before .before .before .before .if1 .taken)
+    let read-and-judge = c .before .before .before .before .before .before .before .before .before .before .before .before .before .before .before .before .before .before .before .before .before .before .before .before .read-and-judge in
+    let is-accepted = c .before .before .before .before .before .before .before .before .before .is-accepted in
+    let if1 = c .before .before .before .before .before .before .before .before .if1 in
+    reported-tested (read-and-judge .ensures) (is-accepted .ensures) (if1 .taken)
     (c .before .report-accepted .ensures)
 
 no-report-requires : tie.Need-no-report-requires

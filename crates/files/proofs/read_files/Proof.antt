@@ -48,9 +48,13 @@ returns-2 c = search (files-powers, needs)
 
 read-rules-requires : tie.Need-read-rules-requires
 read-rules-requires c κs =
+    let read-draft = c .before .before .before .before .before .before .before .before .before .before .before .before .before .before .before .before .before .before .before .before .before .read-draft in
+    let draft = c .before .before .before .before .before .before .before .before .before .before .before .before .before .before .before .draft in
+    let read-powers = c .before .before .before .before .before .before .before .before .before .read-powers in
+    let power = c .before .before .before .before .power in
     let s = (c .before .before .before .before .before .before .before .before .before .before .before .before .before .before .before .before .before .before .before .before .before .before .before .before .before .before .before .before .before .before .before .before) .args in
     rules-drafted (s .h) (s .timetable .now) (s .profiles .now) (s .constraints .now) (s .legs .now) (s .configurations .now) (s .profile-table .now) (s .samples .now) (s .constraint-table .now)
-    (s .tracks .now) (c .before .before .before .before .before .before .before .before .before .before .before .before .before .before .before .before .before .before .before .before .before .read-draft .ensures) (c .before .before .before .before .before .before .before .before .before .before .before .before .before .before .before .draft .given .1) (c .before .before .before .before .before .before .before .before .before .read-powers .ensures) (c .before .before .before .before .power .given .1)
+    (s .tracks .now) (read-draft .ensures) (draft .given .1) (read-powers .ensures) (power .given .1)
 
 same-length-7 : tie.Need-same-length-7
 same-length-7 c = c .before .before .before .before .before .before .before .before .before .before .before .before .before .before .before .before .before .before .before .before .before .before .before .before .before .before .read-draft .kept .1 .1 .0
@@ -72,8 +76,13 @@ same-length-12 c = search needs
 
 returns-3 : tie.Need-returns-3
 returns-3 c =
-    files-rules _ _ _ _ _ _ _ _ _ _ (c .before .before .before .before .before .before .before .before .before .before .before .before .before .before .before .before .before .before .before .before .before .before .before .before .before .before .read-draft .ensures) (c .before .before .before .before .before .before .before .before .before .before .before .before .before .before .before .before .before .before .before .before .draft .given .1) (c .before .before .before .before .before .before .before .before .before .before .before .before .before .before .read-powers .ensures) (c .before .before .before .before .before .before .before .before .before .power .given .1)
-    (c .before .before .before .before .read-rules .ensures)
+    let read-draft = c .before .before .before .before .before .before .before .before .before .before .before .before .before .before .before .before .before .before .before .before .before .before .before .before .before .before .read-draft in
+    let draft = c .before .before .before .before .before .before .before .before .before .before .before .before .before .before .before .before .before .before .before .before .draft in
+    let read-powers = c .before .before .before .before .before .before .before .before .before .before .before .before .before .before .read-powers in
+    let power = c .before .before .before .before .before .before .before .before .before .power in
+    let read-rules = c .before .before .before .before .read-rules in
+    files-rules _ _ _ _ _ _ _ _ _ _ (read-draft .ensures) (draft .given .1) (read-powers .ensures) (power .given .1)
+    (read-rules .ensures)
 
 pub read-files-spec : {M : Type 1} → statement M
 read-files-spec =

@@ -70,8 +70,12 @@ same-length-15 : tie.Need-same-length-15
 same-length-15 c = c .before .before .before .before .before .before .merge-solutions .kept .1 .1 .1 .1 .1 .1 .1 .1 .1 .1 .0
 
 returns-2 : tie.Need-returns-2
-returns-2 c = let s = (c .before .before .before .before .before .before .before .before .before .before .before .before .before .before .before .before .before .before .before .before .before .before .before .before .before .before .before .before .before .before .before .before .before .before .before .before .before .before .before .before .before .before .before .before .before .before .before) .args in
-    files-merged (s .direction) _ _ (s .first .now) (s .second .now) _ (s .choices .now) (s .second-choices .now) (s .text .now) (c .before .before .before .before .before .before .before .before .before .before .before .before .before .before .before .before .before .before .before .before .before .before .before .before .before .before .before .read-files .ensures) (c .before .before .before .before .before .before .before .before .before .before .before .before .before .before .counts .given .1) (c .before .before .before .before .before .before .merge-solutions .ensures)
+returns-2 c =
+    let read-files = c .before .before .before .before .before .before .before .before .before .before .before .before .before .before .before .before .before .before .before .before .before .before .before .before .before .before .before .read-files in
+    let counts = c .before .before .before .before .before .before .before .before .before .before .before .before .before .before .counts in
+    let merge-solutions = c .before .before .before .before .before .before .merge-solutions in
+    let s = (c .before .before .before .before .before .before .before .before .before .before .before .before .before .before .before .before .before .before .before .before .before .before .before .before .before .before .before .before .before .before .before .before .before .before .before .before .before .before .before .before .before .before .before .before .before .before .before) .args in
+    files-merged (s .direction) _ _ (s .first .now) (s .second .now) _ (s .choices .now) (s .second-choices .now) (s .text .now) (read-files .ensures) (counts .given .1) (merge-solutions .ensures)
 
 pub read-and-merge-spec : {M : Type 1} → statement M
 read-and-merge-spec =

@@ -44,22 +44,48 @@ enum-known-step : tie.Need-enum-known-step Inv-loop μ-loop
 enum-known-step c = search needs
 
 loop-less : tie.Need-loop-less Inv-loop μ-loop
-loop-less c = nearer _ _ _ _ _ _ _ (c .before .before .before .before .before .before .before .before .loop .inv) _ (c .before .before .before .before .before .before .before .token-at .ensures) (c .before .before .before .before .turn .result) _ _ (c .before .before .before .before .before .before .before .before .before .before .before .of .ensures .0) (c .before .before .before .before .before .before .before .before .before .before .before .of .ensures .1) (c .before .before .before .before .turn .ensures) (ap stepGoes (c .before .step .given .1))
+loop-less c =
+    let room = c .before .before .before .before .before .before .before .before .before .before .before .of in
+    let loop = c .before .before .before .before .before .before .before .before .loop in
+    let token-at = c .before .before .before .before .before .before .before .token-at in
+    let turn = c .before .before .before .before .turn in
+    nearer _ _ _ _ _ _ _ (loop .inv) _ (token-at .ensures) (turn .result) _ _ (room .ensures .0) (room .ensures .1) (turn .ensures) (ap stepGoes (c .before .step .given .1))
 
 loop-again : tie.Need-loop-again Inv-loop μ-loop
-loop-again c = going-on _ _ _ _ _ _ _ (c .before .before .before .before .before .before .before .before .loop .inv) _ (c .before .before .before .before .before .before .before .token-at .ensures) _ _ _ (c .before .before .before .before .before .before .before .before .before .before .before .of .ensures .0) (c .before .before .before .before .before .before .before .before .before .before .before .of .ensures .1) (c .before .before .before .before .turn .ensures) _ (c .before .step .given .1)
+loop-again c =
+    let room = c .before .before .before .before .before .before .before .before .before .before .before .of in
+    let loop = c .before .before .before .before .before .before .before .before .loop in
+    let token-at = c .before .before .before .before .before .before .before .token-at in
+    let turn = c .before .before .before .before .turn in
+    going-on _ _ _ _ _ _ _ (loop .inv) _ (token-at .ensures) _ _ _ (room .ensures .0) (room .ensures .1) (turn .ensures) _ (c .before .step .given .1)
 
 enum-known-step-2 : tie.Need-enum-known-step-2 Inv-loop μ-loop
 enum-known-step-2 c = search needs
 
 emit-requires : tie.Need-emit-requires Inv-loop μ-loop
-emit-requires c κs = (next-low _ _ _ _ _ _ _ (c .before .before .before .before .before .before .before .before .before .before .before .loop .inv) ((c .before .before .before .before .before .before .before .before .before .before .before .before .before .before .before .before .before .before .before .before) .pre) _, few _ _ _ _ _ _ _ (c .before .before .before .before .before .before .before .before .before .before .before .loop .inv) .constraints)
+emit-requires c κs =
+    let asked = c .before .before .before .before .before .before .before .before .before .before .before .before .before .before .before .before .before .before .before .before .pre in
+    let loop = c .before .before .before .before .before .before .before .before .before .before .before .loop in
+    (next-low _ _ _ _ _ _ _ (loop .inv) asked _, few _ _ _ _ _ _ _ (loop .inv) .constraints)
 
 loop-less-2 : tie.Need-loop-less-2 Inv-loop μ-loop
-loop-less-2 c = nearer _ _ _ _ _ _ _ (c .before .before .before .before .before .before .before .before .before .before .before .before .before .before .before .before .loop .inv) _ (c .before .before .before .before .before .before .before .before .before .before .before .before .before .before .before .token-at .ensures) (c .before .before .before .before .before .before .before .before .before .before .before .before .turn .result) _ _ (c .before .before .before .before .before .before .before .before .before .before .before .before .before .before .before .before .before .before .before .of .ensures .0) (c .before .before .before .before .before .before .before .before .before .before .before .before .before .before .before .before .before .before .before .of .ensures .1) (c .before .before .before .before .before .before .before .before .before .before .before .before .turn .ensures) (ap stepGoes (c .before .before .before .before .before .before .before .before .before .step2 .given .1))
+loop-less-2 c =
+    let room = c .before .before .before .before .before .before .before .before .before .before .before .before .before .before .before .before .before .before .before .of in
+    let loop = c .before .before .before .before .before .before .before .before .before .before .before .before .before .before .before .before .loop in
+    let token-at = c .before .before .before .before .before .before .before .before .before .before .before .before .before .before .before .token-at in
+    let turn = c .before .before .before .before .before .before .before .before .before .before .before .before .turn in
+    let step2 = c .before .before .before .before .before .before .before .before .before .step2 in
+    nearer _ _ _ _ _ _ _ (loop .inv) _ (token-at .ensures) (turn .result) _ _ (room .ensures .0) (room .ensures .1) (turn .ensures) (ap stepGoes (step2 .given .1))
 
 loop-again-2 : tie.Need-loop-again-2 Inv-loop μ-loop
-loop-again-2 c = going-emit _ _ _ _ _ _ _ (c .before .before .before .before .before .before .before .before .before .before .before .before .before .before .before .before .loop .inv) _ (c .before .before .before .before .before .before .before .before .before .before .before .before .before .before .before .token-at .ensures) _ _ _ (c .before .before .before .before .before .before .before .before .before .before .before .before .before .before .before .before .before .before .before .of .ensures .0) (c .before .before .before .before .before .before .before .before .before .before .before .before .before .before .before .before .before .before .before .of .ensures .1) (c .before .before .before .before .before .before .before .before .before .before .before .before .turn .ensures) _ _ _ _ _ (c .before .before .before .before .before .before .before .before .before .step2 .given .1) (c .before .before .before .before .emit .ensures .0) (c .before .before .before .before .emit .ensures .1) (c .before .before .before .before .emit .ensures .2) (c .before .before .before .before .emit .ensures .3)
+loop-again-2 c =
+    let room = c .before .before .before .before .before .before .before .before .before .before .before .before .before .before .before .before .before .before .before .of in
+    let loop = c .before .before .before .before .before .before .before .before .before .before .before .before .before .before .before .before .loop in
+    let token-at = c .before .before .before .before .before .before .before .before .before .before .before .before .before .before .before .token-at in
+    let turn = c .before .before .before .before .before .before .before .before .before .before .before .before .turn in
+    let step2 = c .before .before .before .before .before .before .before .before .before .step2 in
+    let emit = c .before .before .before .before .emit in
+    going-emit _ _ _ _ _ _ _ (loop .inv) _ (token-at .ensures) _ _ _ (room .ensures .0) (room .ensures .1) (turn .ensures) _ _ _ _ _ (step2 .given .1) (emit .ensures .0) (emit .ensures .1) (emit .ensures .2) (emit .ensures .3)
 
 enum-known-step-3 : tie.Need-enum-known-step-3 Inv-loop μ-loop
 enum-known-step-3 c = search needs
@@ -68,10 +94,20 @@ add-seen : tie.Need-add-seen Inv-loop μ-loop
 add-seen c = omega (arith, few _ _ _ _ _ _ _ (c .before .before .before .before .before .before .before .before .loop .inv) .subnets)
 
 loop-less-3 : tie.Need-loop-less-3 Inv-loop μ-loop
-loop-less-3 c = nearer _ _ _ _ _ _ _ (c .before .before .before .before .before .before .before .before .loop .inv) _ (c .before .before .before .before .before .before .before .token-at .ensures) (c .before .before .before .before .turn .result) _ _ (c .before .before .before .before .before .before .before .before .before .before .before .of .ensures .0) (c .before .before .before .before .before .before .before .before .before .before .before .of .ensures .1) (c .before .before .before .before .turn .ensures) (ap stepGoes (c .before .step3 .given .1))
+loop-less-3 c =
+    let room = c .before .before .before .before .before .before .before .before .before .before .before .of in
+    let loop = c .before .before .before .before .before .before .before .before .loop in
+    let token-at = c .before .before .before .before .before .before .before .token-at in
+    let turn = c .before .before .before .before .turn in
+    nearer _ _ _ _ _ _ _ (loop .inv) _ (token-at .ensures) (turn .result) _ _ (room .ensures .0) (room .ensures .1) (turn .ensures) (ap stepGoes (c .before .step3 .given .1))
 
 loop-again-3 : tie.Need-loop-again-3 Inv-loop μ-loop
-loop-again-3 c = going-opened _ _ _ _ _ _ _ (c .before .before .before .before .before .before .before .before .loop .inv) _ (c .before .before .before .before .before .before .before .token-at .ensures) _ _ _ (c .before .before .before .before .before .before .before .before .before .before .before .of .ensures .0) (c .before .before .before .before .before .before .before .before .before .before .before .of .ensures .1) (c .before .before .before .before .turn .ensures) _ (c .before .step3 .given .1)
+loop-again-3 c =
+    let room = c .before .before .before .before .before .before .before .before .before .before .before .of in
+    let loop = c .before .before .before .before .before .before .before .before .loop in
+    let token-at = c .before .before .before .before .before .before .before .token-at in
+    let turn = c .before .before .before .before .turn in
+    going-opened _ _ _ _ _ _ _ (loop .inv) _ (token-at .ensures) _ _ _ (room .ensures .0) (room .ensures .1) (turn .ensures) _ (c .before .step3 .given .1)
 
 enum-known-step-4 : tie.Need-enum-known-step-4 Inv-loop μ-loop
 enum-known-step-4 c = search needs
@@ -80,25 +116,59 @@ slice-aggregate-name : tie.Need-slice-aggregate-name Inv-loop μ-loop
 slice-aggregate-name c = search needs
 
 name-requires : tie.Need-name-requires Inv-loop μ-loop
-name-requires c κs = id-room _ _ _ _ _ _ _ (c .before .before .before .before .before .before .before .before .before .before .loop .inv) _ (c .before .before .before .before .before .before .before .before .before .token-at .ensures) _ _ _ (c .before .before .before .before .before .before .before .before .before .before .before .before .before .of .ensures .0) (c .before .before .before .before .before .before .before .before .before .before .before .before .before .of .ensures .1) (c .before .before .before .before .before .before .turn .ensures) _ _ (c .before .before .before .step4 .given .1)
+name-requires c κs =
+    let room = c .before .before .before .before .before .before .before .before .before .before .before .before .before .of in
+    let loop = c .before .before .before .before .before .before .before .before .before .before .loop in
+    let token-at = c .before .before .before .before .before .before .before .before .before .token-at in
+    let turn = c .before .before .before .before .before .before .turn in
+    id-room _ _ _ _ _ _ _ (loop .inv) _ (token-at .ensures) _ _ _ (room .ensures .0) (room .ensures .1) (turn .ensures) _ _ (c .before .before .before .step4 .given .1)
 
 loop-less-4 : tie.Need-loop-less-4 Inv-loop μ-loop
-loop-less-4 c = nearer _ _ _ _ _ _ _ (c .before .before .before .before .before .before .before .before .before .before .before .before .loop .inv) _ (c .before .before .before .before .before .before .before .before .before .before .before .token-at .ensures) (c .before .before .before .before .before .before .before .before .turn .result) _ _ (c .before .before .before .before .before .before .before .before .before .before .before .before .before .before .before .of .ensures .0) (c .before .before .before .before .before .before .before .before .before .before .before .before .before .before .before .of .ensures .1) (c .before .before .before .before .before .before .before .before .turn .ensures) (ap stepGoes (c .before .before .before .before .before .step4 .given .1))
+loop-less-4 c =
+    let room = c .before .before .before .before .before .before .before .before .before .before .before .before .before .before .before .of in
+    let loop = c .before .before .before .before .before .before .before .before .before .before .before .before .loop in
+    let token-at = c .before .before .before .before .before .before .before .before .before .before .before .token-at in
+    let turn = c .before .before .before .before .before .before .before .before .turn in
+    let step4 = c .before .before .before .before .before .step4 in
+    nearer _ _ _ _ _ _ _ (loop .inv) _ (token-at .ensures) (turn .result) _ _ (room .ensures .0) (room .ensures .1) (turn .ensures) (ap stepGoes (step4 .given .1))
 
 loop-again-4 : tie.Need-loop-again-4 Inv-loop μ-loop
-loop-again-4 c = going-named _ _ _ _ _ _ _ (c .before .before .before .before .before .before .before .before .before .before .before .before .loop .inv) _ (c .before .before .before .before .before .before .before .before .before .before .before .token-at .ensures) _ _ _ (c .before .before .before .before .before .before .before .before .before .before .before .before .before .before .before .of .ensures .0) (c .before .before .before .before .before .before .before .before .before .before .before .before .before .before .before .of .ensures .1) (c .before .before .before .before .before .before .before .before .turn .ensures) _ _ _ _ _ (c .before .before .before .before .before .step4 .given .1) (c .before .name .ensures .0) (c .before .name .ensures .1) (c .before .name .ensures .2)
+loop-again-4 c =
+    let room = c .before .before .before .before .before .before .before .before .before .before .before .before .before .before .before .of in
+    let loop = c .before .before .before .before .before .before .before .before .before .before .before .before .loop in
+    let token-at = c .before .before .before .before .before .before .before .before .before .before .before .token-at in
+    let turn = c .before .before .before .before .before .before .before .before .turn in
+    let step4 = c .before .before .before .before .before .step4 in
+    going-named _ _ _ _ _ _ _ (loop .inv) _ (token-at .ensures) _ _ _ (room .ensures .0) (room .ensures .1) (turn .ensures) _ _ _ _ _ (step4 .given .1) (c .before .name .ensures .0) (c .before .name .ensures .1) (c .before .name .ensures .2)
 
 enum-known-step-5 : tie.Need-enum-known-step-5 Inv-loop μ-loop
 enum-known-step-5 c = search needs
 
 list-requires : tie.Need-list-requires Inv-loop μ-loop
-list-requires c κs = (track-open _ _ _ _ _ _ _ (c .before .before .before .before .before .before .before .before .before .before .loop .inv) _ (c .before .before .before .before .before .before .before .before .before .token-at .ensures) _ _ _ (c .before .before .before .before .before .before .before .before .before .before .before .before .before .of .ensures .0) (c .before .before .before .before .before .before .before .before .before .before .before .before .before .of .ensures .1) (c .before .before .before .before .before .before .turn .ensures) _ _ (c .before .before .before .step5 .given .1), few _ _ _ _ _ _ _ (c .before .before .before .before .before .before .before .before .before .before .loop .inv) .subnets, few _ _ _ _ _ _ _ (c .before .before .before .before .before .before .before .before .before .before .loop .inv) .tracks)
+list-requires c κs =
+    let room = c .before .before .before .before .before .before .before .before .before .before .before .before .before .of in
+    let loop = c .before .before .before .before .before .before .before .before .before .before .loop in
+    let token-at = c .before .before .before .before .before .before .before .before .before .token-at in
+    let turn = c .before .before .before .before .before .before .turn in
+    (track-open _ _ _ _ _ _ _ (loop .inv) _ (token-at .ensures) _ _ _ (room .ensures .0) (room .ensures .1) (turn .ensures) _ _ (c .before .before .before .step5 .given .1), few _ _ _ _ _ _ _ (loop .inv) .subnets, few _ _ _ _ _ _ _ (loop .inv) .tracks)
 
 loop-less-5 : tie.Need-loop-less-5 Inv-loop μ-loop
-loop-less-5 c = nearer _ _ _ _ _ _ _ (c .before .before .before .before .before .before .before .before .before .before .before .before .before .loop .inv) _ (c .before .before .before .before .before .before .before .before .before .before .before .before .token-at .ensures) (c .before .before .before .before .before .before .before .before .before .turn .result) _ _ (c .before .before .before .before .before .before .before .before .before .before .before .before .before .before .before .before .of .ensures .0) (c .before .before .before .before .before .before .before .before .before .before .before .before .before .before .before .before .of .ensures .1) (c .before .before .before .before .before .before .before .before .before .turn .ensures) (ap stepGoes (c .before .before .before .before .before .before .step5 .given .1))
+loop-less-5 c =
+    let room = c .before .before .before .before .before .before .before .before .before .before .before .before .before .before .before .before .of in
+    let loop = c .before .before .before .before .before .before .before .before .before .before .before .before .before .loop in
+    let token-at = c .before .before .before .before .before .before .before .before .before .before .before .before .token-at in
+    let turn = c .before .before .before .before .before .before .before .before .before .turn in
+    let step5 = c .before .before .before .before .before .before .step5 in
+    nearer _ _ _ _ _ _ _ (loop .inv) _ (token-at .ensures) (turn .result) _ _ (room .ensures .0) (room .ensures .1) (turn .ensures) (ap stepGoes (step5 .given .1))
 
 loop-again-5 : tie.Need-loop-again-5 Inv-loop μ-loop
-loop-again-5 c = going-listed _ _ _ _ _ _ _ (c .before .before .before .before .before .before .before .before .before .before .before .before .before .loop .inv) _ (c .before .before .before .before .before .before .before .before .before .before .before .before .token-at .ensures) _ _ _ (c .before .before .before .before .before .before .before .before .before .before .before .before .before .before .before .before .of .ensures .0) (c .before .before .before .before .before .before .before .before .before .before .before .before .before .before .before .before .of .ensures .1) (c .before .before .before .before .before .before .before .before .before .turn .ensures) _ _ _ _ _ (c .before .before .before .before .before .before .step5 .given .1) (c .before .before .list .ensures .0) (c .before .before .list .ensures .1) (c .before .before .list .ensures .2)
+loop-again-5 c =
+    let room = c .before .before .before .before .before .before .before .before .before .before .before .before .before .before .before .before .of in
+    let loop = c .before .before .before .before .before .before .before .before .before .before .before .before .before .loop in
+    let token-at = c .before .before .before .before .before .before .before .before .before .before .before .before .token-at in
+    let turn = c .before .before .before .before .before .before .before .before .before .turn in
+    let step5 = c .before .before .before .before .before .before .step5 in
+    going-listed _ _ _ _ _ _ _ (loop .inv) _ (token-at .ensures) _ _ _ (room .ensures .0) (room .ensures .1) (turn .ensures) _ _ _ _ _ (step5 .given .1) (c .before .before .list .ensures .0) (c .before .before .list .ensures .1) (c .before .before .list .ensures .2)
 
 enum-told : tie.Need-enum-told Inv-loop μ-loop
 enum-told c = search needs
@@ -113,7 +183,11 @@ same-length-3 : tie.Need-same-length-3 Inv-loop μ-loop
 same-length-3 c = next-long _ _ _ _ _ _ _ (c .before .before .before .before .before .before .before .loop .inv)
 
 returns : tie.Need-returns Inv-loop μ-loop
-returns c = ends-good _ _ _ _ _ _ _ (c .before .before .before .before .before .before .before .loop .inv) _ (c .before .before .before .before .before .before .token-at .ensures) _ _ _ (c .before .before .before .before .before .before .before .before .before .before .of .ensures .0) (c .before .before .before .before .before .before .before .before .before .before .of .ensures .1) (c .before .before .before .turn .ensures) _ (c .enum-told .given .1)
+returns c =
+    let room = c .before .before .before .before .before .before .before .before .before .before .of in
+    let loop = c .before .before .before .before .before .before .before .loop in
+    let token-at = c .before .before .before .before .before .before .token-at in
+    ends-good _ _ _ _ _ _ _ (loop .inv) _ (token-at .ensures) _ _ _ (room .ensures .0) (room .ensures .1) (c .before .before .before .turn .ensures) _ (c .enum-told .given .1)
 
 enum-known-step-6 : tie.Need-enum-known-step-6 Inv-loop μ-loop
 enum-known-step-6 c = search needs
@@ -128,7 +202,12 @@ same-length-6 : tie.Need-same-length-6 Inv-loop μ-loop
 same-length-6 c = next-long _ _ _ _ _ _ _ (c .before .before .before .before .before .before .before .before .loop .inv)
 
 returns-2 : tie.Need-returns-2 Inv-loop μ-loop
-returns-2 c = ends-refused _ _ _ _ _ _ _ (c .before .before .before .before .before .before .before .before .loop .inv) _ (c .before .before .before .before .before .before .before .token-at .ensures) _ _ _ (c .before .before .before .before .before .before .before .before .before .before .before .of .ensures .0) (c .before .before .before .before .before .before .before .before .before .before .before .of .ensures .1) (c .before .before .before .before .turn .ensures) _ _ (c .before .step6 .given .1)
+returns-2 c =
+    let room = c .before .before .before .before .before .before .before .before .before .before .before .of in
+    let loop = c .before .before .before .before .before .before .before .before .loop in
+    let token-at = c .before .before .before .before .before .before .before .token-at in
+    let turn = c .before .before .before .before .turn in
+    ends-refused _ _ _ _ _ _ _ (loop .inv) _ (token-at .ensures) _ _ _ (room .ensures .0) (room .ensures .1) (turn .ensures) _ _ (c .before .step6 .given .1)
 
 pub walk-spec : {M : Type 1} → statement M
 walk-spec =

@@ -37,7 +37,11 @@ part-sides-of-end : tie.Need-part-sides-of-end
 part-sides-of-end c = omega (arith, part-there _ _ (c .before .before .before .before .before .before .before .pre .0 .readable) _ _ (c .before .before .before .profile-of .ensures))
 
 sides-of-requires : tie.Need-sides-of-requires
-sides-of-requires c κs = part-short _ _ _ _ (c .before .before .before .before .before .before .before .before .pre .0) (c .before .before .before .before .before .before .before .before .pre .1) _ (c .before .before .before .before .before .configuration-at .ensures) _ (c .before .before .before .before .profile-of .ensures)
+sides-of-requires c κs =
+    let asked = c .before .before .before .before .before .before .before .before .pre in
+    let configuration-at = c .before .before .before .before .before .configuration-at in
+    let profile-of = c .before .before .before .before .profile-of in
+    part-short _ _ _ _ (asked .0) (asked .1) _ (configuration-at .ensures) _ (profile-of .ensures)
 
 add-whole : tie.Need-add-whole
 add-whole c = search (whole-fits, needs)
@@ -55,7 +59,11 @@ part-add-run-end : tie.Need-part-add-run-end
 part-add-run-end c = omega (arith, part-there _ _ (c .before .before .before .before .before .before .before .before .before .before .before .before .pre .0 .readable) _ _ (c .before .before .before .before .before .before .before .before .profile-of .ensures))
 
 add-run-requires : tie.Need-add-run-requires
-add-run-requires c κs = part-room _ _ _ _ (c .before .before .before .before .before .before .before .before .before .before .before .before .before .pre .0) (c .before .before .before .before .before .before .before .before .before .before .before .before .before .pre .1) _ (c .before .before .before .before .before .before .before .before .before .before .configuration-at .ensures) _ (c .before .before .before .before .before .before .before .before .before .profile-of .ensures)
+add-run-requires c κs =
+    let asked = c .before .before .before .before .before .before .before .before .before .before .before .before .before .pre in
+    let configuration-at = c .before .before .before .before .before .before .before .before .before .before .configuration-at in
+    let profile-of = c .before .before .before .before .before .before .before .before .before .profile-of in
+    part-room _ _ _ _ (asked .0) (asked .1) _ (configuration-at .ensures) _ (profile-of .ensures)
 
 returns : tie.Need-returns
 returns c = search (leg-summed, needs)

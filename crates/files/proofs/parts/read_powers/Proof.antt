@@ -17,7 +17,11 @@ cast-m : tie.Need-cast-m
 cast-m c = search needs
 
 profile-fault-requires : tie.Need-profile-fault-requires
-profile-fault-requires c κs = powers-able (c .before .before .before .before .before .before .before .before .before .before .before .before .before .before .before .args .counts) _ _ _ _ _ _ _ _ (c .before .before .before .before .before .before .before .read-profiles .ensures) (c .before .before .curves .given .1) (c .before .before .before .before .before .before .before .before .before .before .before .before .before .before .before .pre)
+profile-fault-requires c κs =
+    let given = c .before .before .before .before .before .before .before .before .before .before .before .before .before .before .before .args in
+    let asked = c .before .before .before .before .before .before .before .before .before .before .before .before .before .before .before .pre in
+    let read-profiles = c .before .before .before .before .before .before .before .read-profiles in
+    powers-able (given .counts) _ _ _ _ _ _ _ _ (read-profiles .ensures) (c .before .before .curves .given .1) asked
 
 enum-known-row : tie.Need-enum-known-row
 enum-known-row c = search needs

@@ -17,7 +17,11 @@ enum-known-records : tie.Need-enum-known-records
 enum-known-records c = search needs
 
 subnet-fault-requires : tie.Need-subnet-fault-requires
-subnet-fault-requires c κs = fifteen-able (c .before .before .before .before .before .before .before .before .before .before .before .before .before .before .before .before .args .counts) _ _ _ _ _ _ _ (c .before .before .before .before .before .before .before .before .read-constraints .ensures) (c .before .before .records .given .1) (c .before .before .before .before .before .before .before .before .before .before .before .before .before .before .before .before .pre)
+subnet-fault-requires c κs =
+    let given = c .before .before .before .before .before .before .before .before .before .before .before .before .before .before .before .before .args in
+    let asked = c .before .before .before .before .before .before .before .before .before .before .before .before .before .before .before .before .pre in
+    let read-constraints = c .before .before .before .before .before .before .before .before .read-constraints in
+    fifteen-able (given .counts) _ _ _ _ _ _ _ (read-constraints .ensures) (c .before .before .records .given .1) asked
 
 enum-known-row : tie.Need-enum-known-row
 enum-known-row c = search needs

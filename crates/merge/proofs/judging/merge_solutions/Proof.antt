@@ -18,8 +18,10 @@ enum-told c = search needs
 
 merge-chosen-requires : tie.Need-merge-chosen-requires
 merge-chosen-requires c κs =
+    let asked = c .before .before .before .before .before .before .before .before .before .before .before .before .before .before .before .before .before .before .before .before .pre in
+    let choose-both = c .before .before .before .before .before .before .before .before .before .choose-both in
     let s = c .before .before .before .before .before .before .before .before .before .before .before .before .before .before .before .before .before .before .before .before .args in
-    both-disputable (s .direction) (s .first .now) (s .second .now) (s .choices .now) (s .second-choices .now) (s .text .now) (c .before .before .before .before .before .before .before .before .before .before .before .before .before .before .before .before .before .before .before .before .pre) (c .before .before .before .before .before .before .before .before .before .choose-both .ensures) (c .before .before .before .enum-told .given .1)
+    both-disputable (s .direction) (s .first .now) (s .second .now) (s .choices .now) (s .second-choices .now) (s .text .now) asked (choose-both .ensures) (c .before .before .before .enum-told .given .1)
 
 same-length : tie.Need-same-length
 same-length c = search needs

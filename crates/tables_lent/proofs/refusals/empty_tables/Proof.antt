@@ -47,15 +47,22 @@ same-length-6 c = search needs
 
 returns : tie.Need-returns
 returns c =
+    let is-refusal = c .before .before .before .before .before .before .before .before .before .before .before .before .before .before .before .before .before .before .before .before .before .before .before .before .is-refusal in
+    let if1 = c .before .before .before .before .before .before .before .before .before .before .before .before .before .before .before .before .before .before .before .before .before .before .before .if1 in
+    let unsigned = c .before .before .before .before .before .before .before .before .before .before .before .before .before .before .before .before .before .before .before .before .before .unsigned in
+    let unsigned2 = c .before .before .before .before .before .before .before .before .before .before .before .before .before .before .before .before .before .unsigned2 in
+    let unsigned3 = c .before .before .before .before .before .before .before .before .before .before .before .before .before .unsigned3 in
+    let signed = c .before .before .before .before .before .before .before .before .before .signed in
+    let unsigned4 = c .before .before .before .before .before .before .unsigned4 in
     let s = c .before .before .before .before .before .before .before .before .before .before .before .before .before .before .before .before .before .before .before .before .before .before .before .before .before .before .before .before .before .before .args in
-    refusal-fills (s .answer) (tables (s .legs .now) (s .configurations .now) (s .profiles .now) (s .samples .now) (s .constraints .now) (s .tracks .now)) (c .before .before .before .before .before .before .before .before .before .before .before .before .before .before .before .before .before .before .before .before .before .before .before .before .is-refusal .ensures) (c .before .before .before .before .before .before .before .before .before .before .before .before .before .before .before .before .before .before .before .before .before .before .before .if1 .taken)
+    refusal-fills (s .answer) (tables (s .legs .now) (s .configurations .now) (s .profiles .now) (s .samples .now) (s .constraints .now) (s .tracks .now)) (is-refusal .ensures) (if1 .taken)
     (same-tables _ _
     (record {
-      legs = c .before .before .before .before .before .before .before .before .before .before .before .before .before .before .before .before .before .before .before .before .before .unsigned .ensures;
-      configurations = c .before .before .before .before .before .before .before .before .before .before .before .before .before .before .before .before .before .unsigned2 .ensures;
-      profiles = c .before .before .before .before .before .before .before .before .before .before .before .before .before .unsigned3 .ensures;
-      samples = c .before .before .before .before .before .before .before .before .before .signed .ensures;
-      constraints = c .before .before .before .before .before .before .unsigned4 .ensures;
+      legs = unsigned .ensures;
+      configurations = unsigned2 .ensures;
+      profiles = unsigned3 .ensures;
+      samples = signed .ensures;
+      constraints = unsigned4 .ensures;
       tracks = c .before .before .unsigned5 .ensures;
     }))
 

@@ -1,0 +1,315 @@
+-- What an answer rests on: the reading, the verdicts, the travel times and the room. Assumes nothing.
+use Prim.Native.Nat.{ℕ, _*_}
+use mathlib.Core.Path.{_≡_, refl, sym}
+use mathlib.Core.Bool.{Bool, true, false, true≢false, _&&_}
+use mathlib.Core.List.{List}
+use mathlib.Core.Logic.{_↔_, _⊎_, inl, inr}
+use mathlib.Core.Option.{Option, none, some}
+use native.Mathlib.Omega.{arith}
+use lib.Dec.{leb}
+use lib.ListN.{length}
+use lib.IntN.{ℤ}
+use Rattle.rules.specs.Limits.{mostText, signedFill, byteFill}
+use Rattle.rules.specs.Answers.{Reading, refused, good, solutionFile, secondFile}
+use Rattle.rules.specs.Reading.{Texts}
+use Rattle.rules.specs.Verdict.{Verdict, accepted, violated, answerOf}
+use Rattle.rules.specs.Merge.{unequalFrom, chosen, textOf}
+use Rattle.rules.specs.Entries.{Tables, roomsOf, filled, writtenTables, writtenChoices, noFigures, verdictOf, Whole, allRead, checkedFrom, checked, reportAccepted, reportJudged, reportFrom, reported, Both, bothRead, Merged, mergeFitted, mergeTravel, mergeSecond, mergeFirst, mergeFrom, merged}
+use Rattle.rules.specs.declared.sizes.Configuration.{Configuration}
+use Rattle.rules.specs.declared.answers.Refusal.{Refusal}
+use Rattle.rules.specs.declared.answers.Violation.{Violation}
+use Rattle.rules.specs.declared.answers.Answer.the-variants.{Accepted, Violated, Refused}
+use Rattle.rules.proofs.Truth.{missing}
+use Rattle.rules_theorems.specs.Demands.{IsRefused}
+use Rattle.rules_theorems.proofs.DemandOne.{accepted-not-refused, violated-not-refused}
+
+-- three answers are three
+pub refused-not-accepted : {r : Refusal} {A : Type 0} → Refused r ≡ Accepted → A
+refused-not-accepted e = let z : _≡_ {A = ℕ} 0 1 = cc in absurd (omega arith)
+
+pub violated-not-accepted : {v : Violation} {A : Type 0} → Violated v ≡ Accepted → A
+violated-not-accepted e = let z : _≡_ {A = ℕ} 0 1 = cc in absurd (omega arith)
+
+pub refused-not-violated : {r : Refusal} {v : Violation} {A : Type 0} → Refused r ≡ Violated v → A
+refused-not-violated e = let z : _≡_ {A = ℕ} 0 1 = cc in absurd (omega arith)
+
+-- ---- a check
+
+module _ (H : ℕ) (x : Texts) (s : List ℕ) (t : Tables) (c : List ℕ) where
+  -- one that is not refused has read
+  pub check-read : (IsRefused (checked H x s t c .answer) → ⊥) → (w : Whole) × (allRead H x s (roomsOf t) (length c) ≡ good w)
+  unfolding checked
+  check-read = go (allRead H x s (roomsOf t) (length c)) refl
+    where
+      go : (m : Reading Whole) → allRead H x s (roomsOf t) (length c) ≡ m → (IsRefused (checkedFrom m t c .answer) → ⊥)
+          → (w : Whole) × (allRead H x s (roomsOf t) (length c) ≡ good w)
+      go (refused r) e n = absurd (n (r, refl))
+      go (good w) e n = (w, e)
+
+  module _ (w : Whole) (e : allRead H x s (roomsOf t) (length c) ≡ good w) where
+    pub check-tables : checked H x s t c .tables ≡ writtenTables (w .files) t
+    unfolding checked
+    check-tables = rw e
+
+    pub check-choices : checked H x s t c .choices ≡ writtenChoices (w .choices) c
+    unfolding checked
+    check-choices = rw e
+
+  -- ---- a report
+
+  module _ (p : List ℤ) where
+    pub report-read : (IsRefused (reported H x s t c p .answer) → ⊥) → (w : Whole) × (allRead H x s (roomsOf t) (length c) ≡ good w)
+    unfolding reported
+    report-read = go (allRead H x s (roomsOf t) (length c)) refl
+      where
+        go : (m : Reading Whole) → allRead H x s (roomsOf t) (length c) ≡ m → (IsRefused (reportFrom m H t c p .answer) → ⊥)
+            → (w : Whole) × (allRead H x s (roomsOf t) (length c) ≡ good w)
+        go (refused r) e n = absurd (n (r, refl))
+        go (good w) e n = (w, e)
+
+    -- short of acceptance
+    pub report-short : (reported H x s t c p .answer ≡ Accepted → ⊥) → (reported H x s t c p .curves ≡ filled signedFill p) × (reported H x s t c p .figures ≡ noFigures)
+    unfolding reported
+    report-short = go (allRead H x s (roomsOf t) (length c))
+      where
+        fitted : (fits : Bool) (w : Whole) → (reportAccepted fits H w t c p .answer ≡ Accepted → ⊥)
+            → (reportAccepted fits H w t c p .curves ≡ filled signedFill p) × (reportAccepted fits H w t c p .figures ≡ noFigures)
+        fitted true w n = absurd (n refl)
+        fitted false w n = (refl, refl)
+
+        judged : (v : Verdict) (w : Whole) → (reportJudged v H w t c p .answer ≡ Accepted → ⊥)
+            → (reportJudged v H w t c p .curves ≡ filled signedFill p) × (reportJudged v H w t c p .figures ≡ noFigures)
+        judged accepted w n = fitted (leb (w .files .document .opened * H) (length p)) w n
+        judged (violated k m i d) w n = (refl, refl)
+
+        go : (m : Reading Whole) → (reportFrom m H t c p .answer ≡ Accepted → ⊥)
+            → (reportFrom m H t c p .curves ≡ filled signedFill p) × (reportFrom m H t c p .figures ≡ noFigures)
+        go (refused r) n = (refl, refl)
+        go (good w) n = judged (verdictOf (w .files) (w .choices)) w n
+
+    module _ (w : Whole) where
+      abbrev fits : Bool
+      fits = leb (w .files .document .opened * H) (length p)
+
+      judged-accepted : (v : Verdict) → reportJudged v H w t c p .answer ≡ Accepted → (v ≡ accepted) × (fits ≡ true)
+      judged-accepted accepted e = (refl, fitted fits e)
+        where
+          fitted : (b : Bool) → reportAccepted b H w t c p .answer ≡ Accepted → b ≡ true
+          fitted true e = refl
+          fitted false e = refused-not-accepted e
+      judged-accepted (violated k m i d) e = violated-not-accepted e
+
+      judged-violated : (v : Verdict) (y : Violation) → (reportJudged v H w t c p .answer ≡ Violated y) ↔ (answerOf solutionFile v ≡ Violated y)
+      judged-violated accepted y = (λ e. fitted fits e, λ e. violated-not-accepted (sym e))
+        where
+          fitted : (b : Bool) → reportAccepted b H w t c p .answer ≡ Violated y → Accepted ≡ Violated y
+          fitted true e = e
+          fitted false e = refused-not-violated e
+      judged-violated (violated k m i d) y = (λ e. e, λ e. e)
+
+      judged-stands : (v : Verdict) → (IsRefused (reportJudged v H w t c p .answer) → ⊥)
+          → (reportJudged v H w t c p .tables ≡ writtenTables (w .files) t) × (reportJudged v H w t c p .choices ≡ writtenChoices (w .choices) c)
+      judged-stands accepted n = fitted fits n
+        where
+          fitted : (b : Bool) → (IsRefused (reportAccepted b H w t c p .answer) → ⊥)
+              → (reportAccepted b H w t c p .tables ≡ writtenTables (w .files) t) × (reportAccepted b H w t c p .choices ≡ writtenChoices (w .choices) c)
+          fitted true n = (refl, refl)
+          fitted false n = absurd (n (_, refl))
+      judged-stands (violated k m i d) n = (refl, refl)
+
+      judged-decided : (v : Verdict) → fits ≡ true → IsRefused (reportJudged v H w t c p .answer) → ⊥
+      judged-decided accepted e = fitted fits e
+        where
+          fitted : (b : Bool) → b ≡ true → IsRefused (reportAccepted b H w t c p .answer) → ⊥
+          fitted true e = accepted-not-refused
+          fitted false e = absurd (true≢false (sym e))
+      judged-decided (violated k m i d) e = violated-not-refused _
+
+      module _ (e : allRead H x s (roomsOf t) (length c) ≡ good w) where
+        abbrev verdict : Verdict
+        verdict = verdictOf (w .files) (w .choices)
+
+        says : reported H x s t c p ≡ reportJudged verdict H w t c p
+        unfolding reported
+        says = rw e
+
+        -- accepted exactly where the verdict is and the curves fit
+        pub report-accepted : (reported H x s t c p .answer ≡ Accepted) ↔ ((verdict ≡ accepted) × (fits ≡ true))
+        report-accepted = (λ h. judged-accepted verdict (rw says at h), λ h. rw (says, h .0, h .1))
+
+        pub report-laid : reported H x s t c p .answer ≡ Accepted → reported H x s t c p ≡ reportAccepted true H w t c p
+        report-laid h = let k = judged-accepted verdict (rw says at h) in rw (says, k .0, k .1)
+
+        pub report-violated : (y : Violation) → (reported H x s t c p .answer ≡ Violated y) ↔ (answerOf solutionFile verdict ≡ Violated y)
+        report-violated y = rw says (judged-violated verdict y)
+
+        pub report-decided : fits ≡ true → IsRefused (reported H x s t c p .answer) → ⊥
+        report-decided = rw says (judged-decided verdict)
+
+        pub report-stands : (IsRefused (reported H x s t c p .answer) → ⊥)
+            → (reported H x s t c p .tables ≡ writtenTables (w .files) t) × (reported H x s t c p .choices ≡ writtenChoices (w .choices) c)
+        report-stands = rw says (judged-stands verdict)
+
+-- ---- a merge, by whatever rule it chooses
+
+module _ (merge : List Configuration → List Configuration → List Configuration) (H : ℕ) (x : Texts) (s₁ s₂ : List ℕ) (t : Tables) (c d text : List ℕ) where
+  pub merge-read : (IsRefused (merged merge H x s₁ s₂ t c d text .answer) → ⊥) → (b : Both) × (bothRead H x s₁ s₂ (roomsOf t) (length c) (length d) ≡ good b)
+  unfolding merged
+  merge-read = go (bothRead H x s₁ s₂ (roomsOf t) (length c) (length d)) refl
+    where
+      go : (m : Reading Both) → bothRead H x s₁ s₂ (roomsOf t) (length c) (length d) ≡ m → (IsRefused (mergeFrom t c d text s₂ merge m .answer) → ⊥)
+          → (b : Both) × (bothRead H x s₁ s₂ (roomsOf t) (length c) (length d) ≡ good b)
+      go (refused r) e n = absurd (n (r, refl))
+      go (good b) e n = (b, e)
+
+  -- short of acceptance
+  abbrev Short : Merged → Type 0
+  Short m = (m .answer ≡ Accepted → ⊥) → (m .text ≡ filled byteFill text) × (m .length ≡ 0)
+
+  pub merge-short : Short (merged merge H x s₁ s₂ t c d text)
+  unfolding merged
+  merge-short = go (bothRead H x s₁ s₂ (roomsOf t) (length c) (length d))
+    where
+      fitted : (fits : Bool) (written : List ℕ) (b : Both) → Short (mergeFitted t c d text fits written b)
+      fitted true written b n = absurd (n refl)
+      fitted false written b n = (refl, refl)
+
+      travelled : (o : Option ℕ) (b : Both) → Short (mergeTravel t c d text s₂ merge o b)
+      travelled none b n =
+          let written = textOf (chosen (b .files .rows) (merge (b .first) (b .second))) in
+          fitted (leb (length written) (length text) && leb (length written) mostText) written b n
+      travelled (some row) b n = (refl, refl)
+
+      second : (v : Verdict) (b : Both) → Short (mergeSecond t c d text s₂ merge v b)
+      second accepted b n = travelled (unequalFrom 0 (b .first) (b .second)) b n
+      second (violated k m i z) b n = (refl, refl)
+
+      first : (v : Verdict) (b : Both) → Short (mergeFirst t c d text s₂ merge v b)
+      first accepted b n = second (verdictOf (b .files) (b .second)) b n
+      first (violated k m i z) b n = (refl, refl)
+
+      go : (m : Reading Both) → Short (mergeFrom t c d text s₂ merge m)
+      go (refused r) n = (refl, refl)
+      go (good b) n = first (verdictOf (b .files) (b .first)) b n
+
+  module _ (b : Both) where
+    abbrev pub written : List ℕ
+    written = textOf (chosen (b .files .rows) (merge (b .first) (b .second)))
+
+    abbrev pub room : Bool
+    room = leb (length written) (length text) && leb (length written) mostText
+
+    abbrev one : Verdict
+    one = verdictOf (b .files) (b .first)
+
+    abbrev two : Verdict
+    two = verdictOf (b .files) (b .second)
+
+    abbrev unequal : Option ℕ
+    unequal = unequalFrom 0 (b .first) (b .second)
+
+    fitted-accepted : (z : Bool) → mergeFitted t c d text z written b .answer ≡ Accepted → z ≡ true
+    fitted-accepted true e = refl
+    fitted-accepted false e = refused-not-accepted e
+
+    travelled-accepted : (o : Option ℕ) → mergeTravel t c d text s₂ merge o b .answer ≡ Accepted → (o ≡ none) × (room ≡ true)
+    travelled-accepted none e = (refl, fitted-accepted room e)
+    travelled-accepted (some row) e = refused-not-accepted e
+
+    second-accepted : (v : Verdict) → mergeSecond t c d text s₂ merge v b .answer ≡ Accepted → (v ≡ accepted) × (unequal ≡ none) × (room ≡ true)
+    second-accepted accepted e = let k = travelled-accepted unequal e in (refl, k .0, k .1)
+    second-accepted (violated k m i z) e = violated-not-accepted e
+
+    first-accepted : (v : Verdict) → mergeFirst t c d text s₂ merge v b .answer ≡ Accepted → (v ≡ accepted) × (two ≡ accepted) × (unequal ≡ none) × (room ≡ true)
+    first-accepted accepted e = let k = second-accepted two e in (refl, k .0, k .1, k .2)
+    first-accepted (violated k m i z) e = violated-not-accepted e
+
+    fitted-violated : (z : Bool) (y : Violation) {A : Type 0} → mergeFitted t c d text z written b .answer ≡ Violated y → A
+    fitted-violated true y e = violated-not-accepted (sym e)
+    fitted-violated false y e = refused-not-violated e
+
+    travelled-violated : (o : Option ℕ) (y : Violation) {A : Type 0} → mergeTravel t c d text s₂ merge o b .answer ≡ Violated y → A
+    travelled-violated none y e = fitted-violated room y e
+    travelled-violated (some row) y e = refused-not-violated e
+
+    second-violated : (v : Verdict) (y : Violation) → (mergeSecond t c d text s₂ merge v b .answer ≡ Violated y) ↔ (answerOf secondFile v ≡ Violated y)
+    second-violated accepted y = (λ e. travelled-violated unequal y e, λ e. violated-not-accepted (sym e))
+    second-violated (violated k m i z) y = (λ e. e, λ e. e)
+
+    first-violated : (v : Verdict) (y : Violation) → (mergeFirst t c d text s₂ merge v b .answer ≡ Violated y)
+        ↔ ((answerOf solutionFile v ≡ Violated y) ⊎ ((v ≡ accepted) × (answerOf secondFile two ≡ Violated y)))
+    first-violated accepted y = (λ e. inr (refl, second-violated two y .0 e), back)
+      where
+        back : (Accepted ≡ Violated y) ⊎ ((accepted ≡ accepted) × (answerOf secondFile two ≡ Violated y)) → mergeFirst t c d text s₂ merge accepted b .answer ≡ Violated y
+        back (inl e) = violated-not-accepted (sym e)
+        back (inr e) = second-violated two y .1 (e .1)
+    first-violated (violated k m i z) y = (λ e. inl e, back)
+      where
+        back : (answerOf solutionFile (violated k m i z) ≡ Violated y) ⊎ ((violated k m i z ≡ accepted) × (answerOf secondFile two ≡ Violated y))
+            → mergeFirst t c d text s₂ merge (violated k m i z) b .answer ≡ Violated y
+        back (inl e) = e
+        back (inr e) = let q = e .0 in let o : _≡_ {A = ℕ} 0 1 = cc in absurd (omega arith)
+
+    travelled-decided : (o : Option ℕ) → o ≡ none → room ≡ true → IsRefused (mergeTravel t c d text s₂ merge o b .answer) → ⊥
+    travelled-decided none e = fitted room
+      where
+        fitted : (z : Bool) → z ≡ true → IsRefused (mergeFitted t c d text z written b .answer) → ⊥
+        fitted true e = accepted-not-refused
+        fitted false e = absurd (true≢false (sym e))
+    travelled-decided (some row) e = missing row (sym e)
+
+    second-decided : (v : Verdict) → (v ≡ accepted → (unequal ≡ none) × (room ≡ true)) → IsRefused (mergeSecond t c d text s₂ merge v b .answer) → ⊥
+    second-decided accepted h = travelled-decided unequal (h refl .0) (h refl .1)
+    second-decided (violated k m i z) h = violated-not-refused _
+
+    first-decided : (v : Verdict) → (v ≡ accepted → two ≡ accepted → (unequal ≡ none) × (room ≡ true)) → IsRefused (mergeFirst t c d text s₂ merge v b .answer) → ⊥
+    first-decided accepted h = second-decided two (h refl)
+    first-decided (violated k m i z) h = violated-not-refused _
+
+    -- what a merge that is not refused leaves of the readings
+    abbrev Stands : Merged → Type 0
+    Stands m = (IsRefused (m .answer) → ⊥)
+        → (m .tables ≡ writtenTables (b .files) t) × (m .choices ≡ writtenChoices (b .first) c) × (m .second ≡ writtenChoices (b .second) d)
+
+    first-stands : (v : Verdict) → Stands (mergeFirst t c d text s₂ merge v b)
+    first-stands = first
+      where
+        fitted : (z : Bool) → Stands (mergeFitted t c d text z written b)
+        fitted true n = (refl, refl, refl)
+        fitted false n = absurd (n (_, refl))
+
+        travelled : (o : Option ℕ) → Stands (mergeTravel t c d text s₂ merge o b)
+        travelled none n = fitted room n
+        travelled (some row) n = absurd (n (_, refl))
+
+        second : (v : Verdict) → Stands (mergeSecond t c d text s₂ merge v b)
+        second accepted n = travelled unequal n
+        second (violated k m i z) n = (refl, refl, refl)
+
+        first : (v : Verdict) → Stands (mergeFirst t c d text s₂ merge v b)
+        first accepted n = second two n
+        first (violated k m i z) n = (refl, refl, refl)
+
+    module _ (e : bothRead H x s₁ s₂ (roomsOf t) (length c) (length d) ≡ good b) where
+      joins : merged merge H x s₁ s₂ t c d text ≡ mergeFirst t c d text s₂ merge one b
+      unfolding merged
+      joins = rw e
+
+      -- accepted exactly where both verdicts are, no travel times differ, and the text fits
+      pub merge-accepted : (merged merge H x s₁ s₂ t c d text .answer ≡ Accepted) ↔ ((one ≡ accepted) × (two ≡ accepted) × (unequal ≡ none) × (room ≡ true))
+      merge-accepted = (λ h. first-accepted one (rw joins at h), λ h. rw (joins, h .0, h .1, h .2, h .3))
+
+      pub merge-written : merged merge H x s₁ s₂ t c d text .answer ≡ Accepted → merged merge H x s₁ s₂ t c d text ≡ mergeFitted t c d text true written b
+      merge-written h = let k = first-accepted one (rw joins at h) in rw (joins, k .0, k .1, k .2, k .3)
+
+      -- a violation is the first's, or where the first is accepted the second's
+      pub merge-violated : (y : Violation) → (merged merge H x s₁ s₂ t c d text .answer ≡ Violated y)
+          ↔ ((answerOf solutionFile one ≡ Violated y) ⊎ ((one ≡ accepted) × (answerOf secondFile two ≡ Violated y)))
+      merge-violated y = rw joins (first-violated one y)
+
+      -- where the travel times are equal and the text fits, nothing is refused
+      pub merge-decided : (one ≡ accepted → two ≡ accepted → (unequal ≡ none) × (room ≡ true)) → IsRefused (merged merge H x s₁ s₂ t c d text .answer) → ⊥
+      merge-decided = rw joins (first-decided one)
+
+      pub merge-stands : Stands (merged merge H x s₁ s₂ t c d text)
+      merge-stands = rw joins (first-stands one)

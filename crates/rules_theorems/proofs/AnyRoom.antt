@@ -1,0 +1,233 @@
+-- What texts say does not depend on the room that was lent: two readings of them that are not refused give the same. Assumes nothing.
+use Prim.Native.Nat.{ℕ, suc, _+_, _/_, _≤_}
+use mathlib.Core.Path.{_≡_, refl, ap, sym, _∙_}
+use mathlib.Core.Bool.{Bool, true, false, not, cond}
+use mathlib.Core.List.{List, [], _∷_, _++_}
+use mathlib.Core.Option.{Option, none, some}
+use lib.Dec.{leb, ltb, eqb}
+use lib.ListN.{length, drop}
+use Rattle.rules.specs.Limits.{mostText, mostId, mostConstraints, mostTracks, configurationWidth}
+use Rattle.rules.specs.Lists.{startsWith, any}
+use Rattle.rules.specs.Kinds.{subnets}
+use Rattle.rules.specs.Answers.{Reading, good, Judged, wrong, right, timetableFile, profilesFile, solutionFile, secondFile}
+use Rattle.rules.specs.Bytes.{lineFeed, splitOn}
+use Rattle.rules.specs.Rows.{onRow, rowsFrom, csvOf, placeOfRow}
+use Rattle.rules.specs.Timetable.{Row, rowOf, formOf, timetableHeader, timetableOf, solutionOf, draftFits, solutionFits, choicesOf}
+use Rattle.rules.specs.Profiles.{Curve, profilesHeader, profilesOf, formOf as curveForm, rowOf as curveRow}
+use Rattle.rules.specs.Tokens.{Token, tokensOf}
+use Rattle.rules.specs.Constraints.{actionOf, Document, Turn, fault, on, finish, isNumber, numberOf, start, empty, plainRules, listName, documentEnds, recordOpens, keyName, recordEnds, stringValue, stringCut, legValue, subnetValue, secondsValue, numberValue, tracksOpen, trackNumber, act, turnOf, onward, run, constraintsOf}
+use Rattle.rules.specs.Reading.{Rooms, Texts, Files, legIds, filesOf, sameLeg, differsFrom, choicesRead}
+use Rattle.rules.specs.Entries.{Whole, allRead, Both, bothRead}
+use Rattle.rules.specs.declared.sizes.Configuration.{Configuration}
+use Rattle.rules.specs.declared.tokens.Action.{Action}
+use Rattle.rules.specs.declared.tokens.Action.the-variants.{Broken, Early, Goes, ListName, DocumentEnds, RecordOpens, KeyName, RecordEnds, StringValue, StringCut, NumberValue, TracksOpen, TrackNumber, Finishes}
+use Rattle.rules.specs.declared.tokens.State.{State}
+use Rattle.rules.proofs.Truth.{missing}
+use Rattle.rules_theorems.proofs.GoodText.{never-good, good-test}
+use Rattle.rules_theorems.proofs.GoodRows.{form-right, curve-right, timetable-good, solution-good}
+use Rattle.rules_theorems.proofs.LawfulRows.{choices-fit}
+use Rattle.rules_theorems.proofs.GoodFiles.{files-good, choices-good, good-choices, all-good, both-good}
+
+-- ---- CSV: two judges that take a line for the same row, where neither finds it wrong
+
+module _ {A : Type 0} (file : ℕ) (one two : List A → List ℕ → Judged A)
+    (alike : (before : List A) (line : List ℕ) (r q : A) → one before line ≡ right r → two before line ≡ right q → r ≡ q) where
+  rows-alike : (place : ℕ) (before : List A) (lines : List (List ℕ)) (rs qs : List A)
+      → rowsFrom file one place before lines ≡ good rs → rowsFrom file two place before lines ≡ good qs → rs ≡ qs
+  rows-alike place before [] rs qs e k = cc
+  rows-alike place before ([] ∷ []) rs qs e k = cc
+  rows-alike place before ((b ∷ line) ∷ []) rs qs e k = never-good _ rs e
+  rows-alike place before (line ∷ next ∷ lines) rs qs e k =
+      go (one before line) (two before line) refl refl (λ r. rows-alike (place + length line + 1) (before ++ r ∷ []) (next ∷ lines) rs qs) e k
+    where
+      more : (List A → List ℕ → Judged A) → A → Reading (List A)
+      more judge r = rowsFrom file judge (place + length line + 1) (before ++ r ∷ []) (next ∷ lines)
+
+      go : (j₁ j₂ : Judged A) → one before line ≡ j₁ → two before line ≡ j₂ → ((r : A) → more one r ≡ good rs → more two r ≡ good qs → rs ≡ qs)
+          → onRow file one place j₁ (more one) ≡ good rs → onRow file two place j₂ (more two) ≡ good qs → rs ≡ qs
+      go (wrong n) j₂ is₁ is₂ ih e k = never-good _ rs e
+      go (right r) (wrong n) is₁ is₂ ih e k = never-good _ qs k
+      go (right r) (right q) is₁ is₂ ih e k = ih r e (rw (alike before line r q is₁ is₂) k)
+
+  csv-alike : (header s : List ℕ) (rs qs : List A) → csvOf file one header s ≡ good rs → csvOf file two header s ≡ good qs → rs ≡ qs
+  unfolding csvOf
+  csv-alike header s rs qs e k =
+      let short = leb (length s) mostText in
+      let a = good-test (startsWith header s) _ _ rs (good-test short _ _ rs e .1) .1 in
+      let b = good-test (startsWith header s) _ _ qs (good-test short _ _ qs k .1) .1 in
+      rows-alike (length header) [] (splitOn lineFeed (drop (length header) s)) rs qs a b
+
+one-form : {A : Type 0} (o : Option A) (r q : A) → o ≡ some r → o ≡ some q → r ≡ q
+one-form o r q e k = cc
+
+timetables-alike : (H legs₁ configurations₁ legs₂ configurations₂ : ℕ) (s : List ℕ) (rs qs : List Row)
+    → timetableOf H legs₁ configurations₁ s ≡ good rs → timetableOf H legs₂ configurations₂ s ≡ good qs → rs ≡ qs
+unfolding timetableOf
+timetables-alike H legs₁ configurations₁ legs₂ configurations₂ s rs qs =
+    let fits₁ = draftFits legs₁ configurations₁ in
+    let fits₂ = draftFits legs₂ configurations₂ in
+    csv-alike timetableFile (rowOf H fits₁) (rowOf H fits₂)
+    (λ before line r q e k. one-form (formOf line) r q (form-right H fits₁ before (formOf line) r e .0) (form-right H fits₂ before (formOf line) q k .0))
+    timetableHeader s rs qs
+
+solutions-alike : (H file choices₁ choices₂ : ℕ) (s : List ℕ) (rs qs : List Row)
+    → solutionOf H file choices₁ s ≡ good rs → solutionOf H file choices₂ s ≡ good qs → rs ≡ qs
+unfolding solutionOf
+solutions-alike H file choices₁ choices₂ s rs qs =
+    csv-alike file (rowOf H (solutionFits choices₁)) (rowOf H (solutionFits choices₂))
+    (λ before line r q e k.
+    one-form (formOf line) r q (form-right H (solutionFits choices₁) before (formOf line) r e .0) (form-right H (solutionFits choices₂) before (formOf line) q k .0))
+    timetableHeader s rs qs
+
+profiles-alike : (profiles₁ samples₁ profiles₂ samples₂ : ℕ) (s : List ℕ) (rs qs : List Curve)
+    → profilesOf profiles₁ samples₁ s ≡ good rs → profilesOf profiles₂ samples₂ s ≡ good qs → rs ≡ qs
+unfolding profilesOf
+profiles-alike profiles₁ samples₁ profiles₂ samples₂ s rs qs =
+    csv-alike profilesFile (curveRow profiles₁ samples₁) (curveRow profiles₂ samples₂)
+    (λ before line r q e k.
+    one-form (curveForm line) r q (curve-right profiles₁ samples₁ before (curveForm line) r e .0) (curve-right profiles₂ samples₂ before (curveForm line) q k .0))
+    profilesHeader s rs qs
+
+-- ---- constraints.json: two turns that are the same, unless one of them is a fault
+
+data Alike : Turn → Turn → Type 0 where
+  one-faulty : {n p : ℕ} {u : Turn} → Alike (fault n p) u
+  two-faulty : {n p : ℕ} {u : Turn} → Alike u (fault n p)
+  same : {u : Turn} → Alike u u
+
+-- a test of room, after tests that both make
+room-alike : (a b : Bool) (u : Turn) (n p : ℕ) → Alike (cond a u (fault n p)) (cond b u (fault n p))
+room-alike true true u n p = same
+room-alike true false u n p = two-faulty
+room-alike false b u n p = one-faulty
+
+after-test : (b : Bool) (u v w : Turn) → Alike u v → Alike (cond b u w) (cond b v w)
+after-test true u v w h = h
+after-test false u v w h = same
+
+after-other : (b : Bool) (u v w : Turn) → Alike v w → Alike (cond b u v) (cond b u w)
+after-other true u v w h = same
+after-other false u v w h = h
+
+module _ (legs : List ℕ) (constraints₁ tracks₁ constraints₂ tracks₂ : ℕ) where
+  act-alike : (a : Action) (st : State) (d : Document) (t : Token) → Alike (act legs constraints₁ tracks₁ a st d t) (act legs constraints₂ tracks₂ a st d t)
+  unfolding act listName documentEnds recordOpens keyName recordEnds stringValue stringCut legValue subnetValue secondsValue numberValue tracksOpen trackNumber
+  act-alike Broken st d t = same
+  act-alike Early st d t = same
+  act-alike (Goes p) st d t = same
+  act-alike ListName st d t = same
+  act-alike DocumentEnds st d t = same
+  act-alike RecordOpens st d t =
+      after-other (eqb (st .list) subnets) _ _ _
+      (after-test (ltb (length (d .constraints)) mostConstraints) _ _ _
+      (room-alike (ltb (length (d .constraints)) constraints₁) (ltb (length (d .constraints)) constraints₂) _ _ _))
+  act-alike KeyName st d t = same
+  act-alike RecordEnds st d t = same
+  act-alike StringValue st d t = same
+  act-alike StringCut st d t = same
+  act-alike NumberValue st d t = same
+  act-alike TracksOpen st d t = same
+  act-alike TrackNumber st d t =
+      after-test (isNumber t) _ _ _
+      (after-test (leb (numberOf t) mostId) _ _ _
+      (after-test (ltb (length (d .tracks)) mostTracks) _ _ _
+      (after-test (not (any (λ k. eqb (k .id) (numberOf t)) (d .tracks))) _ _ _
+      (room-alike (ltb (length (d .tracks)) tracks₁) (ltb (length (d .tracks)) tracks₂) _ _ _))))
+  act-alike Finishes st d t = same
+
+  onward-alike : {u v : Turn} → Alike u v → (one two : State → Document → Reading Document) (c d : Document)
+      → ((st : State) (e : Document) → one st e ≡ good c → two st e ≡ good d → c ≡ d)
+      → onward legs constraints₁ tracks₁ u one ≡ good c → onward legs constraints₂ tracks₂ v two ≡ good d → c ≡ d
+  onward-alike one-faulty one two c d ih e k = never-good _ c e
+  onward-alike two-faulty one two c d ih e k = never-good _ d k
+  onward-alike (same {u = fault n p}) one two c d ih e k = never-good _ c e
+  onward-alike (same {u = on st x}) one two c d ih e k = ih st x e k
+  onward-alike (same {u = finish st x}) one two c d ih e k = cc
+
+  run-alike : (ts : List Token) (st : State) (x c d : Document) → run legs constraints₁ tracks₁ st x ts ≡ good c → run legs constraints₂ tracks₂ st x ts ≡ good d → c ≡ d
+  unfolding run turnOf
+  run-alike [] st x c d e k = never-good _ c e
+  run-alike (t ∷ ts) st x c d e k = onward-alike (act-alike (actionOf (st .phase) (t .class)) st x t) _ _ c d (λ st′ x′. run-alike ts st′ x′ c d) e k
+
+  documents-alike : (s : List ℕ) (c d : Document) → constraintsOf legs constraints₁ tracks₁ plainRules s ≡ good c → constraintsOf legs constraints₂ tracks₂ plainRules s ≡ good d → c ≡ d
+  unfolding constraintsOf
+  documents-alike s c d e k =
+      run-alike (tokensOf s) (start plainRules) empty c d (good-test (leb (length s) mostText) _ _ c e .1) (good-test (leb (length s) mostText) _ _ d k .1)
+
+-- ---- all files
+
+pub files-alike : (H : ℕ) (x : Texts) (room₁ room₂ : Rooms) (f g : Files) → filesOf H x room₁ ≡ good f → filesOf H x room₂ ≡ good g → f ≡ g
+files-alike H x room₁ room₂ f g e k =
+    let one = files-good H x room₁ f e in
+    let two = files-good H x room₂ g k in
+    let rows : f .rows ≡ g .rows =
+    timetables-alike H _ _ _ _ (x .timetable) (f .rows) (g .rows) (timetable-good H _ _ (x .timetable) (f .rows) .1 (one .timetable))
+    (timetable-good H _ _ (x .timetable) (g .rows) .1 (two .timetable)) in
+    let curves : f .curves ≡ g .curves = profiles-alike _ _ _ _ (x .profiles) (f .curves) (g .curves) (one .profiles-read) (two .profiles-read) in
+    let document : f .document ≡ g .document =
+    documents-alike (legIds (f .rows)) _ _ _ _ (x .constraints) (f .document) (g .document) (one .constraints)
+    (rw (← rows) at (two .constraints)) in
+    λ i. record { rows = rows i; curves = curves i; document = document i }
+
+-- a solution that matches the draft has its rows' count
+differs-length : (n : ℕ) (text : List ℕ) (draft rows : List Row) → differsFrom n text draft rows ≡ none → length rows ≡ length draft
+differs-length n text [] [] e = refl
+differs-length n text [] (r ∷ rows) e = missing _ (sym e)
+differs-length n text (a ∷ draft) [] e = missing _ (sym e)
+differs-length n text (a ∷ draft) (r ∷ rows) e = go (sameLeg a r) e (differs-length (suc n) text draft rows)
+  where
+    go : (b : Bool) → cond b (differsFrom (suc n) text draft rows) (some (placeOfRow text n)) ≡ none
+        → (differsFrom (suc n) text draft rows ≡ none → length rows ≡ length draft) → suc (length rows) ≡ suc (length draft)
+    go true e ih = ap suc (ih e)
+    go false e ih = missing _ (sym e)
+
+-- choices that were read are read as the same in any room that takes one for each row, whichever file they are
+pub choices-anywhere : (H : ℕ) (f : Files) (file₁ file₂ room₁ room₂ : ℕ) (text : List ℕ) (s : List Configuration) → length (f .rows) ≤ room₂ / configurationWidth
+    → choicesRead H f file₁ room₁ text ≡ good s → choicesRead H f file₂ room₂ text ≡ good s
+choices-anywhere H f file₁ file₂ room₁ room₂ text s fits e =
+    let g = choices-good H f file₁ room₁ text s e in
+    good-choices H f file₂ room₂ text s
+    (record {
+      rows = g .rows;
+      solution = record {
+        lawful = g .solution .lawful;
+        fitting = choices-fit (room₂ / configurationWidth) (g .rows) (rw (differs-length 0 text (f .rows) (g .rows) (g .matches)) fits);
+        text = g .solution .text;
+        short = g .solution .short;
+      };
+      matches = g .matches;
+      choices = g .choices;
+    })
+
+-- and two readings of them say the same
+pub choices-alike : (H : ℕ) (f : Files) (file₁ file₂ room₁ room₂ : ℕ) (text : List ℕ) (s r : List Configuration)
+    → choicesRead H f file₁ room₁ text ≡ good s → choicesRead H f file₂ room₂ text ≡ good r → s ≡ r
+choices-alike H f file₁ file₂ room₁ room₂ text s r e k =
+    let one = choices-good H f file₁ room₁ text s e in
+    let two = choices-good H f file₂ room₂ text r k in
+    let rows : one .rows ≡ two .rows =
+    solutions-alike H solutionFile _ _ text (one .rows) (two .rows) (solution-good H solutionFile _ text (one .rows) .1 (one .solution))
+    (solution-good H solutionFile _ text (two .rows) .1 (two .solution)) in
+    sym (one .choices) ∙ ap choicesOf rows ∙ two .choices
+
+-- four texts: what they say is one
+pub all-alike : (H : ℕ) (x : Texts) (s : List ℕ) (room₁ room₂ : Rooms) (choices₁ choices₂ : ℕ) (w v : Whole)
+    → allRead H x s room₁ choices₁ ≡ good w → allRead H x s room₂ choices₂ ≡ good v → w ≡ v
+all-alike H x s room₁ room₂ choices₁ choices₂ w v e k =
+    let one = all-good H x s room₁ choices₁ w e in
+    let two = all-good H x s room₂ choices₂ v k in
+    let files : w .files ≡ v .files = files-alike H x room₁ room₂ (w .files) (v .files) (one .0) (two .0) in
+    let choices : w .choices ≡ v .choices =
+    choices-alike H (w .files) solutionFile solutionFile choices₁ choices₂ s (w .choices) (v .choices) (one .1) (rw files (two .1)) in
+    λ i. record { files = files i; choices = choices i }
+
+-- and so it is with two solutions
+pub both-alike : (H : ℕ) (x : Texts) (s r : List ℕ) (room₁ room₂ : Rooms) (choices₁ second₁ choices₂ second₂ : ℕ) (b : Both) (f : Files) (cs ds : List Configuration)
+    → bothRead H x s r room₁ choices₁ second₁ ≡ good b → filesOf H x room₂ ≡ good f
+    → choicesRead H f solutionFile choices₂ s ≡ good cs → choicesRead H f solutionFile second₂ r ≡ good ds → b ≡ record { files = f; first = cs; second = ds }
+both-alike H x s r room₁ room₂ choices₁ second₁ choices₂ second₂ b f cs ds e k c d =
+    let one = both-good H x s r room₁ choices₁ second₁ b e in
+    let files : b .files ≡ f = files-alike H x room₁ room₂ (b .files) f (one .0) k in
+    let first : b .first ≡ cs = choices-alike H f solutionFile solutionFile choices₁ choices₂ s (b .first) cs (rw files at (one .1)) c in
+    let second : b .second ≡ ds = choices-alike H f secondFile solutionFile second₁ second₂ r (b .second) ds (rw files at (one .2)) d in
+    λ i. record { files = files i; first = first i; second = second i }

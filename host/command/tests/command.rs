@@ -2,6 +2,11 @@
 
 mod common;
 
+#[path = "command/calls.rs"]
+mod calls;
+#[path = "command/outputs.rs"]
+mod outputs;
+
 use common::{constraints, draft, dwell, solution, HEADER, PROFILES};
 use std::fs;
 use std::io::Write;
@@ -338,7 +343,7 @@ fn an_output_is_no_input_and_no_other_output() {
         ("a", "o", "is an input"),
         ("o", "./t", "is an input"),
         ("linked", "o", "is an input"),
-        ("pointing", "o", "is an input"),
+        ("pointing", "o", "is a symbolic link"),
         ("f", "o", "is no regular file"),
         ("nowhere/o", "o", "its folder is not there"),
     ] {
@@ -354,7 +359,7 @@ fn what_cannot_be_read_is_not_judged() {
     let folder = Folder::new("missing");
     folder.not_run("check --horizon 100 t p c missing", "solution missing: ");
     folder.not_run("check --horizon 100 . p c a", "timetable .: ");
-    folder.not_run("check --horizon 100 t p c", "4 files are wanted, 3 are given");
+    folder.not_run("check --horizon 100 t p c", "wanted 4 files, given 3, missing: SOLUTION");
     folder.not_run("judge", "no such command");
 }
 
@@ -423,8 +428,8 @@ fn a_row_is_shown() {
     for (file, place) in [("260", "145"), ("4", "4294967441"), ("18446744073709551617", "145"), ("0", "145")] {
         assert_eq!(folder.told(&format!("row --file {file} --place {place} t b"), 0), format!("{LABEL}no row starts there\n"));
     }
-    folder.not_run("row --file 04 --place 145 t b", "--file wants a whole number, not 04");
-    folder.not_run("row --file 4 --place 0145 t b", "--place wants a whole number, not 0145");
+    folder.not_run("row --file 04 --place 145 t b", "--file wants a whole number, and this is none: 04");
+    folder.not_run("row --file 4 --place 0145 t b", "--place wants a whole number, and this is none: 0145");
     let object = folder.told("row --file 1 --place 145 t b --json", 0);
     assert!(object.contains(r#""file": 1, "place": 145, "row": "2,1,2,2,3,40_3_8,40_3_8 45_3_8", "length": 30, "#), "{object}");
 }
@@ -460,7 +465,7 @@ fn a_horizon_is_a_whole_number() {
         assert_eq!(said, format!("{LABEL}refused 1: H out of range\nfile: no file, place: 0\nanswer: refused\n"));
     }
     for horizon in ["0100", "+100", "-1", "100s", "1e2"] {
-        folder.not_run(&format!("check --horizon {horizon} t p c a"), "--horizon wants a whole number, not ");
+        folder.not_run(&format!("check --horizon {horizon} t p c a"), "--horizon wants a whole number, and this is none: ");
     }
     for horizon in ["", " 100", "100\n"] {
         let output = folder.call("check t p c a --horizon").arg(horizon).output().unwrap();

@@ -3,6 +3,7 @@
 mod arguments;
 mod input;
 mod output;
+mod place;
 mod run;
 mod told;
 
@@ -36,14 +37,19 @@ pub fn main() -> ExitCode {
     }
 }
 
-/// Does what the words ask for, prints the result, and gives its status. A result that cannot be printed whole is none.
+/// Does what the words ask for, prints the result, gives the outputs their names, and gives the status. A result that cannot be printed whole is none, and
+/// then nothing is written either.
 fn done() -> Result<u8, CouldNotRun> {
-    let result = run::run(&arguments::read(std::env::args_os().skip(1).collect())?)?;
+    let ran = run::run(&arguments::read(std::env::args_os().skip(1).collect())?)?;
+    printed(&ran.told.text).map_err(|error| CouldNotRun(format!("the result could not be printed: {error}")))?;
+    ran.outputs.named()?;
+    Ok(ran.told.status)
+}
+
+fn printed(text: &[u8]) -> std::io::Result<()> {
     let mut out = std::io::stdout();
-    out.write_all(&result.text)
-        .and_then(|()| out.flush())
-        .map_err(|error| CouldNotRun(format!("the result could not be printed: {error}")))?;
-    Ok(result.status)
+    out.write_all(text)?;
+    out.flush()
 }
 
 /// Seconds since the horizon's start as hours, minutes and seconds; a day may go past midnight.

@@ -1,5 +1,6 @@
 //! An answer as it is printed: in words, or as one object.
 
+use super::arguments::Horizon;
 use super::input::Input;
 use super::json::{array, Object};
 use super::output::Output;
@@ -22,7 +23,7 @@ pub struct Told {
 
 /// An answer with all that its words and its evidence need.
 pub struct Judged<'a, T> {
-    pub horizon: u32,
+    pub horizon: &'a Horizon,
     pub answer: Answer<T>,
     pub inputs: &'a [Input],
     pub outputs: &'a [Output<'a>],

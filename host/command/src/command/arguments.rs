@@ -12,7 +12,7 @@ use words::{wrong, Words};
 
 pub use help::help;
 pub use number::{Horizon, Number};
-pub use words::STANDARD;
+pub use words::{asks_for_json, STANDARD};
 
 /// What is asked for.
 #[derive(Debug, PartialEq, Eq)]

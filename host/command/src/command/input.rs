@@ -5,6 +5,7 @@ use super::sha256::Hash;
 use super::{printable, CouldNotRun};
 use std::fs;
 use std::io::{self, Read, Seek, SeekFrom};
+use std::os::unix::ffi::OsStrExt;
 use std::os::unix::fs::MetadataExt;
 use std::os::unix::io::AsFd;
 use std::path::{Path, PathBuf};
@@ -61,8 +62,8 @@ impl Input {
         self.longer.is_none()
     }
 
-    pub fn name(&self) -> String {
-        self.path.to_string_lossy().into_owned()
+    pub fn name(&self) -> &[u8] {
+        self.path.as_os_str().as_bytes()
     }
 
     /// What it is, and its name.

@@ -76,8 +76,8 @@ pub struct Output<'a> {
 }
 
 impl Output<'_> {
-    pub fn name(&self) -> String {
-        self.path.to_string_lossy().into_owned()
+    pub fn name(&self) -> &[u8] {
+        self.path.as_os_str().as_bytes()
     }
 
     /// Bytes and SHA-256 of the text.

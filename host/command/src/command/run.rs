@@ -1,13 +1,12 @@
 //! What a call does.
 
 use super::arguments::{help, Call, Horizon, Number, Rows, Work};
+use super::identity::identity;
 use super::input::Input;
-use super::json::Object;
 use super::output::{self, Output};
 use super::place::Waiting;
-use super::told::{evidence, Judged, Told, ACCEPTED, VERSION};
+use super::told::{row_object, Judged, Told, ACCEPTED};
 use super::{energies, escaped, CouldNotRun};
-use crate::LINKED;
 use std::path::{Path, PathBuf};
 use wagontulip::{row_at, Answer, Checker, File, Files, NoRoom, Rooms, Table, Unknown, LABEL};
 
@@ -36,7 +35,7 @@ pub fn run(call: &Call) -> Result<Ran, CouldNotRun> {
         Work::Check { horizon, files } => check(call, horizon, files)?,
         Work::Row { place, rows } => row(call, place, rows)?,
         Work::Help(verb) => plain(&help(*verb)),
-        Work::Version => plain(&format!("wagontulip {VERSION} ({LINKED})\n")),
+        Work::Version => plain(&identity().lines()),
     };
     Ok(Ran { told, outputs: Waiting::nothing() })
 }
@@ -74,7 +73,7 @@ fn check(call: &Call, horizon: &Horizon, files: &[PathBuf]) -> Result<Told, Coul
     let inputs = inputs(&ROLES, files)?;
     let mut checker = checker(call)?;
     let answer = checker.check(horizon.value, &texts(&inputs), &inputs[3].text)?;
-    let result = Judged { horizon, answer, inputs: &inputs, outputs: &[], room: &checker.room };
+    let result = Judged { command: "check", horizon, answer, inputs: &inputs, outputs: &[], room: &checker.room };
     result.told(call.json, |()| String::new(), |object, ()| object)
 }
 
@@ -88,7 +87,7 @@ fn energy(call: &Call, horizon: &Horizon, files: &[PathBuf], curves: Option<&Pat
         outputs.extend(curves.map(|path| Output { role: "curves", path, text: energies::curve_lines(&energies.curves, h) }));
         energies.figures
     });
-    let result = Judged { horizon, answer, inputs: &inputs, outputs: &outputs, room: &checker.room };
+    let result = Judged { command: "energy", horizon, answer, inputs: &inputs, outputs: &outputs, room: &checker.room };
     let told = result.told(call.json, |figures| energies::lines(&figures, h), |object, figures| energies::values(object, &figures, h))?;
     Ok(Ran { told, outputs: Waiting::written(&outputs)? })
 }
@@ -108,7 +107,7 @@ fn merge(call: &Call, horizon: &Horizon, files: &[PathBuf], [earlier, later]: [&
     if answer != Answer::Accepted(()) {
         outputs.clear();
     }
-    let result = Judged { horizon, answer, inputs: &inputs, outputs: &outputs, room: &checker.room };
+    let result = Judged { command: "merge", horizon, answer, inputs: &inputs, outputs: &outputs, room: &checker.room };
     let told = result.told(call.json, |()| String::new(), |object, ()| object)?;
     Ok(Ran { told, outputs: Waiting::written(&outputs)? })
 }
@@ -128,10 +127,7 @@ fn row(call: &Call, place: &Number<u32>, rows: &Rows) -> Result<Told, CouldNotRu
         return Err(CouldNotRun(format!("{}: the row goes on past the length of a text", input.told())));
     }
     if call.json {
-        let file = file.map_or(String::from("null"), |file| file.to_string());
-        let object = Object::new().text("label", LABEL).value("file", file).value("place", place);
-        let object = object.text("row", &String::from_utf8_lossy(row.unwrap_or_default())).value("length", row.map_or(0, <[u8]>::len));
-        return Ok(plain(&format!("{}\n", evidence(object, &inputs)?.close())));
+        return Ok(plain(&row_object(file, place, row, &inputs)?));
     }
     let shown = row.map_or(String::from("no row starts there"), |row| format!("row: {}", escaped(row)));
     Ok(plain(&format!("{LABEL}\n{shown}\n")))

@@ -36,7 +36,7 @@ const OUTPUTS: &str = "  --earlier OUT   where the earlier choice of each leg is
   --later OUT     where the later choice of each leg is written
 ";
 const OPTIONS: &str =
-    "  --json          the result as one object, with what a signature needs: version, horizon, and each file's name, bytes and SHA-256
+    "  --json          the result as one object, for a program and for a signature: docs/schema/answer-1.json describes it
   --room TABLE=N  lend N numbers (bytes, for text) in the place of the room at the limits, which is the most; TABLE is legs,
                   configurations, profiles, samples, constraints, tracks, choices, second_choices, curves or text
   -h, --help      this help; after a command, that command's

@@ -29,6 +29,20 @@ pub fn wrong(why: &str, word: impl AsRef<OsStr>) -> CouldNotRun {
     CouldNotRun(format!("{why}: {} (help: wagontulip --help)", printable(word)))
 }
 
+/// Whether the words ask for an object, also where they ask for nothing that can be done.
+pub fn asks_for_json(words: &[OsString]) -> bool {
+    let mut words = words.iter().take_while(|word| *word != "--");
+    while let Some(word) = words.next() {
+        if word == JSON {
+            return true;
+        }
+        if VALUED.iter().any(|name| word == name) {
+            words.next();
+        }
+    }
+    false
+}
+
 /// The word up to its `=`, and the value after it.
 fn parted(word: &OsStr) -> (&OsStr, Option<&OsStr>) {
     let bytes = word.as_bytes();
@@ -163,4 +177,16 @@ fn output(name: &str, value: OsString) -> Result<PathBuf, CouldNotRun> {
         return Err(wrong(&format!("{name} wants a file, and standard output has the result"), &value));
     }
     Ok(PathBuf::from(value))
+}
+
+#[cfg(test)]
+mod tests {
+    use super::*;
+
+    #[test]
+    fn an_object_is_asked_for_by_a_word_of_its_own() {
+        let asks = |words: &str| asks_for_json(&words.split_whitespace().map(OsString::from).collect::<Vec<OsString>>());
+        assert!(asks("--json") && asks("check --json t") && asks("judge t --room --json --json") && asks("check --horizon=1 --json"));
+        assert!(!asks("") && !asks("check t") && !asks("check -- --json") && !asks("energy --curves --json"));
+    }
 }

@@ -2,6 +2,11 @@
 
 mod common;
 
+#[path = "command/calls.rs"]
+mod calls;
+#[path = "command/outputs.rs"]
+mod outputs;
+
 use common::{constraints, draft, dwell, solution, HEADER, PROFILES};
 use std::fs;
 use std::io::Write;
@@ -103,7 +108,7 @@ impl Drop for Folder {
 fn the_version_says_what_is_linked() {
     let folder = Folder::new("version");
     let version = format!("{} ({LINKED})", env!("CARGO_PKG_VERSION"));
-    assert_eq!(folder.told("--version", 0), format!("wagontulip {version}\n"));
+    assert!(folder.told("--version", 0).starts_with(&format!("wagontulip {version}\ncommit: ")));
     let object = folder.told("check --json --horizon 100 t p c a", 0);
     assert!(object.contains(&format!(r#""version": "{version}""#)), "{object}");
 }
@@ -143,7 +148,8 @@ answer: violated
 ";
     assert_eq!(folder.told("check --horizon 100 t p c a", 1), format!("{LABEL}{words}"));
     let object = folder.told("check --json --horizon 100 t p c a", 1);
-    let start = r#"{"label": "no violation shown is not no violation", "answer": "violated", "kind": 3, "position": 0, "inequality": 1, "shortfall": 1, "file": 4, "horizon": 100, "#;
+    let start =
+        r#"{"label": "no violation shown is not no violation", "schema": 1, "command": "check", "answer": "violated", "horizon": 100, "#;
     assert!(object.starts_with(start), "{object}");
 }
 
@@ -258,7 +264,7 @@ answer: refused
     let said = folder.told("check --horizon 0 t p c a", 2);
     assert_eq!(said, format!("{LABEL}refused 1: H out of range\nfile: no file, place: 0\nanswer: refused\n"));
     let object = folder.told("check --horizon 0 t p c a --json", 2);
-    assert!(object.contains(r#""answer": "refused", "number": 1, "file": 0, "place": 0, "#), "{object}");
+    assert!(object.contains(r#""refusal": {"number": 1, "file": {"number": 0}, "place": 0, "#), "{object}");
 }
 
 #[test]
@@ -266,7 +272,8 @@ fn the_evidence_names_every_input() {
     let folder = Folder::new("evidence");
     folder.put("a", "abc");
     let object = folder.told("check --horizon 100 t p c a --json", 2);
-    let input = r#"{"name": "a", "bytes": 3, "sha256": "ba7816bf8f01cfea414140de5dae2223b00361a396177a9cb410ff61f20015ad"}"#;
+    let input =
+        r#"{"role": "solution", "name": "a", "bytes": 3, "sha256": "ba7816bf8f01cfea414140de5dae2223b00361a396177a9cb410ff61f20015ad"}"#;
     assert!(object.contains(input), "{object}");
     assert_eq!(object.matches("\"sha256\"").count(), 4);
     assert!(object.contains(r#""version": "0."#), "{object}");
@@ -338,7 +345,7 @@ fn an_output_is_no_input_and_no_other_output() {
         ("a", "o", "is an input"),
         ("o", "./t", "is an input"),
         ("linked", "o", "is an input"),
-        ("pointing", "o", "is an input"),
+        ("pointing", "o", "is a symbolic link"),
         ("f", "o", "is no regular file"),
         ("nowhere/o", "o", "its folder is not there"),
     ] {
@@ -354,7 +361,7 @@ fn what_cannot_be_read_is_not_judged() {
     let folder = Folder::new("missing");
     folder.not_run("check --horizon 100 t p c missing", "solution missing: ");
     folder.not_run("check --horizon 100 . p c a", "timetable .: ");
-    folder.not_run("check --horizon 100 t p c", "4 files are wanted, 3 are given");
+    folder.not_run("check --horizon 100 t p c", "wanted 4 files, given 3, missing: SOLUTION");
     folder.not_run("judge", "no such command");
 }
 
@@ -369,9 +376,15 @@ fn a_file_may_be_longer_than_a_text() {
     assert!(said.starts_with(&format!("{LABEL}refused 2: text too long\nfile: solution (long), place: 0, line: 1\n")), "{said}");
     long.set_len(most + 100).unwrap();
     let object = folder.told("check --json --horizon 100 t p c long", 2);
-    assert!(object.contains(r#""answer": "refused", "number": 2, "file": 4, "place": 0, "#), "{object}");
+    assert!(
+        object.contains(r#""refusal": {"number": 2, "file": {"number": 4, "role": "solution", "name": "long"}, "place": 0, "line": 1, "#),
+        "{object}"
+    );
     let hash = "7ede697aa203b3643d20e4c521c320bfa0e1ae7bfb854aa9e55409c3d0a486c4";
-    assert!(object.contains(&format!(r#"{{"name": "long", "bytes": {}, "sha256": "{hash}"}}"#, most + 100)), "{object}");
+    assert!(
+        object.contains(&format!(r#"{{"role": "solution", "name": "long", "bytes": {}, "sha256": "{hash}"}}"#, most + 100)),
+        "{object}"
+    );
     let why = format!("timetable /dev/zero: has more than {most} bytes and is no regular file");
     folder.not_run("check --horizon 100 /dev/zero p c a", &why);
     folder.not_run("row --file 4 --place 145 /dev/zero a", &why);
@@ -423,10 +436,10 @@ fn a_row_is_shown() {
     for (file, place) in [("260", "145"), ("4", "4294967441"), ("18446744073709551617", "145"), ("0", "145")] {
         assert_eq!(folder.told(&format!("row --file {file} --place {place} t b"), 0), format!("{LABEL}no row starts there\n"));
     }
-    folder.not_run("row --file 04 --place 145 t b", "--file wants a whole number, not 04");
-    folder.not_run("row --file 4 --place 0145 t b", "--place wants a whole number, not 0145");
+    folder.not_run("row --file 04 --place 145 t b", "--file wants a whole number, and this is none: 04");
+    folder.not_run("row --file 4 --place 0145 t b", "--place wants a whole number, and this is none: 0145");
     let object = folder.told("row --file 1 --place 145 t b --json", 0);
-    assert!(object.contains(r#""file": 1, "place": 145, "row": "2,1,2,2,3,40_3_8,40_3_8 45_3_8", "length": 30, "#), "{object}");
+    assert!(object.contains(r#""place": 145, "row": "2,1,2,2,3,40_3_8,40_3_8 45_3_8", "length": 30, "#), "{object}");
 }
 
 #[test]
@@ -460,7 +473,7 @@ fn a_horizon_is_a_whole_number() {
         assert_eq!(said, format!("{LABEL}refused 1: H out of range\nfile: no file, place: 0\nanswer: refused\n"));
     }
     for horizon in ["0100", "+100", "-1", "100s", "1e2"] {
-        folder.not_run(&format!("check --horizon {horizon} t p c a"), "--horizon wants a whole number, not ");
+        folder.not_run(&format!("check --horizon {horizon} t p c a"), "--horizon wants a whole number, and this is none: ");
     }
     for horizon in ["", " 100", "100\n"] {
         let output = folder.call("check t p c a --horizon").arg(horizon).output().unwrap();
@@ -479,7 +492,7 @@ fn any_bytes_are_shown_as_words() {
     let place = HEADER.len();
     assert_eq!(folder.told(&format!("row --file 1 --place {place} t a"), 0), format!("{LABEL}row: {shown}\n"));
     let object = folder.told(&format!("row --json --file 1 --place {place} t a"), 0);
-    let row = format!(r#""row": "\ufffd\u001b[2J\u000danswer: accepted\u007f", "length": {}, "#, row.len());
+    let row = format!(r#""row_bytes": "\u00ff\u001b[2J\u000danswer: accepted\u007f", "length": {}, "#, row.len());
     assert!(object.contains(&row), "{object}");
 }
 
@@ -516,5 +529,5 @@ fn any_name_is_shown_on_its_line() {
     fs::write(folder.0.join(name), "").unwrap();
     let output = folder.call("check --json --horizon 100 t p c").arg(name).output().unwrap();
     let object = String::from_utf8(output.stdout).unwrap();
-    assert!(object.contains(r#"{"name": "\u001b[2J\u000d\u009b\u000aanswer: accepted", "bytes": 0, "#), "{object}");
+    assert!(object.contains(r#"{"role": "solution", "name": "\u001b[2J\u000d\u009b\u000aanswer: accepted", "bytes": 0, "#), "{object}");
 }

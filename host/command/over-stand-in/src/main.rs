@@ -6,10 +6,14 @@ mod command;
 // The stand-in's exports are found because its crate is linked whole.
 extern crate stand_in as _;
 
+use command::identity::Built;
 use std::process::ExitCode;
 
 /// What is linked.
 const LINKED: &str = "stand-in, not proved";
+
+/// Nothing proved is in it, so there is nothing to name.
+const BUILT: Built = Built { commit: "", tree: "no commit", toolchain: "none", archive_sha256: "none" };
 
 fn main() -> ExitCode {
     command::main()

@@ -1,24 +1,18 @@
 //! The words of a call.
 
-use super::{printable, CouldNotRun};
-use std::ffi::OsString;
+mod help;
+mod number;
+mod words;
+
+use super::CouldNotRun;
+use std::ffi::{OsStr, OsString};
 use std::path::PathBuf;
-use std::str::FromStr;
 use wagontulip::Table;
+use words::{wrong, Words};
 
-pub const USAGE: &str = "\
-wagontulip check  --horizon H TIMETABLE PROFILES CONSTRAINTS SOLUTION
-wagontulip energy --horizon H TIMETABLE PROFILES CONSTRAINTS SOLUTION [--curves OUT]
-wagontulip merge  --horizon H TIMETABLE PROFILES CONSTRAINTS FIRST SECOND --earlier OUT --later OUT
-wagontulip row    --file N --place P TIMETABLE SOLUTION
-wagontulip --help | --version
-
-  --json          the result as one object, with what a signature needs: version, horizon, and each file's name, bytes and SHA-256
-  --room TABLE=N  lend N numbers (bytes, for text) in the place of the room at the limits, which is the most; TABLE is legs,
-                  configurations, profiles, samples, constraints, tracks, choices, second_choices, curves or text
-
-Exit status: 0 accepted, 1 violated, 2 refused, 3 could not run.
-";
+pub use help::help;
+pub use number::{Horizon, Number};
+pub use words::{asks_for_json, STANDARD};
 
 /// What is asked for.
 #[derive(Debug, PartialEq, Eq)]
@@ -31,122 +25,88 @@ pub struct Call {
 /// The files of an entry stand in its order.
 #[derive(Debug, PartialEq, Eq)]
 pub enum Work {
-    Check { horizon: u32, files: [PathBuf; 4] },
-    Energy { horizon: u32, files: [PathBuf; 4], curves: Option<PathBuf> },
-    Merge { horizon: u32, files: [PathBuf; 5], earlier: PathBuf, later: PathBuf },
-    Row { file: u8, place: u32, files: [PathBuf; 2] },
-    Help,
+    Check { horizon: Horizon, files: [PathBuf; 4] },
+    Energy { horizon: Horizon, files: [PathBuf; 4], curves: Option<PathBuf> },
+    Merge { horizon: Horizon, files: [PathBuf; 5], earlier: PathBuf, later: PathBuf },
+    Row { place: Number<u32>, rows: Rows },
+    Help(Option<Verb>),
     Version,
 }
 
-/// The options as they were given, and the words that are none.
-#[derive(Default)]
-struct Words {
-    options: Vec<(&'static str, OsString)>,
-    rooms: Vec<(Table, usize)>,
-    json: bool,
-    rest: Vec<OsString>,
+/// Where a row is looked for.
+#[derive(Debug, PartialEq, Eq)]
+pub enum Rows {
+    /// In the timetable or the solution, whichever has a refusal's file number.
+    Numbered { file: Number<u8>, files: [PathBuf; 2] },
+    /// In any CSV file.
+    Of([PathBuf; 1]),
 }
 
-const VALUED: [&str; 6] = ["--horizon", "--curves", "--earlier", "--later", "--file", "--place"];
+#[derive(Clone, Copy, Debug, PartialEq, Eq)]
+pub enum Verb {
+    Check,
+    Energy,
+    Merge,
+    Row,
+}
+
+const VERBS: [(&str, Verb); 4] = [("check", Verb::Check), ("energy", Verb::Energy), ("merge", Verb::Merge), ("row", Verb::Row)];
+
+/// The files of an entry in the usage.
+const FILES: [&str; 4] = ["TIMETABLE", "PROFILES", "CONSTRAINTS", "SOLUTION"];
+const MERGE_FILES: [&str; 5] = ["TIMETABLE", "PROFILES", "CONSTRAINTS", "FIRST", "SECOND"];
 
 pub fn read(words: Vec<OsString>) -> Result<Call, CouldNotRun> {
-    let mut words = words.into_iter();
-    let verb = words.next().ok_or_else(|| wrong("no command"))?;
-    let mut sorted = sorted(words)?;
-    let work = match verb.to_str() {
-        Some("check") => Work::Check { horizon: sorted.number("--horizon", u32::MAX)?, files: sorted.files()? },
-        Some("energy") => {
-            let curves = sorted.option("--curves").map(PathBuf::from);
-            Work::Energy { horizon: sorted.number("--horizon", u32::MAX)?, files: sorted.files()?, curves }
-        }
-        Some("merge") => {
-            let (earlier, later) = (sorted.output("--earlier")?, sorted.output("--later")?);
-            Work::Merge { horizon: sorted.number("--horizon", u32::MAX)?, files: sorted.files()?, earlier, later }
-        }
-        Some("row") => {
-            let (file, place) = (sorted.number("--file", u8::MAX)?, sorted.number("--place", u32::MAX)?);
-            Work::Row { file, place, files: sorted.files()? }
-        }
-        Some("--help") => Work::Help,
-        Some("--version") => Work::Version,
-        _ => return Err(wrong("no such command")),
+    let first = words.first().cloned();
+    let named = VERBS.into_iter().find(|(name, _)| first.as_deref() == Some(OsStr::new(name)));
+    if asks_for_help(&words) {
+        return Ok(Call { work: Work::Help(named.map(|(_, verb)| verb)), json: false, rooms: Vec::new() });
+    }
+    let mut rest = words.into_iter();
+    let first = rest.next().ok_or_else(|| wrong("no command is given", "check, energy, merge or row"))?;
+    let version = first == "-V" || first == "--version";
+    if named.is_none() && !version {
+        return Err(wrong("no such command", first));
+    }
+    let mut words = Words::sorted(rest)?;
+    let (name, work) = match named {
+        Some((name, verb)) => (name, work(verb, &mut words)?),
+        None => ("--version", Work::Version),
     };
-    if let Some((name, _)) = sorted.options.first() {
-        return Err(wrong(&format!("{name} is no option of this command, or is given twice")));
-    }
-    if !sorted.rest.is_empty() {
-        return Err(wrong("too many words"));
-    }
-    Ok(Call { work, json: sorted.json, rooms: sorted.rooms })
+    words.nothing_left(name)?;
+    Ok(Call { work, json: words.json, rooms: words.rooms })
 }
 
-fn wrong(why: &str) -> CouldNotRun {
-    CouldNotRun(format!("{why}\n{USAGE}"))
+/// Wherever the word stands, but for after `--`, where it is a file.
+fn asks_for_help(words: &[OsString]) -> bool {
+    words.iter().take_while(|word| *word != "--").any(|word| word == "-h" || word == "--help")
 }
 
-/// After `--` every word is a file.
-fn sorted(mut words: impl Iterator<Item = OsString>) -> Result<Words, CouldNotRun> {
-    let mut sorted = Words::default();
-    while let Some(word) = words.next() {
-        let known = word.to_str().unwrap_or_default();
-        if let Some(name) = VALUED.into_iter().find(|name| *name == known) {
-            let value = words.next().ok_or_else(|| wrong(&format!("{name} wants a value")))?;
-            sorted.options.push((name, value));
-        } else if known == "--room" {
-            let room = words.next().and_then(|value| room(value.to_str()?)).ok_or_else(|| wrong("--room wants TABLE=N"))?;
-            if sorted.rooms.iter().any(|(table, _)| *table == room.0) {
-                return Err(wrong("a table's room is given twice"));
-            }
-            sorted.rooms.push(room);
-        } else if known == "--json" {
-            sorted.json = true;
-        } else if known == "--" {
-            sorted.rest.extend(words.by_ref());
-        } else if known.starts_with('-') {
-            return Err(wrong(&format!("{} is no option", printable(&word))));
-        } else {
-            sorted.rest.push(word);
+fn work(verb: Verb, words: &mut Words) -> Result<Work, CouldNotRun> {
+    let work = match verb {
+        Verb::Check => Work::Check { horizon: horizon(words)?, files: words.files(FILES)? },
+        Verb::Energy => {
+            let curves = words.output_if_given("--curves")?;
+            Work::Energy { horizon: horizon(words)?, files: words.files(FILES)?, curves }
         }
-    }
-    Ok(sorted)
+        Verb::Merge => {
+            let (earlier, later) = (words.output("--earlier")?, words.output("--later")?);
+            Work::Merge { horizon: horizon(words)?, files: words.files(MERGE_FILES)?, earlier, later }
+        }
+        Verb::Row => Work::Row { place: words.number("--place", u32::MAX)?, rows: rows(words)? },
+    };
+    Ok(work)
 }
 
-/// TABLE=N.
-fn room(value: &str) -> Option<(Table, usize)> {
-    let (table, room) = value.split_once('=')?;
-    Some((Table::named(table)?, whole(room, usize::MAX)?))
+fn horizon(words: &mut Words) -> Result<Horizon, CouldNotRun> {
+    words.number("--horizon", u32::MAX)
 }
 
-/// "One or more digits with no needless leading zero". A number past its type is the greatest of the type, which is past every limit too: it is no wrong
-/// word, and what it is given to judges it.
-fn whole<N: FromStr>(word: &str, greatest: N) -> Option<N> {
-    let digits = !word.is_empty() && word.bytes().all(|byte| byte.is_ascii_digit());
-    let needless = word.len() > 1 && word.starts_with('0');
-    (digits && !needless).then(|| word.parse().unwrap_or(greatest))
-}
-
-impl Words {
-    /// Takes an option, so that what is left is not wanted.
-    fn option(&mut self, name: &str) -> Option<OsString> {
-        let place = self.options.iter().position(|(given, _)| *given == name)?;
-        Some(self.options.remove(place).1)
-    }
-
-    fn number<N: FromStr>(&mut self, name: &str, greatest: N) -> Result<N, CouldNotRun> {
-        let value = self.option(name).ok_or_else(|| wrong(&format!("{name} is wanted")))?;
-        let number = value.to_str().and_then(|word| whole(word, greatest));
-        number.ok_or_else(|| wrong(&format!("{name} wants a whole number, not {}", printable(&value))))
-    }
-
-    fn output(&mut self, name: &str) -> Result<PathBuf, CouldNotRun> {
-        self.option(name).map(PathBuf::from).ok_or_else(|| wrong(&format!("{name} is wanted")))
-    }
-
-    fn files<const N: usize>(&mut self) -> Result<[PathBuf; N], CouldNotRun> {
-        let files: Vec<PathBuf> = self.rest.drain(..).map(PathBuf::from).collect();
-        let given = files.len();
-        files.try_into().map_err(|_| wrong(&format!("{N} files are wanted, {given} are given")))
+/// A file number wants the two files that the library tells apart by it.
+fn rows(words: &mut Words) -> Result<Rows, CouldNotRun> {
+    match words.number_if_given("--file", u8::MAX)? {
+        Some(file) => Ok(Rows::Numbered { file, files: words.files(["TIMETABLE", "SOLUTION"])? }),
+        None => Ok(Rows::Of(words.files(["FILE"])?)),
     }
 }
 
@@ -162,72 +122,115 @@ mod tests {
         names.map(PathBuf::from)
     }
 
+    fn number<N: std::str::FromStr>(word: &str, greatest: N) -> Number<N> {
+        Number::read(word, greatest).unwrap()
+    }
+
+    fn check(horizon: &str, files: [&str; 4]) -> Work {
+        Work::Check { horizon: number(horizon, u32::MAX), files: paths(files) }
+    }
+
     #[test]
     fn options_may_stand_anywhere() {
-        let files = paths(["t", "p", "c", "s"]);
-        let wanted = Call { work: Work::Check { horizon: 100, files }, json: true, rooms: vec![(Table::SecondChoices, 6)] };
+        let wanted = Call { work: check("100", ["t", "p", "c", "s"]), json: true, rooms: vec![(Table::SecondChoices, 6)] };
         assert_eq!(call("check t --json p c --room second_choices=6 s --horizon 100").unwrap(), wanted);
+        assert_eq!(call("check t --json p c --room=second_choices=6 s --horizon=100").unwrap(), wanted);
+    }
+
+    #[test]
+    fn a_value_may_stand_in_the_word() {
+        let merge = |words: &str| call(&format!("merge t p c a - {words}")).unwrap().work;
+        assert_eq!(merge("--horizon=1 --earlier=x=y --later=./-"), merge("--horizon 1 --earlier x=y --later ./-"));
+        let energy = call("energy --horizon 1 t p c s --curves=-h").unwrap().work;
+        assert!(matches!(energy, Work::Energy { curves: Some(curves), .. } if curves.as_os_str() == "-h"));
+        assert_eq!(call("row --file=4 --place=145 t s").unwrap(), call("row --file 4 --place 145 t s").unwrap());
     }
 
     #[test]
     fn after_two_dashes_every_word_is_a_file() {
-        let files = paths(["--json", "p", "c", "s"]);
-        assert_eq!(call("check --horizon 1 -- --json p c s").unwrap().work, Work::Check { horizon: 1, files });
+        assert_eq!(call("check --horizon 1 -- --json p -h s").unwrap().work, check("1", ["--json", "p", "-h", "s"]));
     }
 
     #[test]
     fn a_number_past_its_type_is_the_greatest() {
         let horizon = |word: &str| match call(&format!("check --room text={word} --horizon {word} t p c s")) {
-            Ok(Call { work: Work::Check { horizon, .. }, rooms, .. }) => (horizon, rooms[0].1),
+            Ok(Call { work: Work::Check { horizon, .. }, rooms, .. }) => (horizon.value, rooms[0].1),
             other => panic!("{other:?}"),
         };
         assert_eq!(horizon("0"), (0, 0));
         assert_eq!(horizon("4294967296"), (u32::MAX, 1 << 32));
         assert_eq!(horizon("99999999999999999999999"), (u32::MAX, usize::MAX));
-        let row = Work::Row { file: u8::MAX, place: u32::MAX, files: paths(["t", "s"]) };
+        let rows = Rows::Numbered { file: number("260", u8::MAX), files: paths(["t", "s"]) };
+        let row = Work::Row { place: number("4294967441", u32::MAX), rows };
         assert_eq!(call("row --file 260 --place 4294967441 t s").unwrap().work, row);
     }
 
-    /// A blank in a word is no digit.
     #[test]
-    fn a_whole_number_is_digits_alone() {
-        for word in ["", " 100", "100 ", "1 00", "+100", "-0", "1.0", "1_000", "\u{661}"] {
-            assert_eq!(whole(word, u32::MAX), None, "{word}");
-        }
-        assert_eq!((whole("0", u32::MAX), whole("100", u32::MAX)), (Some(0), Some(100)));
+    fn a_row_is_of_any_file() {
+        let row = Work::Row { place: number("30", u32::MAX), rows: Rows::Of(paths(["p"])) };
+        assert_eq!(call("row --place 30 p").unwrap().work, row);
     }
 
     #[test]
+    fn help_is_given_wherever_it_is_asked_for() {
+        for (words, verb) in [
+            ("-h", None),
+            ("--help me", None),
+            ("judge --help", None),
+            ("check --help", Some(Verb::Check)),
+            ("energy --horizon -h", Some(Verb::Energy)),
+            ("merge --horizon 0100 --verbose -h t", Some(Verb::Merge)),
+            ("row -h --json", Some(Verb::Row)),
+        ] {
+            assert_eq!(call(words).unwrap().work, Work::Help(verb), "{words}");
+            let name = VERBS.into_iter().find(|(_, named)| verb == Some(*named)).map_or("check", |(name, _)| name);
+            assert!(help(verb).starts_with(&format!("wagontulip {name}")), "{words}");
+        }
+        assert_eq!((call("-V").unwrap().work, call("--version").unwrap().work), (Work::Version, Work::Version));
+    }
+
+    /// One line, with the word at fault before where help is.
+    #[test]
     fn what_is_not_asked_for_rightly_is_not_run() {
-        let wrong = [
-            "",
-            "judge --horizon 1 t p c s",
-            "check t p c s",
-            "check --horizon t p c s",
-            "check --horizon 1 t p c",
-            "check --horizon 1 t p c s s",
-            "check --horizon 1 --horizon 2 t p c s",
-            "check --horizon -1 t p c s",
-            "check --horizon +1 t p c s",
-            "check --horizon 0100 t p c s",
-            "check --horizon 00 t p c s",
-            "check --horizon 1e2 t p c s",
-            "check --horizon 99999999999x t p c s",
-            "row --file 01 --place 0 t s",
-            "row --file 1 --place -1 t s",
-            "check --horizon 1 --room legs= t p c s",
-            "check --horizon 1 --room legs=01 t p c s",
-            "check --horizon 1 --curves o t p c s",
-            "check --horizon 1 --room legs t p c s",
-            "check --horizon 1 --room leg=1 t p c s",
-            "check --horizon 1 --room legs=1 --room legs=1 t p c s",
-            "check --horizon 1 --verbose t p c s",
-            "merge --horizon 1 t p c a b --earlier o",
-            "row --file 1 t s",
-            "--help me",
-        ];
-        for words in wrong {
-            assert!(call(words).is_err(), "{words}");
+        for (words, why) in [
+            ("", "no command is given: check, energy, merge or row"),
+            ("judge --horizon 1 t p c s", "no such command: judge"),
+            ("check t p c s", "an option is missing: --horizon"),
+            ("check t p c s --horizon", "no value is given: --horizon"),
+            ("check --horizon t p c s", "--horizon wants a whole number, and this is none: t"),
+            ("check --horizon= t p c s", "--horizon wants a whole number, and this is none: "),
+            ("check --horizon 1 t p c", "wanted 4 files, given 3, missing: SOLUTION"),
+            ("check --horizon 1 t p c s s2", "wanted 4 files, given 5, too many: s2"),
+            ("check --horizon 1 --horizon=2 t p c s", "given twice: --horizon"),
+            ("check --horizon -1 t p c s", "--horizon wants a whole number, and this is none: -1"),
+            ("check --horizon +1 t p c s", "--horizon wants a whole number, and this is none: +1"),
+            ("check --horizon=0100 t p c s", "--horizon wants a whole number, and this is none: 0100"),
+            ("check --horizon 1e2 t p c s", "--horizon wants a whole number, and this is none: 1e2"),
+            ("check --horizon 99999999999x t p c s", "--horizon wants a whole number, and this is none: 99999999999x"),
+            ("check --horizon 1 --room legs= t p c s", "--room wants TABLE=N: legs="),
+            ("check --horizon 1 --room=legs=01 t p c s", "--room wants TABLE=N: legs=01"),
+            ("check --horizon 1 --room legs t p c s", "--room wants TABLE=N: legs"),
+            ("check --horizon 1 --room leg=1 t p c s", "--room wants TABLE=N: leg=1"),
+            ("check --horizon 1 --room legs=1 --room legs=2 t p c s", "a table's room is given twice: legs=2"),
+            ("check --horizon 1 --curves o t p c s", "no option of check: --curves"),
+            ("check --horizon 1 --verbose t p c s", "no such option: --verbose"),
+            ("check --horizon 1 --verbose=1 t p c s", "no such option: --verbose=1"),
+            ("check --horizon 1 --json=1 t p c s", "this option takes no value: --json=1"),
+            ("check --horizon 1 -j t p c s", "no such option: -j"),
+            ("check --horizon 1 - - c s", "standard input is read once, and not for PROFILES too: -"),
+            ("check --horizon 1 t - c -- -", "standard input is read once, and not for SOLUTION too: -"),
+            ("energy --horizon 1 t p c s --curves -", "--curves wants a file, and standard output has the result: -"),
+            ("merge --horizon 1 t p c a b --earlier o", "an option is missing: --later"),
+            ("merge --horizon 1 t p c a --earlier o --later q", "wanted 5 files, given 4, missing: SECOND"),
+            ("row --file 1 t s", "an option is missing: --place"),
+            ("row --file 01 --place 0 t s", "--file wants a whole number, and this is none: 01"),
+            ("row --file 1 --place -1 t s", "--place wants a whole number, and this is none: -1"),
+            ("row --place 1 t s", "wanted 1 file, given 2, too many: s"),
+            ("row --file 2 --place 1 t", "wanted 2 files, given 1, missing: SOLUTION"),
+            ("--version me", "a word too many: me"),
+        ] {
+            let said = call(words).expect_err(words);
+            assert_eq!(said, CouldNotRun(format!("{why} (help: wagontulip --help)")), "{words}");
         }
     }
 }

@@ -43,9 +43,9 @@ pub fn lines(f: &Figures, horizon: u32) -> String {
     .concat()
 }
 
+/// The exact figures, the desk tool's doubles, the decimals as the words show them, and when the peaks are.
 pub fn values(object: Object, f: &Figures, horizon: u32) -> Object {
-    let quarter = |quarter: u32| within(horizon, quarter).map_or(String::from("null"), |quarter| quarter.to_string());
-    object
+    let figures = Object::new()
         .value("before_kj", f.before_kj)
         .value("drawn_kj", f.drawn_kj)
         .value("lost_kj", f.lost_kj)
@@ -56,8 +56,27 @@ pub fn values(object: Object, f: &Figures, horizon: u32) -> Object {
         .value("drawn_mwh", f.drawn_mwh)
         .value("lost_mwh", f.lost_mwh)
         .value("peak_drawn_mw", f.peak_drawn_mw)
-        .value("peak_before_quarter", quarter(f.peak_before_quarter))
-        .value("peak_drawn_quarter", quarter(f.peak_drawn_quarter))
+        .optional("peak_before_quarter", quarter(horizon, f.peak_before_quarter))
+        .optional("peak_drawn_quarter", quarter(horizon, f.peak_drawn_quarter))
+        .object("shown", shown(f, horizon));
+    object.object("energies", figures)
+}
+
+/// A peak's quarter, with its times.
+fn quarter(horizon: u32, quarter: u32) -> Option<String> {
+    let quarter = within(horizon, quarter)?;
+    let object = Object::new().value("number", quarter).text("from", &clock(QUARTER * quarter));
+    Some(object.text("to", &clock(QUARTER * (quarter + 1))).close())
+}
+
+fn shown(f: &Figures, horizon: u32) -> Object {
+    let peak = |kj: u64| within(horizon, 0).map(|_| decimals(kj, KJ_A_MW));
+    Object::new()
+        .text("before_mwh", &decimals(f.before_kj, KJ_A_MWH))
+        .text("drawn_mwh", &decimals(f.drawn_kj, KJ_A_MWH))
+        .text("lost_mwh", &decimals(f.lost_kj, KJ_A_MWH))
+        .optional_text("peak_before_mw", peak(f.peak_before_kj).as_deref())
+        .optional_text("peak_drawn_mw", peak(f.peak_drawn_kj).as_deref())
 }
 
 /// One line a second, the subnets' kW in order, one space between.
@@ -95,8 +114,11 @@ mod tests {
         let said = lines(&FIGURES, 100_000);
         assert!(said.contains("peak quarter before recuperation: 1234567 kJ, 1.371 MW, 07:15:00 to 07:30:00\n"), "{said}");
         assert!(said.ends_with("peak quarter drawn: 900000 kJ, 1.000 MW, 24:00:00 to 24:15:00\n"), "{said}");
-        let object = values(Object::new(), &FIGURES, QUARTER).close();
-        assert!(object.ends_with(r#""peak_before_quarter": 29, "peak_drawn_quarter": 96}"#), "{object}");
+        let object = values(Object::new(), &FIGURES, 100_000).close();
+        let quarters = r#""peak_before_quarter": {"number": 29, "from": "07:15:00", "to": "07:30:00"}, "peak_drawn_quarter": {"number": 96, "from": "24:00:00", "to": "24:15:00"}, "#;
+        assert!(object.contains(quarters), "{object}");
+        let shown = r#""shown": {"before_mwh": "1.500", "drawn_mwh": "1.000", "lost_mwh": "0.000", "peak_before_mw": "1.371", "peak_drawn_mw": "1.000"}}}"#;
+        assert!(object.ends_with(shown), "{object}");
     }
 
     #[test]
@@ -111,6 +133,7 @@ mod tests {
         let said = lines(&FIGURES, QUARTER - 1);
         assert_eq!(said.matches("no whole quarter hour within the horizon\n").count(), 2, "{said}");
         let object = values(Object::new(), &FIGURES, QUARTER - 1).close();
-        assert!(object.ends_with(r#""peak_before_quarter": null, "peak_drawn_quarter": null}"#), "{object}");
+        assert!(object.contains(r#""peak_before_quarter": null, "peak_drawn_quarter": null, "#), "{object}");
+        assert!(object.ends_with(r#""peak_before_mw": null, "peak_drawn_mw": null}}}"#), "{object}");
     }
 }

@@ -1,10 +1,13 @@
 //! Input files, read and never mapped: a mapped file can change while it is judged.
 
+use super::arguments::STANDARD;
 use super::sha256::Hash;
 use super::{printable, CouldNotRun};
 use std::fs;
 use std::io::{self, Read, Seek, SeekFrom};
+use std::os::unix::ffi::OsStrExt;
 use std::os::unix::fs::MetadataExt;
+use std::os::unix::io::AsFd;
 use std::path::{Path, PathBuf};
 
 pub struct Input {
@@ -13,22 +16,45 @@ pub struct Input {
     pub path: PathBuf,
     /// The whole file. Of one that is longer than a text may be, one byte more than that: it is refused for its length, whatever follows.
     pub text: Vec<u8>,
-    /// The file that has more than the text.
-    longer: Option<fs::File>,
+    /// Which file was read, also where standard input has no name.
+    pub identity: Identity,
+    longer: Option<Longer>,
+}
+
+/// A file that has more than its text, and where that goes on.
+struct Longer {
+    file: fs::File,
+    place: u64,
 }
 
 /// Device and number: the same for all names of one file.
 pub type Identity = (u64, u64);
 
 pub fn identity(path: &Path) -> Option<Identity> {
-    fs::metadata(path).ok().map(|data| (data.dev(), data.ino()))
+    fs::metadata(path).ok().map(|data| identity_of(&data))
+}
+
+pub fn identity_of(data: &fs::Metadata) -> Identity {
+    (data.dev(), data.ino())
 }
 
 impl Input {
     /// `most` is how many bytes a text may have.
     pub fn read(role: &'static str, path: &Path, most: usize) -> Result<Input, CouldNotRun> {
-        let (text, longer) = read(path, most).map_err(|why| CouldNotRun(format!("{role} {}: {why}", printable(path))))?;
-        Ok(Input { role, path: path.to_path_buf(), text, longer })
+        let opened = opened(path).map_err(|error| error.to_string());
+        let input = opened.and_then(|file| Input::of(role, path, file, most));
+        input.map_err(|why| CouldNotRun(format!("{role} {}: {why}", printable(path))))
+    }
+
+    /// From where the file stands, which is its start but for a standard input that another program has read from. At most one byte more than a text may
+    /// have. A device may have no end, so only a regular file may be longer.
+    fn of(role: &'static str, path: &Path, mut file: fs::File, most: usize) -> Result<Input, String> {
+        let data = file.metadata().map_err(|error| error.to_string())?;
+        let start = if data.is_file() { file.stream_position().map_err(|error| error.to_string())? } else { 0 };
+        let text = text(&file, data.len().saturating_sub(start), data.is_file(), most)?;
+        let place = start + text.len() as u64;
+        let longer = (text.len() > most).then(|| Longer { file, place });
+        Ok(Input { role, path: path.to_path_buf(), text, identity: identity_of(&data), longer })
     }
 
     /// Whether the text is the whole file.
@@ -36,8 +62,8 @@ impl Input {
         self.longer.is_none()
     }
 
-    pub fn name(&self) -> String {
-        self.path.to_string_lossy().into_owned()
+    pub fn name(&self) -> &[u8] {
+        self.path.as_os_str().as_bytes()
     }
 
     /// What it is, and its name.
@@ -48,33 +74,37 @@ impl Input {
     /// Bytes and SHA-256 of the whole file; what the text has not is read for it and not kept.
     pub fn evidence(&self) -> Result<(u64, String), CouldNotRun> {
         let mut hash = Hash::new().with(&self.text);
-        if let Some(mut file) = self.longer.as_ref() {
-            let read = file.seek(SeekFrom::Start(self.text.len() as u64)).and_then(|_| io::copy(&mut file, &mut hash));
+        if let Some(Longer { file, place }) = &self.longer {
+            let mut file = file;
+            let read = file.seek(SeekFrom::Start(*place)).and_then(|_| io::copy(&mut file, &mut hash));
             read.map_err(|error| CouldNotRun(format!("{}: {error}", self.told())))?;
         }
         Ok(hash.ended())
     }
 }
 
-/// At most one byte more than a text may have, and the file if it is longer than a text. A device may have no end, so only a regular file may be longer.
-fn read(path: &Path, most: usize) -> Result<(Vec<u8>, Option<fs::File>), String> {
-    let file = fs::File::open(path).map_err(|error| error.to_string())?;
-    let data = file.metadata().map_err(|error| error.to_string())?;
+/// Standard input goes on where it stands: it is not opened once more.
+fn opened(path: &Path) -> io::Result<fs::File> {
+    if path != Path::new(STANDARD) {
+        return fs::File::open(path);
+    }
+    Ok(fs::File::from(io::stdin().as_fd().try_clone_to_owned()?))
+}
+
+/// The text of a file that says it has so many bytes left, which only a regular one can know.
+fn text(file: &fs::File, left: u64, regular: bool, most: usize) -> Result<Vec<u8>, String> {
     let kept = most as u64 + 1;
-    let wanted = data.len().min(kept) as usize;
+    let wanted = left.min(kept) as usize;
     let mut text = Vec::new();
     text.try_reserve_exact(wanted).map_err(|error| error.to_string())?;
-    (&file).take(kept).read_to_end(&mut text).map_err(|error| error.to_string())?;
-    if data.is_file() && text.len() != wanted {
+    file.take(kept).read_to_end(&mut text).map_err(|error| error.to_string())?;
+    if regular && text.len() != wanted {
         return Err(format!("{} of {wanted} bytes were read", text.len()));
     }
-    if text.len() <= most {
-        return Ok((text, None));
-    }
-    if !data.is_file() {
+    if !regular && text.len() > most {
         return Err(format!("has more than {most} bytes and is no regular file"));
     }
-    Ok((text, Some(file)))
+    Ok(text)
 }
 
 #[cfg(test)]
@@ -93,5 +123,20 @@ mod tests {
         for input in inputs.iter().chain(&inputs) {
             assert_eq!(input.evidence().unwrap(), (3, hash.clone()));
         }
+    }
+
+    /// As a standard input may be: what was read before is no part of the text, nor of its evidence.
+    #[test]
+    fn a_file_is_read_from_where_it_stands() {
+        let path = std::env::temp_dir().join(format!("wagontulip-{}-standing", std::process::id()));
+        fs::write(&path, "before abc").unwrap();
+        let hash = String::from("ba7816bf8f01cfea414140de5dae2223b00361a396177a9cb410ff61f20015ad");
+        for (most, kept) in [(3, &b"abc"[..]), (0, b"a")] {
+            let mut file = fs::File::open(&path).unwrap();
+            file.seek(SeekFrom::Start(7)).unwrap();
+            let input = Input::of("solution", Path::new(STANDARD), file, most).unwrap();
+            assert_eq!((&input.text[..], input.evidence().unwrap()), (kept, (3, hash.clone())));
+        }
+        fs::remove_file(&path).unwrap();
     }
 }

@@ -9,7 +9,7 @@ impl Object {
         Object(String::from("{"))
     }
 
-    /// A value that is JSON already: a number, an array.
+    /// A value that is JSON already: a number, an array, `true`.
     pub fn value(mut self, key: &str, value: impl Display) -> Object {
         let comma = if self.0.len() > 1 { ", " } else { "" };
         // Writing to a string cannot fail.
@@ -19,6 +19,35 @@ impl Object {
 
     pub fn text(self, key: &str, text: &str) -> Object {
         self.value(key, string(text))
+    }
+
+    /// Bytes that are UTF-8 are a text; others stand under a key of their own, which ends in `_bytes`, where each byte is the character of its number. So no
+    /// two are spelled alike.
+    pub fn bytes(self, key: &str, bytes: &[u8]) -> Object {
+        match std::str::from_utf8(bytes) {
+            Ok(text) => self.text(key, text),
+            Err(_) => self.text(&format!("{key}_bytes"), &bytes.iter().map(|byte| char::from(*byte)).collect::<String>()),
+        }
+    }
+
+    pub fn object(self, key: &str, object: Object) -> Object {
+        self.value(key, object.close())
+    }
+
+    pub fn texts<'a>(self, key: &str, texts: impl Iterator<Item = &'a str>) -> Object {
+        self.value(key, array(texts.map(string)))
+    }
+
+    /// What there may be none of.
+    pub fn optional(self, key: &str, value: Option<impl Display>) -> Object {
+        match value {
+            Some(value) => self.value(key, value),
+            None => self.value(key, "null"),
+        }
+    }
+
+    pub fn optional_text(self, key: &str, text: Option<&str>) -> Object {
+        self.optional(key, text.map(string))
     }
 
     pub fn close(mut self) -> String {
@@ -57,6 +86,20 @@ mod tests {
             Object::new().text("a\"b", "c\\d\ne").value("n", -3).value("l", array([String::from("1"), String::from("2")].into_iter()));
         assert_eq!(object.close(), r#"{"a\"b": "c\\d\u000ae", "n": -3, "l": [1, 2]}"#);
         assert_eq!(Object::new().close(), "{}");
+        let object = Object::new().object("o", Object::new().value("n", 1)).texts("t", ["a", "b"].into_iter());
+        let object = object.optional("some", Some(2)).optional("none", None::<u8>).optional_text("text", Some("c"));
+        assert_eq!(object.close(), r#"{"o": {"n": 1}, "t": ["a", "b"], "some": 2, "none": null, "text": "c"}"#);
+    }
+
+    /// U+FFFD, which stands for a byte that is no UTF-8 elsewhere, is a text as any, and so is what a byte is spelled as.
+    #[test]
+    fn no_two_names_are_spelled_alike() {
+        let spelled = |bytes: &[u8]| Object::new().bytes("name", bytes).close();
+        assert_eq!(spelled("a\u{fffd}".as_bytes()), r#"{"name": "a\ufffd"}"#);
+        assert_eq!(spelled(b"a\xff"), r#"{"name_bytes": "a\u00ff"}"#);
+        assert_eq!(spelled("a\u{ff}".as_bytes()), r#"{"name": "a\u00ff"}"#);
+        assert_eq!(spelled(b"\xc3\xbf\xff"), r#"{"name_bytes": "\u00c3\u00bf\u00ff"}"#);
+        assert_eq!(spelled(br"a\u00ff"), r#"{"name": "a\\u00ff"}"#);
     }
 
     #[test]

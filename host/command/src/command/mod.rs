@@ -3,16 +3,18 @@
 mod arguments;
 mod input;
 mod output;
+mod place;
 mod run;
 mod told;
 
 mod energies;
+pub mod identity;
 mod json;
 mod refusal;
 mod sha256;
 mod violation;
 
-use std::ffi::OsStr;
+use std::ffi::{OsStr, OsString};
 use std::io::Write;
 use std::os::unix::ffi::OsStrExt;
 use std::panic;
@@ -29,21 +31,37 @@ pub fn main() -> ExitCode {
     match ended {
         Ok(status) => ExitCode::from(status),
         Err(CouldNotRun(why)) => {
-            // Where nothing can be said, the status alone says it.
-            let _ = writeln!(std::io::stderr(), "wagontulip: {why}");
+            say_none(&why);
             ExitCode::from(told::COULD_NOT_RUN)
         }
     }
 }
 
-/// Does what the words ask for, prints the result, and gives its status. A result that cannot be printed whole is none.
+/// Why there is no answer, on the error stream, and as an object where one is asked for. Where nothing can be said, the status alone says it; after a part
+/// of a result nothing more is printed.
+fn say_none(why: &str) {
+    let _ = writeln!(std::io::stderr(), "wagontulip: {why}");
+    let words: Vec<OsString> = std::env::args_os().skip(1).collect();
+    if arguments::asks_for_json(&words) && !why.starts_with(NOT_PRINTED) {
+        let _ = printed(told::none_object(words.first().map(OsString::as_os_str), why).as_bytes());
+    }
+}
+
+const NOT_PRINTED: &str = "the result could not be printed";
+
+/// Does what the words ask for, prints the result, gives the outputs their names, and gives the status. A result that cannot be printed whole is none, and
+/// then nothing is written either.
 fn done() -> Result<u8, CouldNotRun> {
-    let result = run::run(&arguments::read(std::env::args_os().skip(1).collect())?)?;
+    let ran = run::run(&arguments::read(std::env::args_os().skip(1).collect())?)?;
+    printed(&ran.told.text).map_err(|error| CouldNotRun(format!("{NOT_PRINTED}: {error}")))?;
+    ran.outputs.named()?;
+    Ok(ran.told.status)
+}
+
+fn printed(text: &[u8]) -> std::io::Result<()> {
     let mut out = std::io::stdout();
-    out.write_all(&result.text)
-        .and_then(|()| out.flush())
-        .map_err(|error| CouldNotRun(format!("the result could not be printed: {error}")))?;
-    Ok(result.status)
+    out.write_all(text)?;
+    out.flush()
 }
 
 /// Seconds since the horizon's start as hours, minutes and seconds; a day may go past midnight.

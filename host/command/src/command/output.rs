@@ -1,36 +1,60 @@
-//! Output files, written whole or not at all: to a temporary file beside the named one, then renamed.
+//! Output files: which may be written, and their texts.
 
-use super::input::{identity, Input};
+use super::input::{identity, identity_of, Identity, Input};
 use super::sha256::Hash;
 use super::{printable, CouldNotRun};
-use std::ffi::OsString;
 use std::fs;
-use std::io::{self, Write};
+use std::io;
+use std::os::unix::ffi::OsStrExt;
+use std::os::unix::io::AsFd;
 use std::path::{Path, PathBuf};
 
-/// Before anything is judged: no output is an input, or another output, under whatever name, and none is a folder or a device.
+/// Before anything is judged: no output is an input, another output, or the file that the result is printed to, under whatever name, and none is a link, a
+/// folder or a device.
 pub fn judge(outputs: &[&Path], inputs: &[Input]) -> Result<(), CouldNotRun> {
     for (place, output) in outputs.iter().enumerate() {
-        let wrong = |why: &str| Err(CouldNotRun(format!("output {}: {why}", printable(output))));
-        if matches!(fs::metadata(output), Ok(data) if !data.is_file()) {
-            return wrong("is no regular file");
-        }
-        let target = match target(output) {
-            Some(target) => target,
-            None => return wrong("its folder is not there"),
-        };
-        if inputs.iter().any(|input| same(&target, &input.path)) {
-            return wrong("is an input");
-        }
-        if outputs[..place].iter().any(|earlier| same(&target, earlier)) {
-            return wrong("is named twice");
+        if let Some(why) = fault(output, &outputs[..place], inputs) {
+            return Err(CouldNotRun(format!("output {}: {why}", printable(output))));
         }
     }
     Ok(())
 }
 
+/// Why an output cannot be written, if the outputs before it can.
+fn fault(output: &Path, before: &[&Path], inputs: &[Input]) -> Option<&'static str> {
+    match fs::symlink_metadata(output) {
+        Ok(data) if data.is_symlink() => return Some("is a symbolic link"),
+        Ok(data) if !data.is_file() => return Some("is no regular file"),
+        _ if !names_a_file(output) => return Some("is no name of a file"),
+        _ => (),
+    }
+    let target = match target(output) {
+        Some(target) => target,
+        None => return Some("its folder is not there"),
+    };
+    let there = identity(&target);
+    if inputs.iter().any(|input| there == Some(input.identity)) {
+        return Some("is an input");
+    }
+    if there.is_some() && there == printed_to() {
+        return Some("is where the result is printed");
+    }
+    before.iter().any(|earlier| same(&target, earlier)).then_some("is named twice")
+}
+
+/// The file that standard output is, which a rename would take from under the result.
+fn printed_to() -> Option<Identity> {
+    let out = fs::File::from(io::stdout().as_fd().try_clone_to_owned().ok()?);
+    out.metadata().ok().map(|data| identity_of(&data))
+}
+
+/// `o/` and `o/.` are names of a folder.
+fn names_a_file(path: &Path) -> bool {
+    path.file_name().map_or(false, |name| path.as_os_str().as_bytes().ends_with(name.as_bytes()))
+}
+
 /// The name with its folder's links followed, which a file that is not there yet has too.
-fn target(path: &Path) -> Option<PathBuf> {
+pub fn target(path: &Path) -> Option<PathBuf> {
     let folder = match path.parent() {
         Some(folder) if folder != Path::new("") => folder,
         _ => Path::new("."),
@@ -52,50 +76,12 @@ pub struct Output<'a> {
 }
 
 impl Output<'_> {
-    pub fn name(&self) -> String {
-        self.path.to_string_lossy().into_owned()
+    pub fn name(&self) -> &[u8] {
+        self.path.as_os_str().as_bytes()
     }
 
     /// Bytes and SHA-256 of the text.
     pub fn evidence(&self) -> (u64, String) {
         Hash::new().with(&self.text).ended()
     }
-}
-
-/// Every text is on the disk before the first file gets its name.
-pub fn write(outputs: &[Output]) -> Result<(), CouldNotRun> {
-    let mut temporary = Vec::new();
-    let written = outputs.iter().try_for_each(|output| {
-        let path = beside(output.path);
-        temporary.push(path.clone());
-        write_new(&path, &output.text).map_err(|error| failed(output, &error))
-    });
-    let named = written.and_then(|()| {
-        let mut pairs = temporary.iter().zip(outputs);
-        pairs.try_for_each(|(path, output)| fs::rename(path, output.path).map_err(|error| failed(output, &error)))
-    });
-    if named.is_err() {
-        for path in &temporary {
-            // One that was renamed, or never made, is not there.
-            let _ = fs::remove_file(path);
-        }
-    }
-    named
-}
-
-fn failed(output: &Output, error: &io::Error) -> CouldNotRun {
-    CouldNotRun(format!("output {}: {error}", printable(output.path)))
-}
-
-fn beside(path: &Path) -> PathBuf {
-    let mut name = OsString::from(".");
-    name.push(path.file_name().unwrap_or_default());
-    name.push(format!(".{}.part", std::process::id()));
-    path.with_file_name(name)
-}
-
-fn write_new(path: &Path, text: &[u8]) -> io::Result<()> {
-    let mut file = fs::OpenOptions::new().write(true).create_new(true).open(path)?;
-    file.write_all(text)?;
-    file.sync_all()
 }

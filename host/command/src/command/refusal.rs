@@ -1,7 +1,9 @@
-//! A refusal in words: the file, the line with its number, the place, and the row.
+//! A refusal, in words and as one object: the file, the line with its number, the place, and the row.
 
 use super::escaped;
 use super::input::Input;
+use super::json::Object;
+use super::told::file_object;
 use wagontulip::{row_at, File, Refusal, Unknown};
 
 /// A line may be a whole text: more is cut.
@@ -22,6 +24,26 @@ pub fn told(refusal: &Refusal, inputs: &[Input]) -> Result<String, Unknown> {
     let line = Line::at(&input.text, place);
     let shown = row(refusal, &input.text)?.map_or_else(|| line.about(), row_shown);
     Ok(format!("{head}, line: {}\n{shown}", line.number))
+}
+
+/// The same as one object: where it is, then what it means and what is shown of it.
+pub fn object(refusal: &Refusal, inputs: &[Input]) -> Result<Object, Unknown> {
+    let input = usize::from(refusal.file.number()).checked_sub(1).map(|place| &inputs[place]);
+    let file = file_object(refusal.file.number(), input);
+    let object = Object::new().value("number", refusal.reason.number()).object("file", file).value("place", refusal.place);
+    let place = refusal.place as usize;
+    let meaning = refusal.reason.meaning();
+    let text = match input {
+        None => return Ok(object.text("meaning", meaning)),
+        Some(input) if place >= input.text.len() => return Ok(object.value("end_of_text", true).text("meaning", meaning)),
+        Some(input) => &input.text,
+    };
+    let line = Line::at(text, place);
+    let object = object.value("line", line.number);
+    Ok(match row(refusal, text)? {
+        Some(row) => object.text("meaning", meaning).bytes("row", &row[..row.len().min(SHOWN)]).value("length", row.len()),
+        None => line.object(object.value("column", line.byte).text("meaning", meaning)),
+    })
 }
 
 /// A CSV row is cut out by the library, which knows a draft and a solution: any CSV text may stand for either.
@@ -54,13 +76,21 @@ impl Line<'_> {
         Line { number, byte: place - start + 1, bytes: &text[start..end] }
     }
 
-    /// The line, or of a long one the bytes about the place, and below them where it is.
+    /// From where and up to where the line is shown: whole, or of a long one the bytes about the place.
+    fn shown(&self) -> (usize, usize) {
+        let first = if self.bytes.len() > SHOWN { self.byte.saturating_sub(SHOWN / 2) } else { 0 };
+        (first, self.bytes.len().min(first + SHOWN))
+    }
+
+    fn object(&self, object: Object) -> Object {
+        let (first, last) = self.shown();
+        object.bytes("text", &self.bytes[first..last]).value("text_from", first + 1).value("length", self.bytes.len())
+    }
+
+    /// What is shown of the line, and below it where the place is.
     fn about(&self) -> String {
-        let (first, head) = match self.byte.saturating_sub(SHOWN / 2) {
-            first if first > 0 && self.bytes.len() > SHOWN => (first, format!("text, from byte {} of the line: ", first + 1)),
-            _ => (0, String::from("text: ")),
-        };
-        let last = self.bytes.len().min(first + SHOWN);
+        let (first, last) = self.shown();
+        let head = if first > 0 { format!("text, from byte {} of the line: ", first + 1) } else { String::from("text: ") };
         let before = escaped(&self.bytes[first..self.byte - 1]);
         let mark = head.len() + before.len();
         format!("{head}{before}{}\n{:mark$}^\n", escaped(&self.bytes[self.byte - 1..last]), "")
@@ -97,6 +127,15 @@ mod tests {
         assert_eq!(about(1_000, 999), (String::from("text, from byte 921 of the line"), SHOWN / 2, SHOWN / 2 - 1));
         assert_eq!(about(1_000, 3), (String::from("text"), SHOWN, 3));
         assert_eq!(about(SHOWN, 130), (String::from("text"), SHOWN, 130));
+    }
+
+    #[test]
+    fn a_long_line_is_cut_in_its_object() {
+        let line = [&[b'x'; 500][..], b"\xff", &[b'x'; 499]].concat();
+        let said = Line::at(&line, 500).object(Object::new()).close();
+        assert!(said.starts_with(r#"{"text_bytes": "xx"#) && said.contains(r"x\u00ffx"), "{said}");
+        assert!(said.ends_with(r#"xx", "text_from": 422, "length": 1000}"#), "{said}");
+        assert_eq!(Line::at(b"ab\n", 1).object(Object::new()).close(), r#"{"text": "ab", "text_from": 1, "length": 2}"#);
     }
 
     #[test]

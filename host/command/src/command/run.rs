@@ -1,12 +1,12 @@
 //! What a call does.
 
-use super::arguments::{Call, Work, USAGE};
+use super::arguments::{help, Call, Horizon, Number, Rows, Work};
+use super::identity::identity;
 use super::input::Input;
-use super::json::Object;
 use super::output::{self, Output};
-use super::told::{evidence, Judged, Told, ACCEPTED, VERSION};
+use super::place::Waiting;
+use super::told::{row_object, Judged, Told, ACCEPTED};
 use super::{energies, escaped, CouldNotRun};
-use crate::LINKED;
 use std::path::{Path, PathBuf};
 use wagontulip::{row_at, Answer, Checker, File, Files, NoRoom, Rooms, Table, Unknown, LABEL};
 
@@ -22,15 +22,22 @@ impl From<NoRoom> for CouldNotRun {
     }
 }
 
-pub fn run(call: &Call) -> Result<Told, CouldNotRun> {
-    match &call.work {
-        Work::Check { horizon, files } => check(call, *horizon, files),
-        Work::Energy { horizon, files, curves } => energy(call, *horizon, files, curves.as_deref()),
-        Work::Merge { horizon, files, earlier, later } => merge(call, *horizon, files, [earlier, later]),
-        Work::Row { file, place, files } => row(call, *file, *place, files),
-        Work::Help => Ok(plain(USAGE)),
-        Work::Version => Ok(plain(&format!("wagontulip {VERSION} ({LINKED})\n"))),
-    }
+/// A result, and the outputs that get their names when it was printed.
+pub struct Ran {
+    pub told: Told,
+    pub outputs: Waiting,
+}
+
+pub fn run(call: &Call) -> Result<Ran, CouldNotRun> {
+    let told = match &call.work {
+        Work::Energy { horizon, files, curves } => return energy(call, horizon, files, curves.as_deref()),
+        Work::Merge { horizon, files, earlier, later } => return merge(call, horizon, files, [earlier, later]),
+        Work::Check { horizon, files } => check(call, horizon, files)?,
+        Work::Row { place, rows } => row(call, place, rows)?,
+        Work::Help(verb) => plain(&help(*verb)),
+        Work::Version => plain(&identity().lines()),
+    };
+    Ok(Ran { told, outputs: Waiting::nothing() })
 }
 
 fn plain(text: &str) -> Told {
@@ -62,60 +69,65 @@ fn texts(inputs: &[Input]) -> Files<'_> {
     Files { timetable: &inputs[0].text, profiles: &inputs[1].text, constraints: &inputs[2].text }
 }
 
-fn check(call: &Call, horizon: u32, files: &[PathBuf]) -> Result<Told, CouldNotRun> {
+fn check(call: &Call, horizon: &Horizon, files: &[PathBuf]) -> Result<Told, CouldNotRun> {
     let inputs = inputs(&ROLES, files)?;
     let mut checker = checker(call)?;
-    let answer = checker.check(horizon, &texts(&inputs), &inputs[3].text)?;
-    let result = Judged { horizon, answer, inputs: &inputs, outputs: &[], room: &checker.room };
+    let answer = checker.check(horizon.value, &texts(&inputs), &inputs[3].text)?;
+    let result = Judged { command: "check", horizon, answer, inputs: &inputs, outputs: &[], room: &checker.room };
     result.told(call.json, |()| String::new(), |object, ()| object)
 }
 
-fn energy(call: &Call, horizon: u32, files: &[PathBuf], curves: Option<&Path>) -> Result<Told, CouldNotRun> {
+fn energy(call: &Call, horizon: &Horizon, files: &[PathBuf], curves: Option<&Path>) -> Result<Ran, CouldNotRun> {
+    let h = horizon.value;
     let inputs = inputs(&ROLES, files)?;
     output::judge(&curves.into_iter().collect::<Vec<&Path>>(), &inputs)?;
     let mut checker = checker(call)?;
     let mut outputs = Vec::new();
-    let answer = checker.energy(horizon, &texts(&inputs), &inputs[3].text)?.map(|energies| {
-        outputs.extend(curves.map(|path| Output { role: "curves", path, text: energies::curve_lines(&energies.curves, horizon) }));
+    let answer = checker.energy(h, &texts(&inputs), &inputs[3].text)?.map(|energies| {
+        outputs.extend(curves.map(|path| Output { role: "curves", path, text: energies::curve_lines(&energies.curves, h) }));
         energies.figures
     });
-    output::write(&outputs)?;
-    let result = Judged { horizon, answer, inputs: &inputs, outputs: &outputs, room: &checker.room };
-    result.told(call.json, |figures| energies::lines(&figures, horizon), |object, figures| energies::values(object, &figures, horizon))
+    let result = Judged { command: "energy", horizon, answer, inputs: &inputs, outputs: &outputs, room: &checker.room };
+    let told = result.told(call.json, |figures| energies::lines(&figures, h), |object, figures| energies::values(object, &figures, h))?;
+    Ok(Ran { told, outputs: Waiting::written(&outputs)? })
 }
 
 /// Both texts are made before either is written.
-fn merge(call: &Call, horizon: u32, files: &[PathBuf], [earlier, later]: [&Path; 2]) -> Result<Told, CouldNotRun> {
+fn merge(call: &Call, horizon: &Horizon, files: &[PathBuf], [earlier, later]: [&Path; 2]) -> Result<Ran, CouldNotRun> {
     let inputs = inputs(&MERGE_ROLES, files)?;
     output::judge(&[earlier, later], &inputs)?;
     let (files, first, second) = (texts(&inputs), &inputs[3].text, &inputs[4].text);
     let mut checker = checker(call)?;
     let mut outputs = Vec::new();
     let mut keep = |role, path, text: &[u8]| outputs.push(Output { role, path, text: text.to_vec() });
-    let mut answer = checker.merge_earlier(horizon, &files, first, second)?.map(|text| keep("merged, earlier", earlier, text));
+    let mut answer = checker.merge_earlier(horizon.value, &files, first, second)?.map(|text| keep("merged, earlier", earlier, text));
     if answer == Answer::Accepted(()) {
-        answer = checker.merge_later(horizon, &files, first, second)?.map(|text| keep("merged, later", later, text));
+        answer = checker.merge_later(horizon.value, &files, first, second)?.map(|text| keep("merged, later", later, text));
     }
     if answer != Answer::Accepted(()) {
         outputs.clear();
     }
-    output::write(&outputs)?;
-    let result = Judged { horizon, answer, inputs: &inputs, outputs: &outputs, room: &checker.room };
-    result.told(call.json, |()| String::new(), |object, ()| object)
+    let result = Judged { command: "merge", horizon, answer, inputs: &inputs, outputs: &outputs, room: &checker.room };
+    let told = result.told(call.json, |()| String::new(), |object, ()| object)?;
+    Ok(Ran { told, outputs: Waiting::written(&outputs)? })
 }
 
 /// A row is shown, not judged: the status is 0, also where none starts there.
-fn row(call: &Call, file: u8, place: u32, files: &[PathBuf]) -> Result<Told, CouldNotRun> {
-    let inputs = inputs(&["timetable", "solution"], files)?;
-    let row = row_at(&inputs[0].text, &inputs[1].text, file, place)?;
-    let input = if file == File::Solution.number() { &inputs[1] } else { &inputs[0] };
-    if !input.is_whole() && row.map_or(false, |row| place as usize + row.len() == input.text.len()) {
+fn row(call: &Call, place: &Number<u32>, rows: &Rows) -> Result<Told, CouldNotRun> {
+    let (file, inputs) = match rows {
+        Rows::Numbered { file, files } => (Some(file), inputs(&["timetable", "solution"], files)?),
+        Rows::Of(files) => (None, inputs(&["CSV file"], files)?),
+    };
+    // Any CSV text may stand for the draft.
+    let number = file.map_or(File::Timetable.number(), |file| file.value);
+    let solution = inputs.get(1).unwrap_or(&inputs[0]);
+    let row = row_at(&inputs[0].text, &solution.text, number, place.value)?;
+    let input = if number == File::Solution.number() { solution } else { &inputs[0] };
+    if !input.is_whole() && row.map_or(false, |row| place.value as usize + row.len() == input.text.len()) {
         return Err(CouldNotRun(format!("{}: the row goes on past the length of a text", input.told())));
     }
     if call.json {
-        let object = Object::new().text("label", LABEL).value("file", file).value("place", place);
-        let object = object.text("row", &String::from_utf8_lossy(row.unwrap_or_default())).value("length", row.map_or(0, <[u8]>::len));
-        return Ok(plain(&format!("{}\n", evidence(object, &inputs)?.close())));
+        return Ok(plain(&row_object(file, place, row, &inputs)?));
     }
     let shown = row.map_or(String::from("no row starts there"), |row| format!("row: {}", escaped(row)));
     Ok(plain(&format!("{LABEL}\n{shown}\n")))

@@ -1,18 +1,22 @@
-//! An answer as it is printed: in words, or as one object.
+//! An answer as it is printed: in words, or as one object, which docs/schema describes.
 
+use super::arguments::{Horizon, Number};
+use super::identity::identity;
 use super::input::Input;
 use super::json::{array, Object};
 use super::output::Output;
 use super::{printable, refusal, violation, CouldNotRun};
-use crate::LINKED;
-use wagontulip::{Answer, Counts, Room, Violation, LABEL};
+use std::ffi::OsStr;
+use std::fmt::Display;
+use wagontulip::{Answer, Counts, File, Room, Violation, LABEL};
 
 pub const ACCEPTED: u8 = 0;
 pub const VIOLATED: u8 = 1;
 pub const REFUSED: u8 = 2;
 pub const COULD_NOT_RUN: u8 = 3;
 
-pub const VERSION: &str = env!("CARGO_PKG_VERSION");
+/// The edition of docs/schema/answer-1.json, which the tests hold every object to. A member that is added, taken away or changed makes another.
+const SCHEMA: u32 = 1;
 
 /// What is printed, and the exit status.
 pub struct Told {
@@ -22,7 +26,8 @@ pub struct Told {
 
 /// An answer with all that its words and its evidence need.
 pub struct Judged<'a, T> {
-    pub horizon: u32,
+    pub command: &'static str,
+    pub horizon: &'a Horizon,
     pub answer: Answer<T>,
     pub inputs: &'a [Input],
     pub outputs: &'a [Output<'a>],
@@ -58,33 +63,110 @@ impl<T: Copy> Judged<'_, T> {
     }
 
     fn object(&self, word: &str, values: impl Fn(Object, T) -> Object) -> Result<String, CouldNotRun> {
-        let object = Object::new().text("label", LABEL).text("answer", word);
+        let object = head(Some(self.command), word).value("horizon", whole(&self.horizon.given));
         let object = match self.answer {
-            Answer::Accepted(given) => values(object, given),
-            Answer::Violated(violation) => object
-                .value("kind", violation.kind.number())
-                .value("position", violation.position)
-                .value("inequality", violation.inequality)
-                .value("shortfall", violation.shortfall)
-                .value("file", violation.file.number()),
-            Answer::Refused(refusal) => {
-                object.value("number", refusal.reason.number()).value("file", refusal.file.number()).value("place", refusal.place)
+            Answer::Accepted(given) => values(counted(object, &self.room.counts()), given),
+            Answer::Violated(violation) => {
+                let file = file_object(violation.file.number(), Some(self.input_of(&violation)));
+                counted(object, &self.room.counts()).object("violation", violation::object(self.room, &violation, file))
             }
+            Answer::Refused(refusal) => uncounted(object).object("refusal", refusal::object(&refusal, self.inputs)?),
         };
-        let outputs = array(self.outputs.iter().map(|output| file_object(&output.name(), output.evidence())));
-        let object = evidence(object.value("horizon", self.horizon), self.inputs)?.value("outputs", outputs);
-        Ok(format!("{}\n", object.close()))
+        let outputs = self.outputs.iter().map(|output| evidence_of(output.role, output.name(), output.evidence()));
+        Ok(line(evidence(object, self.inputs)?.value("outputs", array(outputs))))
+    }
+}
+
+/// A row as one object: where it was looked for, by a file's number or in the one file, and the whole of it, where one starts there.
+pub fn row_object(file: Option<&Number<u8>>, place: &Number<u32>, row: Option<&[u8]>, inputs: &[Input]) -> Result<String, CouldNotRun> {
+    let file = match file {
+        Some(file) => {
+            let numbered = inputs.iter().zip([File::Timetable, File::Solution]);
+            let looked_in = numbered.into_iter().find(|(_, known)| known.number().to_string() == file.given);
+            file_object(whole(&file.given), looked_in.map(|(input, _)| input))
+        }
+        None => file_object("null", inputs.first()),
+    };
+    let object = head(Some("row"), "row").object("file", file).value("place", whole(&place.given));
+    let object = match row {
+        Some(row) => object.bytes("row", row).value("length", row.len()),
+        None => object.value("row", "null"),
+    };
+    Ok(line(evidence(object, inputs)?))
+}
+
+/// That there is no answer, and why.
+pub fn none_object(verb: Option<&OsStr>, why: &str) -> String {
+    let command = ["check", "energy", "merge", "row"].into_iter().find(|command| verb == Some(OsStr::new(command)));
+    let object = head(command, "none").text("reason", why);
+    line(built(object))
+}
+
+fn line(object: Object) -> String {
+    format!("{}\n", object.close())
+}
+
+/// What every object begins with.
+fn head(command: Option<&str>, answer: &str) -> Object {
+    Object::new().text("label", LABEL).value("schema", SCHEMA).optional_text("command", command).text("answer", answer)
+}
+
+/// A number of the call as it was given. One past 32 bits is a text of its digits: many readers keep no number of any length.
+fn whole(given: &str) -> String {
+    match given.parse::<u32>() {
+        Ok(number) => number.to_string(),
+        Err(_) => format!("\"{given}\""),
+    }
+}
+
+fn counted(object: Object, counts: &Counts) -> Object {
+    let read = Object::new()
+        .value("legs", counts.legs)
+        .value("configurations", counts.configurations)
+        .value("profiles", counts.profiles)
+        .value("samples", counts.samples)
+        .value("constraints", counts.constraints)
+        .value("tracks", counts.tracks);
+    object.object("read", read).value("nothing_tested", counts.legs == 0 && counts.constraints == 0)
+}
+
+/// A refusal leaves nothing to count, and is no verdict over anything.
+fn uncounted(object: Object) -> Object {
+    object.value("read", "null").value("nothing_tested", "null")
+}
+
+/// A file by its number, and where it is one of the inputs, what it is and its name.
+pub fn file_object(number: impl Display, input: Option<&Input>) -> Object {
+    let object = Object::new().value("number", number);
+    match input {
+        Some(input) => object.text("role", input.role).bytes("name", input.name()),
+        None => object,
     }
 }
 
 /// For the release engineer's signature.
-pub fn evidence(object: Object, inputs: &[Input]) -> Result<Object, CouldNotRun> {
-    let inputs: Result<Vec<String>, CouldNotRun> = inputs.iter().map(|input| Ok(file_object(&input.name(), input.evidence()?))).collect();
-    Ok(object.text("version", &format!("{VERSION} ({LINKED})")).value("inputs", array(inputs?.into_iter())))
+fn evidence(object: Object, inputs: &[Input]) -> Result<Object, CouldNotRun> {
+    let inputs: Result<Vec<String>, CouldNotRun> =
+        inputs.iter().map(|input| Ok(evidence_of(input.role, input.name(), input.evidence()?))).collect();
+    Ok(built(object).value("inputs", array(inputs?.into_iter())))
 }
 
-fn file_object(name: &str, (bytes, sha256): (u64, String)) -> String {
-    Object::new().text("name", name).value("bytes", bytes).text("sha256", &sha256).close()
+fn evidence_of(role: &str, name: &[u8], (bytes, sha256): (u64, String)) -> String {
+    Object::new().text("role", role).bytes("name", name).value("bytes", bytes).text("sha256", &sha256).close()
+}
+
+/// What gave the answer.
+fn built(object: Object) -> Object {
+    let identity = identity();
+    let build = Object::new()
+        .text("version", identity.version)
+        .text("library", identity.library)
+        .optional_text("commit", identity.commit)
+        .text("tree", identity.tree)
+        .text("toolchain", identity.toolchain)
+        .text("archive_sha256", identity.archive_sha256)
+        .optional_text("program_sha256", identity.program_sha256.as_deref());
+    object.text("version", &format!("{} ({})", identity.version, identity.library)).object("build", build)
 }
 
 /// How much was read: an acceptance of nothing must not look like one of something.
@@ -101,4 +183,32 @@ fn accepted(counts: &Counts) -> String {
         words.push_str("there are no constraints: no inequality was looked at\n");
     }
     words
+}
+
+#[cfg(test)]
+mod tests {
+    use super::*;
+
+    #[test]
+    fn a_number_is_shown_as_it_was_given() {
+        let shown = ["0", "100", "4294967295", "4294967296", "9007199254740993"].map(whole);
+        assert_eq!(shown, ["0", "100", "4294967295", "\"4294967296\"", "\"9007199254740993\""]);
+    }
+
+    #[test]
+    fn nothing_tested_is_no_leg_and_no_constraint() {
+        let counts = Counts { legs: 1, configurations: 1, profiles: 1, samples: 1, constraints: 0, tracks: 1 };
+        let said = |counts: &Counts| counted(Object::new(), counts).close();
+        assert!(said(&counts).ends_with(r#""nothing_tested": false}"#));
+        assert!(said(&Counts { legs: 0, configurations: 0, ..counts }).ends_with(r#""nothing_tested": true}"#));
+    }
+
+    #[test]
+    fn no_answer_has_a_reason() {
+        let said = none_object(Some(OsStr::new("check")), "a: b");
+        let start =
+            r#"{"label": "no violation shown is not no violation", "schema": 1, "command": "check", "answer": "none", "reason": "a: b", "#;
+        assert!(said.starts_with(start), "{said}");
+        assert!(none_object(Some(OsStr::new("judge")), "").contains(r#""command": null, "#));
+    }
 }

@@ -1,6 +1,7 @@
-//! A violation in words, from the tables that the library leaves as read: document 01's numbers alone tell a planner little.
+//! A violation, in words and as one object, from the tables that the library leaves as read: document 01's numbers alone tell a planner little.
 
-use super::time;
+use super::json::{array, Object};
+use super::{clock, time};
 use std::fmt;
 use wagontulip::{File, Kind, Room, Violation, CONFIGURATION, CONSTRAINT, LEG};
 
@@ -18,6 +19,22 @@ impl Leg {
     fn arrival(&self) -> u32 {
         self.chosen[0] + self.chosen[1]
     }
+
+    fn object(&self) -> Object {
+        let [leg, train, track, start, end] = self.ids;
+        Object::new()
+            .value("leg", leg)
+            .value("train", train)
+            .value("track", track)
+            .value("start_station", start)
+            .value("end_station", end)
+            .object("departure", time_object(self.departure()))
+            .object("arrival", time_object(self.arrival()))
+    }
+}
+
+fn time_object(seconds: u32) -> Object {
+    Object::new().value("seconds", seconds).text("clock", &clock(seconds))
 }
 
 impl fmt::Display for Leg {
@@ -32,13 +49,30 @@ impl fmt::Display for Leg {
 pub fn told(room: &Room, violation: &Violation, file: &str) -> String {
     let kind = violation.kind;
     let head = format!("violated: {} (kind {}), position {}", name(kind), kind.number(), violation.position);
-    let choices = if violation.file == File::SecondSolution { &room.second_choices } else { &room.choices };
     let said = match list(kind) {
         Some(list) => format!("{head} of {list}, inequality {}: {}", violation.inequality, formula(violation)),
         None => format!("{head}, inequality {}", violation.inequality),
     };
-    let told = if kind == Kind::NotOffered { not_offered(room, choices, violation) } else { unkept(room, choices, violation) };
+    let told = if kind == Kind::NotOffered { NotOffered::of(room, violation).told() } else { Unkept::of(room, violation).told(violation) };
     format!("{said}\nfile: {file}\n{told}")
+}
+
+/// The same as one object: the numbers and the legs, then what they mean.
+pub fn object(room: &Room, violation: &Violation, file: Object) -> Object {
+    let object = Object::new()
+        .value("kind", violation.kind.number())
+        .value("position", violation.position)
+        .value("inequality", violation.inequality)
+        .value("shortfall", violation.shortfall)
+        .object("file", file);
+    match list(violation.kind) {
+        Some(list) => Unkept::of(room, violation).object(object, violation, list),
+        None => NotOffered::of(room, violation).object(object, violation.kind),
+    }
+}
+
+fn legs_object<const N: usize>(object: Object, legs: [&Leg; N], kind: Kind) -> Object {
+    object.value("legs", array(legs.iter().map(|leg| leg.object().close()))).text("kind_name", name(kind))
 }
 
 fn name(kind: Kind) -> &'static str {
@@ -75,7 +109,9 @@ fn formula(violation: &Violation) -> &'static str {
     }
 }
 
-fn leg(room: &Room, choices: &[u32], row: usize) -> Leg {
+/// A row's leg, as the solution that is violated chose.
+fn leg(room: &Room, violation: &Violation, row: usize) -> Leg {
+    let choices = if violation.file == File::SecondSolution { &room.second_choices } else { &room.choices };
     let mut leg = Leg { ids: [0; 5], chosen: [0; CONFIGURATION] };
     leg.ids.copy_from_slice(&room.legs[row * LEG..][..5]);
     leg.chosen.copy_from_slice(&choices[row * CONFIGURATION..][..CONFIGURATION]);
@@ -91,13 +127,40 @@ fn record(table: &[u32], violation: &Violation) -> [u32; CONSTRAINT - 1] {
     record
 }
 
-fn unkept(room: &Room, choices: &[u32], violation: &Violation) -> String {
-    let [first, second, low, high, by] = record(&room.constraints, violation);
-    let first = leg(room, choices, first as usize);
-    let second = leg(room, choices, second as usize);
-    let asked = asked(violation, low, high, by);
-    let needed = needed(violation, &second);
-    format!("{first}{second}asked: {asked}\nneeded: {needed}; it falls short by {} s\n", violation.shortfall)
+/// A record's inequality that does not hold.
+struct Unkept {
+    first: Leg,
+    second: Leg,
+    /// None where the record has none.
+    seconds: Option<u32>,
+    asked: String,
+    needed: Needed,
+}
+
+impl Unkept {
+    fn of(room: &Room, violation: &Violation) -> Unkept {
+        let [first, second, low, high, by] = record(&room.constraints, violation);
+        let first = leg(room, violation, first as usize);
+        let second = leg(room, violation, second as usize);
+        let seconds = match (violation.kind, violation.inequality) {
+            (Kind::SingleTrack, _) => None,
+            (Kind::Connection, 2) => Some(high),
+            _ => Some(low),
+        };
+        let (asked, needed) = (asked(violation, low, high, by), Needed::of(violation, &second));
+        Unkept { first, second, seconds, asked, needed }
+    }
+
+    fn told(&self, violation: &Violation) -> String {
+        let Unkept { first, second, asked, needed, .. } = self;
+        format!("{first}{second}asked: {asked}\nneeded: {needed}; it falls short by {} s\n", violation.shortfall)
+    }
+
+    fn object(&self, object: Object, violation: &Violation, list: &str) -> Object {
+        let object = legs_object(object, [&self.first, &self.second], violation.kind).text("list", list);
+        let asked = Object::new().optional("seconds", self.seconds).text("words", &self.asked);
+        object.text("formula", formula(violation)).object("asked", asked).object("needed", self.needed.object())
+    }
 }
 
 /// What the record asks for, with its own seconds.
@@ -116,25 +179,60 @@ fn asked(violation: &Violation, low: u32, high: u32, by: u32) -> String {
 }
 
 /// What would have been enough of the second leg, by as many seconds as are short.
-fn needed(violation: &Violation, second: &Leg) -> String {
-    let id = second.ids[0];
-    let short = violation.shortfall;
-    match (violation.kind, violation.inequality) {
-        (Kind::Headway, 2) => format!("leg {id} arrives at {} or later", time(second.arrival() + short)),
-        (Kind::Connection, 2) => format!("leg {id} departs at {} or earlier", time(second.departure() - short)),
-        _ => format!("leg {id} departs at {} or later", time(second.departure() + short)),
+struct Needed {
+    leg: u32,
+    does: &'static str,
+    at: u32,
+    or: &'static str,
+}
+
+impl Needed {
+    fn of(violation: &Violation, second: &Leg) -> Needed {
+        let leg = second.ids[0];
+        let short = violation.shortfall;
+        match (violation.kind, violation.inequality) {
+            (Kind::Headway, 2) => Needed { leg, does: "arrives", at: second.arrival() + short, or: "later" },
+            (Kind::Connection, 2) => Needed { leg, does: "departs", at: second.departure() - short, or: "earlier" },
+            _ => Needed { leg, does: "departs", at: second.departure() + short, or: "later" },
+        }
+    }
+
+    fn object(&self) -> Object {
+        let object = Object::new().value("leg", self.leg).text("does", self.does);
+        object.object("at", time_object(self.at)).text("or", self.or)
     }
 }
 
-fn not_offered(room: &Room, choices: &[u32], violation: &Violation) -> String {
-    let row = violation.position as usize;
-    let leg = leg(room, choices, row);
-    let entry = &room.legs[row * LEG..][..LEG];
-    let (first, count) = (entry[5] as usize, entry[6] as usize);
-    let offered = room.configurations[first * CONFIGURATION..].chunks_exact(CONFIGURATION).take(count);
-    let offered: Vec<String> = offered.map(spelled).collect();
-    let (chosen, offered) = (spelled(&leg.chosen), offered.join(" "));
-    format!("{leg}chosen: {chosen}\nneeded: a configuration that the draft lists for this leg: {offered}\n")
+impl fmt::Display for Needed {
+    fn fmt(&self, f: &mut fmt::Formatter) -> fmt::Result {
+        write!(f, "leg {} {} at {} or {}", self.leg, self.does, time(self.at), self.or)
+    }
+}
+
+/// A choice that the draft does not list.
+struct NotOffered {
+    leg: Leg,
+    offered: Vec<String>,
+}
+
+impl NotOffered {
+    fn of(room: &Room, violation: &Violation) -> NotOffered {
+        let row = violation.position as usize;
+        let entry = &room.legs[row * LEG..][..LEG];
+        let (first, count) = (entry[5] as usize, entry[6] as usize);
+        let offered = room.configurations[first * CONFIGURATION..].chunks_exact(CONFIGURATION).take(count);
+        NotOffered { leg: leg(room, violation, row), offered: offered.map(spelled).collect() }
+    }
+
+    fn told(&self) -> String {
+        let (leg, chosen, offered) = (&self.leg, spelled(&self.leg.chosen), self.offered.join(" "));
+        format!("{leg}chosen: {chosen}\nneeded: a configuration that the draft lists for this leg: {offered}\n")
+    }
+
+    fn object(&self, object: Object, kind: Kind) -> Object {
+        let object = legs_object(object, [&self.leg], kind).text("chosen", &spelled(&self.leg.chosen));
+        object.texts("offered", self.offered.iter().map(String::as_str))
+    }
 }
 
 /// As the files spell it.

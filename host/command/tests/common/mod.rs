@@ -2,6 +2,9 @@
 
 #![allow(dead_code)]
 
+pub mod json;
+pub mod schema;
+
 pub const H: u32 = 100;
 
 pub const HEADER: &str =

@@ -4,7 +4,7 @@ use crate::coverage::{QUARTER, ROOMS};
 use crate::executor::Executor;
 use crate::expected::line as expected_line;
 use crate::lines::{digest, LABEL};
-use independent::{Answer, Call, Case, Desk, Direction, Entry, Figures, Said};
+use independent::{row_at, Answer, Call, Case, Desk, Direction, Entry, Figures, Report, Said, Tables};
 use std::path::{Path, PathBuf};
 use std::process::Command as Process;
 use std::sync::atomic::{AtomicUsize, Ordering};
@@ -14,8 +14,17 @@ const TEXTS: [&str; 5] = ["timetable", "profiles", "constraints", "first", "seco
 const CURVES: &str = "curves";
 const MERGED: [&str; 2] = ["earlier", "later"];
 
-/// What follows the answer in the command's object is evidence about the files, and is not compared.
-const EVIDENCE: &[u8] = br#", "version": "#;
+/// What follows one of these in the command's object says in words what was compared before, or is evidence about the files, and is not compared.
+const NOT_COMPARED: [&[u8]; 3] = [br#", "kind_name": "#, br#", "meaning": "#, br#", "version": "#];
+
+// Document 01's numbers of files, and of an entry's numbers in a table.
+const TIMETABLE: u32 = 1;
+const CONSTRAINTS: u32 = 3;
+const SECOND: u32 = 5;
+const LEG: usize = 8;
+const CONSTRAINT: usize = 6;
+const THREE: usize = 3;
+const TRACK: usize = 2;
 
 /// The command, by the words that start it.
 pub struct Command {
@@ -42,8 +51,7 @@ impl Command {
         let (program, first) = self.words.split_first().ok_or("no program to run")?;
         let output =
             Process::new(program).args(first).args(words(call)).current_dir(&folder.0).output().map_err(|e| format!("{program}: {e}"))?;
-        let end = output.stdout.windows(EVIDENCE.len()).position(|part| part == EVIDENCE).unwrap_or(output.stdout.len());
-        let mut line = line(output.status.code().unwrap_or(-1), &output.stdout[..end]);
+        let mut line = line(output.status.code().unwrap_or(-1), compared(&output.stdout));
         for name in [CURVES, MERGED[0], MERGED[1]] {
             if let Ok(text) = std::fs::read(folder.0.join(name)) {
                 line.push_str(&written(name, &text));
@@ -51,6 +59,11 @@ impl Command {
         }
         Ok(line)
     }
+}
+
+fn compared(printed: &[u8]) -> &[u8] {
+    let starts = NOT_COMPARED.iter().filter_map(|mark| printed.windows(mark.len()).position(|part| part == *mark));
+    &printed[..starts.min().unwrap_or(printed.len())]
 }
 
 /// A folder with the texts of one call, removed with it.
@@ -104,39 +117,142 @@ fn written(name: &str, text: &[u8]) -> String {
 /// The line that a call is expected to give, from the independent program alone.
 fn expected(call: &Call) -> String {
     match call.entry {
-        Entry::Check => object(call, call.case.check().answer, ""),
+        Entry::Check => {
+            let checked = call.case.check();
+            object(call, checked.answer, checked.tables.as_ref(), "")
+        }
         Entry::Energy => reported(call),
         Entry::MergeEarlier | Entry::MergeLater => merged(call),
         Entry::Row => shown(call),
     }
 }
 
-fn object(call: &Call, answer: Answer, figures: &str) -> String {
-    let (status, answer) = match answer {
-        Answer::Accepted => (0, format!(r#""accepted"{figures}"#)),
-        Answer::Violated { kind, position, inequality, shortfall, file } => {
-            let numbers =
-                format!(r#""kind": {kind}, "position": {position}, "inequality": {inequality}, "shortfall": {shortfall}, "file": {file}"#);
-            (1, format!(r#""violated", {numbers}"#))
-        }
-        Answer::Refused { number, file, place } => (2, format!(r#""refused", "number": {number}, "file": {file}, "place": {place}"#)),
+fn object(call: &Call, answer: Answer, tables: Option<&Tables>, figures: &str) -> String {
+    let (status, word, told) = match answer {
+        Answer::Accepted => (0, "accepted", figures.to_string()),
+        Answer::Violated { .. } => (1, "violated", violated(call, answer, tables)),
+        Answer::Refused { number, file, place } => (2, "refused", refused(call, number, file, place)),
     };
-    line(status, format!(r#"{{"label": "{LABEL}", "answer": {answer}, "horizon": {}"#, call.case.h).as_bytes())
+    let command = match call.entry {
+        Entry::MergeEarlier | Entry::MergeLater => "merge",
+        other => other.name(),
+    };
+    let head = format!(r#"{{"label": "{LABEL}", "schema": 1, "command": "{command}", "answer": "{word}", "horizon": {}"#, call.case.h);
+    line(status, format!("{head}{}{told}", read(tables)).as_bytes())
+}
+
+/// How much was read, where nothing was refused.
+fn read(tables: Option<&Tables>) -> String {
+    let tables = match tables {
+        Some(tables) => tables,
+        None => return String::from(r#", "read": null, "nothing_tested": null"#),
+    };
+    let counts = [
+        ("legs", tables.legs.len() / LEG),
+        ("configurations", tables.configurations.len() / THREE),
+        ("profiles", tables.profiles.len() / THREE),
+        ("samples", tables.samples.len()),
+        ("constraints", tables.constraints.len() / CONSTRAINT),
+        ("tracks", tables.tracks.len() / TRACK),
+    ];
+    let counts: Vec<String> = counts.iter().map(|(name, count)| format!(r#""{name}": {count}"#)).collect();
+    let nothing = tables.legs.is_empty() && tables.constraints.is_empty();
+    format!(r#", "read": {{{}}}, "nothing_tested": {nothing}"#, counts.join(", "))
+}
+
+/// The file that an answer names.
+fn file_object(call: &Call, file: u32) -> String {
+    let merging = matches!(call.entry, Entry::MergeEarlier | Entry::MergeLater);
+    let roles = ["timetable", "profiles", "constraints", if merging { "first solution" } else { "solution" }, "second solution"];
+    match (file as usize).checked_sub(1) {
+        Some(place) => format!(r#"{{"number": {file}, "role": "{}", "name": "{}"}}"#, roles[place], TEXTS[place]),
+        None => format!(r#"{{"number": {file}}}"#),
+    }
+}
+
+/// The numbers, and the legs of the record or of the row.
+fn violated(call: &Call, answer: Answer, tables: Option<&Tables>) -> String {
+    let (kind, position, inequality, shortfall, file) = match answer {
+        Answer::Violated { kind, position, inequality, shortfall, file } => (kind, position, inequality, shortfall, file),
+        _ => return String::new(),
+    };
+    let numbers = format!(r#""kind": {kind}, "position": {position}, "inequality": {inequality}, "shortfall": {shortfall}"#);
+    let legs: Vec<String> = tables.map_or(Vec::new(), |tables| {
+        let record = tables.constraints.chunks(CONSTRAINT).filter(|record| record[0] == kind).nth(position);
+        let rows = record.map_or(vec![position], |record| vec![record[1] as usize, record[2] as usize]);
+        rows.into_iter().map(|row| leg(tables, file, row)).collect()
+    });
+    format!(r#", "violation": {{{numbers}, "file": {}, "legs": [{}]"#, file_object(call, file), legs.join(", "))
+}
+
+/// A leg as the violated solution chose.
+fn leg(tables: &Tables, file: u32, row: usize) -> String {
+    let choices = if file == SECOND { &tables.second_choices } else { &tables.choices };
+    let (departure, travel) = (choices[row * THREE], choices[row * THREE + 1]);
+    let names = ["leg", "train", "track", "start_station", "end_station"];
+    let ids: Vec<String> = names.iter().zip(&tables.legs[row * LEG..]).map(|(name, id)| format!(r#""{name}": {id}"#)).collect();
+    let time = |seconds: u32| format!(r#"{{"seconds": {seconds}, "clock": "{}"}}"#, clock(seconds as usize));
+    format!(r#"{{{}, "departure": {}, "arrival": {}}}"#, ids.join(", "), time(departure), time(departure + travel))
+}
+
+fn clock(seconds: usize) -> String {
+    format!("{:02}:{:02}:{:02}", seconds / 3_600, seconds % 3_600 / 60, seconds % 60)
+}
+
+/// The numbers, and where in its file the place is.
+fn refused(call: &Call, number: u32, file: u32, place: usize) -> String {
+    let told = format!(r#", "refusal": {{"number": {number}, "file": {}, "place": {place}"#, file_object(call, file));
+    match (file as usize).checked_sub(1) {
+        Some(text) => told + &placed(&call.case.texts[text], file, place),
+        None => told,
+    }
+}
+
+/// The line, and the column where the place is no row's start.
+fn placed(text: &[u8], file: u32, place: usize) -> String {
+    if place >= text.len() {
+        return String::from(r#", "end_of_text": true"#);
+    }
+    let lines: Vec<&[u8]> = text[..place].split(|byte| *byte == b'\n').collect();
+    let starts_a_row = file != CONSTRAINTS && row_at(text, &[], TIMETABLE, place).0 > 0;
+    let column = if starts_a_row { String::new() } else { format!(r#", "column": {}"#, lines[lines.len() - 1].len() + 1) };
+    format!(r#", "line": {}{column}"#, lines.len())
 }
 
 fn reported(call: &Call) -> String {
     let report = call.case.energy();
-    let Figures { before, drawn, lost, fluctuation, peak_before, peak_drawn } = report.figures;
-    let kilojoules = format!(r#", "before_kj": {before}, "drawn_kj": {drawn}, "lost_kj": {lost}, "fluctuation_kw": {fluctuation}"#);
-    let peaks = format!(r#", "peak_before_kj": {peak_before}, "peak_drawn_kj": {peak_drawn}"#);
-    let Desk { before, drawn, lost, peak } = report.desk;
-    let doubles = format!(r#", "before_mwh": {before}, "drawn_mwh": {drawn}, "lost_mwh": {lost}, "peak_drawn_mw": {peak}"#);
-    let whole = call.case.h as usize >= QUARTER;
-    let quarter = |quarter: usize| if whole { quarter.to_string() } else { String::from("null") };
-    let [before, drawn] = report.quarters.map(quarter);
-    let quarters = format!(r#", "peak_before_quarter": {before}, "peak_drawn_quarter": {drawn}"#);
-    let told = object(call, report.answer, &[kilojoules, peaks, doubles, quarters].concat());
+    let told = object(call, report.answer, report.tables.as_ref(), &energies(call, &report));
     report.curves.map_or(told.clone(), |curves| told + &written(CURVES, &curve_lines(&curves, call.case.h as usize)))
+}
+
+fn energies(call: &Call, report: &Report) -> String {
+    let Figures { before, drawn, lost, fluctuation, peak_before, peak_drawn } = report.figures;
+    let kilojoules =
+        format!(r#", "energies": {{"before_kj": {before}, "drawn_kj": {drawn}, "lost_kj": {lost}, "fluctuation_kw": {fluctuation}"#);
+    let peaks = format!(r#", "peak_before_kj": {peak_before}, "peak_drawn_kj": {peak_drawn}"#);
+    let Desk { before: before_mwh, drawn: drawn_mwh, lost: lost_mwh, peak } = report.desk;
+    let doubles = format!(r#", "before_mwh": {before_mwh}, "drawn_mwh": {drawn_mwh}, "lost_mwh": {lost_mwh}, "peak_drawn_mw": {peak}"#);
+    let whole = |told: String| if call.case.h as usize >= QUARTER { told } else { String::from("null") };
+    let quarter = |quarter: usize| {
+        let [from, to] = [quarter, quarter + 1].map(|quarter| clock(quarter * QUARTER));
+        whole(format!(r#"{{"number": {quarter}, "from": "{from}", "to": "{to}"}}"#))
+    };
+    let [first, second] = report.quarters.map(quarter);
+    let quarters = format!(r#", "peak_before_quarter": {first}, "peak_drawn_quarter": {second}"#);
+    let [before, drawn, lost] = [before, drawn, lost].map(|kj| decimals(kj, KJ_A_MWH));
+    let shown = format!(r#", "shown": {{"before_mwh": {before}, "drawn_mwh": {drawn}, "lost_mwh": {lost}"#);
+    let [first, second] = [peak_before, peak_drawn].map(|kj| whole(decimals(kj, KJ_A_MW)));
+    let shown_peaks = format!(r#", "peak_before_mw": {first}, "peak_drawn_mw": {second}}}}}"#);
+    [kilojoules, peaks, doubles, quarters, shown, shown_peaks].concat()
+}
+
+const KJ_A_MWH: i64 = 3_600_000;
+const KJ_A_MW: i64 = 900_000;
+
+/// Three decimals, rounded down.
+fn decimals(kj: i64, unit: i64) -> String {
+    let thousandths = i128::from(kj) * 1_000 / i128::from(unit);
+    format!(r#""{}.{:03}""#, thousandths / 1_000, thousandths % 1_000)
 }
 
 /// One line a second, the subnets' kW in order, one space between.
@@ -148,9 +264,9 @@ fn curve_lines(curves: &[i32], h: usize) -> Vec<u8> {
 /// Both merges are asked for at once: where one cannot be made, neither is written.
 fn merged(call: &Call) -> String {
     let [earlier, later] = [Direction::Earlier, Direction::Later].map(|direction| call.case.merge(direction));
-    let answer = if earlier.answer == Answer::Accepted { later.answer } else { earlier.answer };
-    let mut told = object(call, answer, "");
-    if answer == Answer::Accepted {
+    let last = if earlier.answer == Answer::Accepted { &later } else { &earlier };
+    let mut told = object(call, last.answer, last.tables.as_ref(), "");
+    if last.answer == Answer::Accepted {
         for (name, merged) in MERGED.iter().zip([earlier, later]) {
             told.push_str(&written(name, &merged.text.unwrap_or_default()));
         }

@@ -39,6 +39,7 @@ const OPTIONS: &str =
     "  --json          the result as one object, for a program and for a signature: docs/schema/answer-1.json describes it
   --room TABLE=N  lend N numbers (bytes, for text) in the place of the room at the limits, which is the most; TABLE is legs,
                   configurations, profiles, samples, constraints, tracks, choices, second_choices, curves or text
+  --no-install    where the program has to be built first, install no package and name what is missing
   -h, --help      this help; after a command, that command's
   -V, --version   what this program is
 

@@ -142,7 +142,7 @@ void wagontulip_merge_later(uint32_t h, const uint8_t *timetable, size_t timetab
                             size_t choices_room, uint32_t *second_choices, size_t second_choices_room, uint8_t *text, size_t text_room,
                             uint64_t answer[WAGONTULIP_NUMBERS]);
 
-/* For display: the row at a refusal's file and place, without its LF, in the draft for file 1 and in the solution for file 4. The code is WAGONTULIP_ROW. */
+/* For display: the row at a refusal's file and place, without its LF or CR LF, in the draft for file 1 and in the solution for file 4. The code is WAGONTULIP_ROW. */
 void wagontulip_row(const uint8_t *draft, size_t draft_length, const uint8_t *solution, size_t solution_length, uint8_t file, uint32_t place,
                     uint64_t answer[WAGONTULIP_NUMBERS]);
 

@@ -10,7 +10,7 @@ pub fn starts_row(s: &[u8], place: usize) -> bool
     rows::starts_row(s, place)
 }
 
-// The row that starts there, without its LF; empty where none does.
+// The row that starts there, without its LF or CR LF; empty where none does.
 pub fn row_at<'a>(draft: &'a [u8], solution: &'a [u8], file: u8, place: u32) -> &'a [u8]
     ensures { λ r. ⌜ now r ≡ rowAt (now (draft .entry)) (now (solution .entry)) file place ⌝ }
 {

@@ -5,3 +5,5 @@ pub mod rows; // the row at a file and place, and where it starts
 pub mod places; // where a row of a text starts, and a refusal there
 
 const LINE_FEED: u8 = b'\n';
+
+const RETURN: u8 = b'\r';

@@ -1,8 +1,11 @@
 // Rows by their places. "For display, the row at a refusal's file and place is handed back as a part of whichever text holds it" (document 01).
 ghost use mathlib.Core.Path.{_≡_};
-ghost use Rattle.rules.specs.Display.{startsRow, rowIn, rowAt};
+ghost use Prim.Native.Nat.{_+_, _≤_};
+ghost use lib.ListN.{length, drop};
+ghost use Rattle.rules.specs.Display.{startsRow, shownOf, rowIn, rowAt};
 ghost use Rattle.csv_lines.specs.Starts.{startIn, startAt};
 use crate::LINE_FEED;
+use crate::RETURN;
 use crate::ends;
 use rules::answers::File;
 
@@ -20,12 +23,31 @@ pub fn starts_row(s: &[u8], place: usize) -> bool
     s[before] == LINE_FEED
 }
 
-// The row that starts at `place`, without its LF; empty where none does.
+// Where what is shown of a row ends: before its LF, and before one CR just before that.
+fn shown_end(s: &[u8], place: usize) -> usize
+    requires { ⌜ place ≤ length (now s) ⌝ }
+    ensures { λ r. ⌜ r ≡ place + length (shownOf (drop place (now (s .entry)))) ⌝ }
+{
+    let end = ends::line_end(s, place);
+    if s.len() <= end {
+        return end;
+    }
+    if end <= place {
+        return end;
+    }
+    let last = end - 1;
+    if s[last] == RETURN {
+        return last;
+    }
+    end
+}
+
+// The row that starts at `place`, without its LF or CR LF; empty where none does.
 fn row_in<'a>(s: &'a [u8], place: usize) -> &'a [u8]
     ensures { λ r. ⌜ now r ≡ rowIn (now (s .entry)) place ⌝ }
 {
     if starts_row(s, place) {
-        let end = ends::line_end(s, place);
+        let end = shown_end(s, place);
         return &s[place..end];
     }
     &s[0..0]

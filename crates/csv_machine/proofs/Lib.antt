@@ -1,4 +1,8 @@
+pub mod Options
 pub mod Fold
 pub mod Lines
 pub mod Number
+pub mod Marks
+pub mod Names
 pub mod Machine
+pub mod Contents

@@ -10,6 +10,7 @@ use borrow.Author.Tests.{eqb-true}
 use Rattle.rules.specs.Lists.{_>>=_, every}
 use Rattle.rules.specs.Bytes.{isDigit, digitZero, valueFrom, wholeOf}
 use Rattle.csv_machine.specs.Fold.{run}
+use Rattle.csv_machine.proofs.Options.{never}
 use Rattle.csv_machine.specs.Number.{Number, empty, zero, digits, numberStep, numberEnd}
 
 -- a number takes digits alone
@@ -17,6 +18,21 @@ pub no-step : (m : Number) (b : ℕ) → isDigit b ≡ false → numberStep m b 
 no-step empty b d = rw d
 no-step zero b d = refl
 no-step (digits n) b d = rw d
+
+-- one that took a byte is not empty
+pub pushed : (m next : Number) (b : ℕ) → numberStep m b ≡ some next → next ≡ empty → ⊥
+pushed empty next b e q = go (isDigit b) (eqb b digitZero) e
+  where
+    go : (t z : Bool) → cond t (some (cond z zero (digits (b - digitZero)))) none ≡ some next → ⊥
+    go true true e = let y : zero ≡ empty = cc in let z : _≡_ {A = ℕ} 0 1 = cc in omega arith
+    go true false e = let y : digits (b - digitZero) ≡ empty = cc in let z : _≡_ {A = ℕ} 0 1 = cc in omega arith
+    go false z e = never next e
+pushed zero next b e q = never next e
+pushed (digits n) next b e q = go (isDigit b) e
+  where
+    go : (t : Bool) → cond t (some (digits (n * 10 + (b - digitZero)))) none ≡ some next → ⊥
+    go true e = let y : digits (n * 10 + (b - digitZero)) ≡ empty = cc in let z : _≡_ {A = ℕ} 0 1 = cc in omega arith
+    go false e = never next e
 
 -- digits after a first digit that is not zero
 digits-after : (n : ℕ) (s : List ℕ) → run numberStep (digits n) s >>= numberEnd ≡ cond (every isDigit s) (some (valueFrom n s)) none

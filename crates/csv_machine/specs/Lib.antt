@@ -1,3 +1,6 @@
 pub mod Fold
 pub mod Number
+pub mod Marks
+pub mod Names
 pub mod Machine
+pub mod Contents

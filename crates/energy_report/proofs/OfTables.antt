@@ -27,7 +27,8 @@ use Rattle.tables_ids.specs.Column.{Records, Rising}
 use Rattle.tables_ids.proofs.Curves.{profiles-length}
 use Rattle.files_tests.proofs.Holding.{front-records}
 use Rattle.rules_theorems.proofs.Sized.{accepted-sized}
-use Rattle.rules_theorems.proofs.GoodFiles.{GoodFiles, files-good, all-good}
+use Rattle.rules_theorems.specs.Files.{ByAutomaton, GoodFiles}
+use Rattle.rules_theorems.proofs.GoodFiles.{files-good, all-good}
 use Rattle.rules_theorems.proofs.Documents.{good-is-lawful}
 use Rattle.verdict.proofs.GoodReading.{choices-many}
 use Rattle.energy_parts.specs.declared.runs.Counts.{Counts}
@@ -114,7 +115,7 @@ risen-room r n = rw (n .subnets) (r .room)
 
 module _ {H : ℕ} {counts : filed.Counts.Counts} {choices legs profiles : List ℕ} {samples : List ℤ} {tracks : List ℕ}
     (l : Left H counts choices legs profiles samples tracks) where
-  abbrev good-files : GoodFiles H (l .texts) (roomsOf (l .lent)) (l .whole .files)
+  abbrev good-files : GoodFiles ByAutomaton H (l .texts) (roomsOf (l .lent)) (l .whole .files)
   good-files = files-good H (l .texts) (roomsOf (l .lent)) (l .whole .files) (all-good H (l .texts) (l .solution) (roomsOf (l .lent)) (length (l .lentChoices)) (l .whole) (l .read) .0)
 
   -- the greatest curve table is not long

@@ -12,32 +12,34 @@ use Rattle.rules.specs.Limits.{mostText, profileWidth}
 use Rattle.rules.specs.Lists.{over}
 use Rattle.rules.specs.Answers.{refused, good, refusal, tooLong, badHeader, badRow, profilesFile}
 use Rattle.rules.specs.Rows.{csvOf}
-use Rattle.rules.specs.Profiles.{Curve, profilesOf, profilesHeader, judgeForm, formOf, sampleTable}
+use Rattle.rules.specs.Profiles.{Curve, profilesOf, formOf, sampleTable}
 use Rattle.csv_machine.specs.Fold.{fold}
-use Rattle.csv_machine.specs.Machine.{inHeader}
-use Rattle.csv_machine.proofs.Machine.{csv-by-bytes}
+use Rattle.csv_machine.specs.Machine.{inRow as rowAt, begun, Faulty, isBroken, isStopped}
+use Rattle.csv_machine.proofs.Contents.{text-by-bytes}
+use Rattle.csv_marks.specs.declared.Mark.{Mark}
+use Rattle.csv_marks.specs.declared.Mark.the-variants.{Bare}
+use Rattle.csv_marks.specs.Turns.{marked}
 use Rattle.profiles_row.specs.declared.number.Number.{Number}
 use Rattle.profiles_row.specs.declared.row.Past.{Past}
 use Rattle.profiles_row.specs.declared.row.Listed.{Listed}
 use Rattle.profiles_row.specs.declared.sample.Tail.{Tail}
 use Rattle.profiles_state.specs.declared.state.State.{State}
-use Rattle.profiles_state.specs.declared.state.State.the-variants.{Header, Id, Whole, Fraction, Stopped}
+use Rattle.profiles_state.specs.declared.state.State.the-variants.{Id, Whole, Fraction, Stopped}
 use Rattle.profiles.specs.declared.reader.Reader.{Reader}
 use Rattle.profiles.specs.declared.reader.Rows.{Rows}
-use Rattle.profiles.specs.declared.reader.Rows.the-variants.{Refused, Read}
-use Rattle.profiles_state.specs.Open.{start, openStep, openEnd, Reached, reach, reachedEnd}
+use Rattle.profiles.specs.declared.reader.Rows.the-variants.{Refused, Read as Counted}
+use Rattle.profiles_state.specs.Open.{Open, inId, Reached, Read, contents, machine, read, readEnd}
 use Rattle.profiles_row.specs.Row.{profileTable}
-use Rattle.profiles_state.specs.Holds.{Holds, in-header, in-id, in-whole, in-fraction, at-stop, Live}
-use Rattle.profiles.specs.Feeds.{Feeds}
+use Rattle.profiles_state.specs.Holds.{Holds, in-id, in-whole, in-fraction, at-stop, Under}
+use Rattle.profiles.specs.Feeds.{Held, in-header, in-rows, Feeds, Alive}
 use Rattle.profiles.specs.Reads.{rowsOf, Starts, Finishes, Reads}
-use Rattle.profiles_state.proofs.Form.{form-run}
+use Rattle.profiles_state.proofs.Fields.{form-run}
 
 -- the profiles of a text, or its first fault in file order, byte by byte
 pub profiles-by-bytes : (profiles samples : ℕ) (s : List ℕ) → length s ≤ mostText
-    → profilesOf profiles samples s ≡ reachedEnd profiles samples (fold (reach profiles samples) (inHeader 0) s)
-unfolding profilesOf reach reachedEnd
-profiles-by-bytes profiles samples s h =
-    csv-by-bytes profilesFile profilesHeader (judgeForm profiles samples) start openStep openEnd formOf (λ line u. form-run line) (λ before. refl) s h
+    → profilesOf profiles samples s ≡ readEnd profiles samples (fold (read profiles samples) (begun (machine profiles samples)) s)
+unfolding profilesOf read readEnd
+profiles-by-bytes profiles samples s h = text-by-bytes (contents profiles samples) refl formOf form-run (λ before. refl) s h
 
 too-long : (profiles samples : ℕ) (s : List ℕ) → mostText < length s → profilesOf profiles samples s ≡ refused (refusal tooLong profilesFile 0)
 unfolding profilesOf csvOf
@@ -45,86 +47,107 @@ too-long profiles samples s h = rw (lt-leb (length s) mostText h)
 
 -- ---- start
 
-pub starts : Starts (record { next = 0; state = Header })
-starts = record { place = refl; nothing = λ profiles samples. in-header (omega arith) }
+pub starts : Starts (record { next = 0; head = 0; mark = Bare; state = Stopped badHeader 0 })
+starts = record { place = refl; no-head = refl; nothing = λ profiles samples. in-header refl (omega arith) refl refl refl }
 
-pub started : {reader : Reader} (profiles : List ℕ) (samples : List ℤ) → Starts reader → Live (reader .next) (reader .state) profiles samples
-started profiles samples s = record { profiles₀ = profiles; samples₀ = samples; reached = inHeader 0; holds = s .nothing profiles samples }
+pub started : {reader : Reader} (profiles : List ℕ) (samples : List ℤ) → Starts reader → Alive reader profiles samples
+started profiles samples s h = absurd (omega (arith, s .no-head))
 
 -- ---- finish
 
-abbrev Ended : (next : ℕ) → State → Rows → Type 0
-Ended next state r =
-    (profiles₀ profiles : List ℕ) (samples₀ samples : List ℤ) (reached : Reached) → Holds profiles₀ samples₀ next state profiles samples reached
-    → r ≡ rowsOf (reachedEnd (length profiles₀ / profileWidth) (length samples₀) reached)
+abbrev Ended : (next : ℕ) → Mark → State → Rows → Type 0
+Ended next mark state r =
+    (profiles₀ profiles : List ℕ) (samples₀ samples : List ℤ) (text : Read) (c : Reached) → Holds profiles₀ samples₀ next state profiles samples c → Under mark c text
+    → r ≡ rowsOf (readEnd (length profiles₀ / profileWidth) (length samples₀) text)
 
 module _ {reader : Reader} {r : Rows} where
-  pub finish-header : reader .state ≡ Header → r ≡ Refused (refusal badHeader profilesFile 0) → Finishes reader r
-  unfolding reachedEnd
-  finish-header s e = rw s go
-    where
-      go : Ended (reader .next) Header r
-      go profiles₀ profiles samples₀ samples reached (in-header k) = e
+  -- in the header the state is its fault; past it the text stands for what is read
+  ended : (state : State) → reader .state ≡ state → (state ≡ Stopped badHeader 0 → r ≡ Refused (refusal badHeader profilesFile 0)) → Ended (reader .next) (reader .mark) state r
+      → Finishes reader r
+  unfolding readEnd
+  ended state e h f profiles₀ profiles samples₀ samples text (in-header t k q p s) = rw t (h (sym e ∙ q))
+  ended state e h f profiles₀ profiles samples₀ samples text (in-rows k s) = f profiles₀ profiles samples₀ samples text (s .contents) (rw e at (s .holds)) (s .under)
 
   -- a row lacks its LF
   pub finish-id : (past : Past) (n : Number) → reader .state ≡ Id past n → (past .place ≡ reader .next → ⊥) → r ≡ Refused (refusal badRow profilesFile (past .place)) → Finishes reader r
-  unfolding reachedEnd
-  finish-id past n s q e = rw s go
+  unfolding readEnd
+  finish-id past n s q e = ended (Id past n) s (λ z. let y : _≡_ {A = ℕ} 0 1 = cc in absurd (omega arith)) go
     where
-      go : Ended (reader .next) (Id past n) r
-      go profiles₀ profiles samples₀ samples reached (in-id h c w k) = rw (ne-eqb (past .place) (reader .next) q) e
+      go : Ended (reader .next) (reader .mark) (Id past n) r
+      go profiles₀ profiles samples₀ samples text c (in-id h k w x) u = rw (u, ne-eqb (past .place) (reader .next) q) e
 
   pub finish-whole : (past : Past) (l : Listed) (negative : Bool) (n : Number) → reader .state ≡ Whole past l negative n → r ≡ Refused (refusal badRow profilesFile (past .place))
       → Finishes reader r
-  unfolding reachedEnd
-  finish-whole past l negative n s e = rw s go
+  unfolding readEnd
+  finish-whole past listed negative n s e = ended (Whole past listed negative n) s (λ z. let y : _≡_ {A = ℕ} 0 1 = cc in absurd (omega arith)) go
     where
-      go : Ended (reader .next) (Whole past l negative n) r
-      go profiles₀ profiles samples₀ samples reached (in-whole c g k) = rw (ne-eqb (past .place) (reader .next) (λ q. omega (arith, g .under-way))) e
+      go : Ended (reader .next) (reader .mark) (Whole past listed negative n) r
+      go profiles₀ profiles samples₀ samples text c (in-whole k g x) u = rw (u, ne-eqb (past .place) (reader .next) (λ q. omega (arith, g .under-way))) e
 
   pub finish-fraction : (past : Past) (l : Listed) (t : Tail) → reader .state ≡ Fraction past l t → r ≡ Refused (refusal badRow profilesFile (past .place)) → Finishes reader r
-  unfolding reachedEnd
-  finish-fraction past l t s e = rw s go
+  unfolding readEnd
+  finish-fraction past listed t s e = ended (Fraction past listed t) s (λ z. let y : _≡_ {A = ℕ} 0 1 = cc in absurd (omega arith)) go
     where
-      go : Ended (reader .next) (Fraction past l t) r
-      go profiles₀ profiles samples₀ samples reached (in-fraction c g d) = rw (ne-eqb (past .place) (reader .next) (λ q. omega (arith, g .under-way))) e
+      go : Ended (reader .next) (reader .mark) (Fraction past listed t) r
+      go profiles₀ profiles samples₀ samples text c (in-fraction k g d) u = rw (u, ne-eqb (past .place) (reader .next) (λ q. omega (arith, g .under-way))) e
 
   pub finish-stopped : (number place : ℕ) → reader .state ≡ Stopped number place → r ≡ Refused (refusal number profilesFile place) → Finishes reader r
-  unfolding reachedEnd
-  finish-stopped number place s e = rw s go
+  unfolding readEnd
+  finish-stopped number place s e =
+      ended (Stopped number place) s (λ z. let a : number ≡ badHeader = cc in let b : place ≡ 0 = cc in e ∙ (rw (a, b))) go
     where
-      go : Ended (reader .next) (Stopped number place) r
-      go profiles₀ profiles samples₀ samples reached at-stop = e
+      faulty : (profiles samples : ℕ) (text : Read) → Faulty number place text → r ≡ rowsOf (readEnd profiles samples text)
+      faulty profiles samples text isBroken = e
+      faulty profiles samples text isStopped = e
+
+      go : Ended (reader .next) (reader .mark) (Stopped number place) r
+      go profiles₀ profiles samples₀ samples text c at-stop u = faulty (length profiles₀ / profileWidth) (length samples₀) text u
 
 -- all is read
-pub finish-all : {reader : Reader} (past : Past) (n : Number) → reader .state ≡ Id past n → past .place ≡ reader .next → Finishes reader (Read (past .profiles) (past .samples))
-unfolding reachedEnd
-finish-all {reader} past n s q = rw s go
+pub finish-all : {reader : Reader} (past : Past) (n : Number) → reader .state ≡ Id past n → past .place ≡ reader .next → Finishes reader (Counted (past .profiles) (past .samples))
+unfolding readEnd
+finish-all {reader} past n s q = ended {reader = reader} (Id past n) s (λ z. let y : _≡_ {A = ℕ} 0 1 = cc in absurd (omega arith)) go
   where
-    go : Ended (reader .next) (Id past n) (Read (past .profiles) (past .samples))
-    go profiles₀ profiles samples₀ samples reached (in-id h c w k) = rw (eq-eqb (past .place) (reader .next) q, c .counted, c .summed)
+    go : Ended (reader .next) (reader .mark) (Id past n) (Counted (past .profiles) (past .samples))
+    go profiles₀ profiles samples₀ samples text c (in-id h k w x) u = rw (u, eq-eqb (past .place) (reader .next) q, k .counted, k .summed)
 
 -- ---- the tables
 
--- where all is read, the entries stand at the front, and the other room is as it was lent
-pub read-whole : {profiles₀ profiles : List ℕ} {samples₀ samples : List ℤ} {next : ℕ} {state : State} {reached : Reached} (curves : List Curve)
-    → Holds profiles₀ samples₀ next state profiles samples reached → reachedEnd (length profiles₀ / profileWidth) (length samples₀) reached ≡ good curves
-    → (profiles ≡ over (profileTable curves) profiles₀) × (samples ≡ over (sampleTable curves) samples₀)
-unfolding reachedEnd
-read-whole curves (in-header k) e = ((cc), (cc))
-read-whole {profiles₀} {profiles} {samples₀} {samples} {next} curves (in-id {past = past} {before = before} h c w k) e = go (eqb (past .place) next) e
-  where
-    go : (t : Bool) → cond t (good before) (refused (refusal badRow profilesFile (past .place))) ≡ good curves
-        → (profiles ≡ over (profileTable curves) profiles₀) × (samples ≡ over (sampleTable curves) samples₀)
-    go true q = let same : before ≡ curves = cc in (rw same at (c .entered), rw same at w)
-    go false q = ((cc), (cc))
-read-whole {next = next} curves (in-whole {past = past} c g k) e =
-    let q : eqb (past .place) next ≡ false = ne-eqb (past .place) next (λ z. omega (arith, g .under-way)) in
-    let f = rw q at e in ((cc), (cc))
-read-whole {next = next} curves (in-fraction {past = past} c g d) e =
-    let q : eqb (past .place) next ≡ false = ne-eqb (past .place) next (λ z. omega (arith, g .under-way)) in
-    let f = rw q at e in ((cc), (cc))
-read-whole curves at-stop e = ((cc), (cc))
+abbrev Tabled : List ℕ → List ℕ → List ℤ → List ℤ → List Curve → Type 0
+Tabled profiles₀ profiles samples₀ samples curves = (profiles ≡ over (profileTable curves) profiles₀) × (samples ≡ over (sampleTable curves) samples₀)
+
+row-over : (profiles samples : ℕ) (curves : List Curve) (mark : Mark) (place next : ℕ) (before : List Curve) (o : Open) (text : Read) → text ≡ rowAt place next before (marked mark o)
+    → readEnd profiles samples text ≡ good curves → cond (eqb place next) (good before) (refused (refusal badRow profilesFile place)) ≡ good curves
+unfolding readEnd
+row-over profiles samples curves mark place next before o text t e = rw t at e
+
+none-over : (profiles samples : ℕ) (curves : List Curve) {k place : ℕ} (text : Read) → Faulty k place text → readEnd profiles samples text ≡ good curves → ⊥
+unfolding readEnd
+none-over profiles samples curves text isBroken e = let z : _≡_ {A = ℕ} 0 1 = cc in omega arith
+none-over profiles samples curves text isStopped e = let z : _≡_ {A = ℕ} 0 1 = cc in omega arith
+
+module _ {profiles₀ profiles : List ℕ} {samples₀ samples : List ℤ} (curves : List Curve) where
+  -- where all is read, the entries stand at the front, and the other room is as it was lent
+  rows-whole : {next : ℕ} {state : State} (mark : Mark) (text : Read) (c : Reached) → Holds profiles₀ samples₀ next state profiles samples c → Under mark c text
+      → readEnd (length profiles₀ / profileWidth) (length samples₀) text ≡ good curves → Tabled profiles₀ profiles samples₀ samples curves
+  rows-whole {next} mark text c (in-id {past = past} {before = before} {m = m} h k w x) u e = go (eqb (past .place) next) (row-over (length profiles₀ / profileWidth) (length samples₀) curves mark (past .place) next before (inId m) text u e)
+    where
+      go : (t : Bool) → cond t (good before) (refused (refusal badRow profilesFile (past .place))) ≡ good curves → Tabled profiles₀ profiles samples₀ samples curves
+      go true q = let same : before ≡ curves = cc in (rw same at (k .entered), rw same at w)
+      go false q = ((cc), (cc))
+  rows-whole {next} mark text c (in-whole {past = past} {before = before} k g x) u e =
+      let q : eqb (past .place) next ≡ false = ne-eqb (past .place) next (λ z. omega (arith, g .under-way)) in
+      let f = rw q at (row-over (length profiles₀ / profileWidth) (length samples₀) curves mark (past .place) next before _ text u e) in ((cc), (cc))
+  rows-whole {next} mark text c (in-fraction {past = past} {before = before} k g d) u e =
+      let q : eqb (past .place) next ≡ false = ne-eqb (past .place) next (λ z. omega (arith, g .under-way)) in
+      let f = rw q at (row-over (length profiles₀ / profileWidth) (length samples₀) curves mark (past .place) next before _ text u e) in ((cc), (cc))
+  rows-whole mark text c at-stop u e = absurd (none-over (length profiles₀ / profileWidth) (length samples₀) curves text u e)
+
+  pub read-whole : {next head : ℕ} {mark : Mark} {state : State} {text : Read} → Held profiles₀ samples₀ next head mark state profiles samples text
+      → readEnd (length profiles₀ / profileWidth) (length samples₀) text ≡ good curves → Tabled profiles₀ profiles samples₀ samples curves
+  unfolding readEnd
+  read-whole (in-header t k q p s) e = let f = rw t at e in ((cc), (cc))
+  read-whole {mark = mark} {text = text} (in-rows k s) e = rows-whole mark text (s .contents) (s .holds) (s .under) e
 
 -- ---- the whole text
 
@@ -137,10 +160,10 @@ reads-long text profiles samples r h e =
       sample-table = λ curves q. (cc);
     }
 
-pub reads-text : {text profiles₀ profiles : List ℕ} {samples₀ samples : List ℤ} {begun reader : Reader} {r : Rows} → length text ≤ mostText → Starts begun
-    → Feeds begun profiles₀ samples₀ text reader profiles samples → Finishes reader r → Reads text profiles₀ samples₀ r profiles samples
-reads-text {text} {profiles₀} {profiles} {samples₀} {samples} {begun} {reader} {r} h starts feeds finishes =
-    let held = feeds .reads profiles₀ samples₀ (inHeader 0) (starts .nothing profiles₀ samples₀) in
+pub reads-text : {text profiles₀ profiles : List ℕ} {samples₀ samples : List ℤ} {started reader : Reader} {r : Rows} → length text ≤ mostText → Starts started
+    → Feeds started profiles₀ samples₀ text reader profiles samples → Finishes reader r → Reads text profiles₀ samples₀ r profiles samples
+reads-text {text} {profiles₀} {profiles} {samples₀} {samples} {started} {reader} {r} h starts feeds finishes =
+    let held = feeds .reads profiles₀ samples₀ (begun (machine (length profiles₀ / profileWidth) (length samples₀))) (starts .nothing profiles₀ samples₀) in
     let same = profiles-by-bytes (length profiles₀ / profileWidth) (length samples₀) text h in
     record {
       answer = rw same (finishes profiles₀ profiles samples₀ samples _ held);
@@ -148,4 +171,4 @@ reads-text {text} {profiles₀} {profiles} {samples₀} {samples} {begun} {reade
       sample-table = λ curves q. read-whole curves held (sym same ∙ q) .1;
     }
 
-pub ruleset texts = (starts, started, finish-header, finish-id, finish-whole, finish-fraction, finish-stopped, finish-all, reads-long, reads-text)
+pub ruleset texts = (starts, started, finish-id, finish-whole, finish-fraction, finish-stopped, finish-all, reads-long, reads-text)

@@ -1,13 +1,16 @@
 // The text of profiles.csv, whole or in parts.
+use csv_marks::Mark;
 use profiles_row::number::Number;
 use profiles_row::row::Listed;
 use profiles_row::row::Past;
 use profiles_row::sample;
 use profiles_sample::Spaced;
+use profiles_state::marked;
 use profiles_state::state;
 use profiles_state::state::State;
 use rules::answers::File;
 use rules::answers::Refusal;
+use rules::sizes::Profile;
 use rules::sizes::Text;
 ghost use mathlib.Core.Path.{_≡_};
 ghost use Prim.Native.Nat.{_+_, _≤_};
@@ -15,7 +18,7 @@ ghost use lib.ListN.{length};
 ghost use Rattle.rules.specs.Limits.{mostText};
 ghost use Rattle.rules.specs.Answers.{refusal, profilesFile};
 ghost use Rattle.profiles_state.specs.Holds.{Live};
-ghost use Rattle.profiles.specs.Feeds.{Feeds, countIn, ManyRead, Skips, Quickens};
+ghost use Rattle.profiles.specs.Feeds.{Feeds, Alive, Lined, begunAt, countIn, ManyRead, Skips, Quickens};
 ghost use Rattle.profiles.specs.Reads.{Starts, Finishes, Reads};
 
 // Samples that were read, and the place behind the last one's space.
@@ -62,9 +65,9 @@ fn skip(state: State, part: &[u8], from: usize) -> Moved
 }
 
 // At a sample's beginning, whole samples are read at once.
-fn quicken(state: State, part: &[u8], from: usize, samples: &mut [i32]) -> Moved
+fn quicken(state: State, mark: Mark, part: &[u8], from: usize, samples: &mut [i32]) -> Moved
     requires { ⌜ (from ≤ length (now part)) × (countIn state + length (now part) ≤ mostText + from) ⌝ }
-    ensures { λ r. ⌜ Quickens (now (part .entry)) from state (now (samples .entry)) r (now (samples .exit)) ⌝ }
+    ensures { λ r. ⌜ Quickens (now (part .entry)) from mark state (now (samples .entry)) r (now (samples .exit)) ⌝ }
 {
     let State::Whole(past, l, negative, n) = state else {
         return skip(state, part, from);
@@ -75,38 +78,106 @@ fn quicken(state: State, part: &[u8], from: usize, samples: &mut [i32]) -> Moved
     if negative {
         return Moved { state, next: from };
     }
-    let many = samples_run(past, l, part, from, samples);
-    let read = many.l;
-    Moved {
-        state: State::Whole(past, read, false, Number::Empty),
-        next: many.next,
+    if csv_marks::contents(mark) {
+        let many = samples_run(past, l, part, from, samples);
+        let read = many.l;
+        return Moved {
+            state: State::Whole(past, read, false, Number::Empty),
+            next: many.next,
+        };
     }
+    Moved { state, next: from }
 }
 
-// How far a text is read: the place of the next byte, and where it falls.
+// How far a text is read: the place of the next byte, how many bytes are the header's, the mark, and where the byte falls behind the header. Before its end the
+// state is the header's fault, which is what a text that ends there has.
 pub struct Reader {
     pub next: u32,
+    pub head: usize,
+    pub mark: Mark,
     pub state: State,
 }
 
-// A part of the text, of whatever size.
-pub fn feed(reader: Reader, part: &[u8], profiles: &mut [u32], samples: &mut [i32]) -> Reader
-    requires { ⌜ Live (reader .next) (reader .state) (now profiles) (now samples) × (reader .next + length (now part) ≤ mostText) ⌝ }
-    ensures { λ r. ⌜ Feeds reader (now (profiles .entry)) (now (samples .entry)) (now (part .entry)) r (now (profiles .exit)) (now (samples .exit)) ⌝ }
+// The rows of a part, which follows `next` bytes, from a place on.
+fn run_rows(
+    before: State,
+    first: Mark,
+    next: u32,
+    part: &[u8],
+    from: usize,
+    profiles: &mut [u32],
+    samples: &mut [i32],
+) -> Reader
+    requires { ⌜ Live (next + from) before (now profiles) (now samples) × ((next + length (now part) ≤ mostText) × (from ≤ length (now part))) ⌝ }
+    ensures { λ r. ⌜ Lined next before first (now (profiles .entry)) (now (samples .entry)) (now (part .entry)) from r (now (profiles .exit)) (now (samples .exit)) ⌝ }
 {
-    let next = reader.next;
-    let mut state = reader.state;
-    let mut i = 0;
+    let head = Profile::HEADER_LENGTH;
+    let mut state = before;
+    let mut mark = first;
+    let mut i = from;
     while i < part.len() {
         let at = next + (i as u32);
-        let one = state::step(state, at, part[i], profiles, samples);
-        let moved = quicken(one, part, i + 1, samples);
+        let turned = marked::turn(state, mark, at, part[i], profiles, samples);
+        let one = turned.state;
+        mark = turned.mark;
+        let moved = quicken(one, mark, part, i + 1, samples);
         state = moved.state;
         i = moved.next;
     }
     Reader {
         next: next + (i as u32),
+        head,
+        mark,
         state,
+    }
+}
+
+// Behind the header the first row opens.
+fn begun(state: State, head: usize, at: u32) -> State
+    ensures { λ r. ⌜ r ≡ begunAt state head at ⌝ }
+{
+    if Profile::HEADER_LENGTH <= head {
+        return state;
+    }
+    let past = Past {
+        place: at,
+        profiles: 0,
+        samples: 0,
+        rising: 0,
+        last: 0,
+    };
+    State::Id(past, Number::Empty)
+}
+
+// A part of the text, of whatever size.
+pub fn feed(reader: Reader, part: &[u8], profiles: &mut [u32], samples: &mut [i32]) -> Reader
+    requires { ⌜ Alive reader (now profiles) (now samples) × (reader .next + length (now part) ≤ mostText) ⌝ }
+    ensures { λ r. ⌜ Feeds reader (now (profiles .entry)) (now (samples .entry)) (now (part .entry)) r (now (profiles .exit)) (now (samples .exit)) ⌝ }
+{
+    let next = reader.next;
+    let mark = reader.mark;
+    let state = reader.state;
+    let all = next + (part.len() as u32);
+    let headed = csv_header::profiles_header(part, reader.head, mark);
+    if headed.right {
+        let after = headed.mark;
+        if headed.head < Profile::HEADER_LENGTH {
+            return Reader {
+                next: all,
+                head: headed.head,
+                mark: after,
+                state,
+            };
+        }
+        let from = headed.next;
+        let first = begun(state, reader.head, next + (from as u32));
+        return run_rows(first, after, next, part, from, profiles, samples);
+    }
+    Reader {
+        next: all,
+        head: Profile::HEADER_LENGTH,
+        mark,
+        state: State::Stopped(Refusal::HEADER, 0),
     }
 }
 
@@ -121,7 +192,9 @@ pub fn start() -> Reader
 {
     Reader {
         next: 0,
-        state: State::Header,
+        head: 0,
+        mark: Mark::Bare,
+        state: State::Stopped(Refusal::HEADER, 0),
     }
 }
 
@@ -137,7 +210,6 @@ pub fn finish(reader: Reader) -> Rows
 {
     let state = reader.state;
     match state {
-        State::Header => refused(Refusal::HEADER, 0),
         State::Id(past, _) => {
             if past.place == reader.next {
                 return Rows::Read(past.profiles, past.samples);

@@ -26,6 +26,7 @@ use Rattle.profiles_sample.specs.Quick.{Runs, tail, Points, missed, poin
 use Rattle.profiles_row.proofs.Near.{pushes-zero, pushes-first, pushes-next}
 use Rattle.profiles_state.proofs.Steps.{whole-digits, point-value, minus-first}
 use Rattle.profiles_state.proofs.Fraction.{fraction-digits}
+use Rattle.profiles_state.proofs.Marking.{other-digit, other-point, other-minus}
 use Rattle.profiles_state.proofs.Leaps.{leap-none, leap-then, jump-step}
 
 -- ---- more digits of the whole part
@@ -35,7 +36,7 @@ pub record Running (part : List ℕ) (from value v i : ℕ) : Type 0 where
   pub jumps : (past : Past) (l : Listed) (negative : Bool) → Jump part from (Whole past l negative (Digits value)) i (Whole past l negative (Digits v))
 
 pub running-none : {part : List ℕ} {from : ℕ} (value : ℕ) → from ≤ length part → Running part from value value from
-running-none value h = record { inside = h; jumps = λ past l negative profiles samples. leap-none h }
+running-none value h = record { inside = h; jumps = λ past l negative mark t profiles samples. leap-none h }
 
 module _ {part : List ℕ} {from value v i : ℕ} (r : Running part from value v i) where
   pub running-next : {w : ℕ} → i < length part → digitZero ≤ getD part i 0 → getD part i 0 ≤ digitNine → w ≡ min (v * 10 + (getD part i 0 - digitZero)) cap
@@ -44,10 +45,10 @@ module _ {part : List ℕ} {from value v i : ℕ} (r : Running part from value v
       record {
         inside = omega arith;
         jumps =
-            λ past l negative profiles samples. leap-then (r .jumps past l negative profiles samples)
-            (jump-step (getD part i 0) h refl
+            λ past l negative mark t profiles samples. leap-then (r .jumps past l negative mark t profiles samples)
+            (jump-step (getD part i 0) (other-digit low high) h refl
             (whole-digits past l negative (Digits v) (getD part i 0) low high (To (Digits w)) (pushes-next (getD part i 0) v w refl low high e) (Digits w) refl)
-            profiles samples);
+            mark t profiles samples);
       }
 
   pub running-end : Runs part from value (record { value = v; next = i })
@@ -57,7 +58,7 @@ module _ {part : List ℕ} {from value v i : ℕ} (r : Running part from value v
 
 pub points-at : {part : List ℕ} {from v : ℕ} {n : Number} {x : Ended} → from < length part → getD part from 0 ≡ point → Ends n x → x ≡ Value v → Points part from n (At v (from + 1))
 points-at {part} {from} {v} {n} {x} h e ends q =
-    pointed {next = from + 1} (omega arith) (λ past l negative. jump-step point h (sym e) (point-value past l negative n x ends v q))
+    pointed {next = from + 1} (omega arith) (λ past l negative. jump-step point other-point h (sym e) (point-value past l negative n x ends v q))
 
 -- a first digit, and what stands behind it
 module _ {part : List ℕ} {from : ℕ} (h : from < length part) (low : digitZero ≤ getD part from 0) (high : getD part from 0 ≤ digitNine) where
@@ -65,22 +66,22 @@ module _ {part : List ℕ} {from : ℕ} (h : from < length part) (low : digitZer
   points-zero z missed = missed
   points-zero z (pointed k f) =
       pointed k
-      (λ past l negative profiles samples. leap-then
-      (jump-step (getD part from 0) h refl (whole-digits past l negative Empty (getD part from 0) low high (To Zero) (pushes-zero (getD part from 0) refl low high z) Zero refl) profiles samples)
-      (f past l negative profiles samples))
+      (λ past l negative mark t profiles samples. leap-then
+      (jump-step (getD part from 0) (other-digit low high) h refl (whole-digits past l negative Empty (getD part from 0) low high (To Zero) (pushes-zero (getD part from 0) refl low high z) Zero refl) mark t profiles samples)
+      (f past l negative mark t profiles samples))
 
   pub points-digits : {run : Run} {r : Pointed} → (getD part from 0 ≡ digitZero → ⊥) → Runs part (from + 1) (getD part from 0 - digitZero) run
       → Points part (run .next) (Digits (run .value)) r → Points part from Empty r
   points-digits z runs missed = missed
   points-digits z runs (pointed k f) =
       pointed k
-      (λ past l negative profiles samples. leap-then
+      (λ past l negative mark t profiles samples. leap-then
       (leap-then
-      (jump-step (getD part from 0) h refl
+      (jump-step (getD part from 0) (other-digit low high) h refl
       (whole-digits past l negative Empty (getD part from 0) low high (To (Digits (getD part from 0 - digitZero))) (pushes-first (getD part from 0) refl low high z) (Digits (getD part from 0 - digitZero)) refl)
-      profiles samples)
-      (runs past l negative profiles samples))
-      (f past l negative profiles samples))
+      mark t profiles samples)
+      (runs past l negative mark t profiles samples))
+      (f past l negative mark t profiles samples))
 
 -- ---- digits past the point
 
@@ -89,7 +90,7 @@ pub record Fractioning (part : List ℕ) (from : ℕ) (negative : Bool) (whole d
   pub jumps : (past : Past) (l : Listed) → Jump part from (Fraction past l (tail negative whole 0 0)) i (Fraction past l (tail negative whole digits value))
 
 pub fractioning-none : {part : List ℕ} {from : ℕ} (negative : Bool) (whole : ℕ) → from ≤ length part → Fractioning part from negative whole 0 0 from
-fractioning-none negative whole h = record { inside = h; jumps = λ past l profiles samples. leap-none h }
+fractioning-none negative whole h = record { inside = h; jumps = λ past l mark t profiles samples. leap-none h }
 
 module _ {part : List ℕ} {from : ℕ} {negative : Bool} {whole digits value i : ℕ} (r : Fractioning part from negative whole digits value i) where
   pub fractioning-next : {w : ℕ} → i < length part → digitZero ≤ getD part i 0 → getD part i 0 ≤ digitNine → digits < mostDigits
@@ -98,8 +99,8 @@ module _ {part : List ℕ} {from : ℕ} {negative : Bool} {whole digits value i 
       record {
         inside = omega arith;
         jumps =
-            λ past l profiles samples. leap-then (r .jumps past l profiles samples)
-            (jump-step (getD part i 0) h refl (fraction-digits past l (tail negative whole digits value) (getD part i 0) w low high few e) profiles samples);
+            λ past l mark t profiles samples. leap-then (r .jumps past l mark t profiles samples)
+            (jump-step (getD part i 0) (other-digit low high) h refl (fraction-digits past l (tail negative whole digits value) (getD part i 0) w low high few e) mark t profiles samples);
       }
 
   pub fractioning-end : {x : Spaced} → i < length part → Spaces (getD part i 0) i negative whole digits value x → Fractions part from negative whole x
@@ -120,12 +121,12 @@ samples-at {part} {from} {w} {next} {negative} p e f = go (rw e at p) f
   where
     go : {r : Spaced} → Points part from Empty (At w next) → Fractions part next negative w r → Samples part from negative r
     go (pointed h g) unlasting = unlasting
-    go (pointed h g) (lasting k e z j) = lasting k e z (λ past l profiles samples. leap-then (g past l negative profiles samples) (j past l profiles samples))
+    go (pointed h g) (lasting k e z j) = lasting k e z (λ past l mark t profiles samples. leap-then (g past l negative mark t profiles samples) (j past l mark t profiles samples))
 
 samples-minus : {part : List ℕ} {from : ℕ} {r : Spaced} → from < length part → getD part from 0 ≡ minus → Samples part (from + 1) true r → Samples part from false r
 samples-minus h e unlasting = unlasting
 samples-minus h e (lasting k s z j) =
-    lasting k s z (λ past l profiles samples. leap-then (jump-step minus h (sym e) (minus-first past l false Empty refl refl) profiles samples) (j past l profiles samples))
+    lasting k s z (λ past l mark t profiles samples. leap-then (jump-step minus other-minus h (sym e) (minus-first past l false Empty refl refl) mark t profiles samples) (j past l mark t profiles samples))
 
 pub samples-signed : {part : List ℕ} {from : ℕ} {s : Sign} {r : Spaced} → from < length part → Signs part from s → Samples part (s .next) (s .negative) r → Samples part from false r
 samples-signed h (signed e) x = samples-minus h e x

@@ -1,14 +1,16 @@
 -- The machine of a row reads what the form of a row says. Assumes nothing.
 use Prim.Native.Nat.{ℕ}
-use mathlib.Core.Path.{_≡_, refl, sym, _∙_}
+use mathlib.Core.Path.{_≡_, refl, sym, _∙_, ap}
 use mathlib.Core.Bool.{Bool, true, false, cond}
 use mathlib.Core.List.{List, [], _∷_, _++_, append-assoc}
 use mathlib.Core.Option.{Option, none, some}
 use lib.Dec.{eqb}
 use lib.IntN.{ℤ}
 use Rattle.rules.specs.Lists.{_>>=_, each}
-use Rattle.rules.specs.Bytes.{comma, space, splitOn, onto, sampleOf}
-use Rattle.rules.specs.Profiles.{Curve, samplesOf, twoOf, formOf}
+use Rattle.rules.specs.Bytes.{comma, space, splitOn, joined, onto, sampleOf}
+use Rattle.rules.specs.Profiles.{Curve, samplesOf, twoOf}
+use Rattle.rules.specs.Verdict.{All}
+use Rattle.rules.proofs.Pieces.{Free, split-joined}
 use Rattle.csv_machine.specs.Fold.{run}
 use Rattle.csv_machine.specs.Number.{Number, empty, numberStep, numberEnd}
 use Rattle.csv_machine.proofs.Number.{number-is-whole}
@@ -161,6 +163,6 @@ row-two (i ∷ []) = rw (number-is-whole i, then-none)
 row-two (i ∷ l ∷ []) = rw (number-is-whole i)
 row-two (i ∷ l ∷ x ∷ more) = rw (number-is-whole i, then-none)
 
--- a row's form, byte by byte
-pub form-run : (line : List ℕ) → formOf line ≡ run openStep start line >>= openEnd
-form-run line = sym (id-run line empty ∙ row-two (splitOn comma line))
+-- contents joined by commas are a row exactly where the machine ends in that row
+pub contents-run : (p : List ℕ) (ps : List (List ℕ)) → All (Free comma) (p ∷ ps) → (run openStep start (joined comma (p ∷ ps)) >>= openEnd) ≡ twoOf (p ∷ ps)
+contents-run p ps h = id-run (joined comma (p ∷ ps)) empty ∙ row-two (splitOn comma (joined comma (p ∷ ps))) ∙ ap twoOf (split-joined comma p ps h)

@@ -1,7 +1,9 @@
 pub mod Pieces
 pub mod Sample
 pub mod Form
+pub mod Fields
 pub mod Steps
 pub mod Rows
 pub mod Fraction
+pub mod Marking
 pub mod Leaps

@@ -19,7 +19,6 @@ use Rattle.rules.specs.Profiles.{Curve, sampled, judgeForm, sampleTable, profil
 use Rattle.rules.specs.Made.{profileMade}
 use Rattle.rules.specs.declared.sizes.ProfileMade.{ProfileMade}
 use Rattle.rules.specs.declared.sizes.ProfileMade.the-variants.{Within}
-use Rattle.csv_machine.specs.Machine.{inRow}
 use Rattle.tables_ids.specs.Column.{curveIdsOf}
 use Rattle.profiles_row.specs.declared.number.Number.the-variants.{Empty}
 use Rattle.profiles_row.specs.declared.row.Past.{Past}
@@ -28,7 +27,7 @@ use Rattle.profiles_row.specs.declared.row.Listed.{Listed}
 use Rattle.profiles_state.specs.declared.state.State.the-variants.{Id, Stopped}
 use Rattle.profiles_row.specs.Near.{empty-near}
 use Rattle.profiles_row.specs.Row.{curve, profileTable, inRange, Climbs, Closed, Going, Ending, enteredMade, Faults}
-use Rattle.profiles_state.specs.Open.{start}
+use Rattle.profiles_state.specs.Open.{start, inRow}
 use Rattle.profiles_state.specs.Holds.{Holds, in-id, at-stop, Ends}
 use Rattle.rules.proofs.Truth.{and-first, and-second}
 use Rattle.rules.proofs.Lists.{over-more}

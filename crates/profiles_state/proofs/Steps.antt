@@ -1,22 +1,20 @@
--- The header, an id and the whole part of a sample: each byte takes the code's state where it takes the reading. Assumes nothing.
-use Prim.Native.Nat.{ℕ, suc, _+_, _/_, _≤_, _<_, min}
-use mathlib.Core.Path.{_≡_, refl, ap, sym, subst, _∙_}
+-- An id and the whole part of a sample: each byte takes the code's state where it takes the reading. Assumes nothing.
+use Prim.Native.Nat.{ℕ, suc, _/_, _≤_, _<_, min}
+use mathlib.Core.Path.{_≡_, refl, ap, _∙_}
 use mathlib.Core.Bool.{Bool, true, false, not, cond, _&&_}
 use mathlib.Core.List.{List, [], append-nil}
 use mathlib.Core.Option.{Option, none, some}
 use native.Mathlib.Omega.{arith}
-use native.Mathlib.Numerals.{add-one}
 use lib.Dec.{leb, ltb, eqb}
-use lib.ListN.{length, getD, List·getD-eq-default}
+use lib.ListN.{length}
 use lib.IntN.{ℤ}
 use borrow.Author.Tests.{eq-eqb, ne-eqb, lt-ltb, le-ltb, leb-true, leb-false}
 use Rattle.rules.specs.Limits.{mostId, profileWidth}
 use Rattle.rules.specs.Lists.{_>>=_, over}
-use Rattle.rules.specs.Answers.{Judged, profilesFile, badHeader, badRow}
+use Rattle.rules.specs.Answers.{Judged, badRow}
 use Rattle.rules.specs.Bytes.{lineFeed, comma, space, minus, point, digitZero, digitNine}
-use Rattle.rules.specs.Profiles.{Curve, profilesHeader, judgeForm, sampleTable}
+use Rattle.rules.specs.Profiles.{Curve, judgeForm, sampleTable}
 use Rattle.csv_machine.specs.Number.{Number as Whole, empty, zero, digits, numberStep, numberEnd}
-use Rattle.csv_machine.specs.Machine.{inRow, stopped, onByte, onLine}
 use Rattle.profiles_row.specs.declared.number.Number.{Number}
 use Rattle.profiles_row.specs.declared.number.Number.the-variants.{Empty, Zero, Digits}
 use Rattle.profiles_row.specs.declared.number.Pushed.{Pushed}
@@ -27,12 +25,12 @@ use Rattle.profiles_row.specs.declared.row.Past.{Past}
 use Rattle.profiles_row.specs.declared.row.Listed.{Listed}
 use Rattle.profiles_row.specs.declared.sample.Tail.{Tail}
 use Rattle.profiles_state.specs.declared.state.State.{State}
-use Rattle.profiles_state.specs.declared.state.State.the-variants.{Header, Id, Whole as InWhole, Fraction, Stopped}
+use Rattle.profiles_state.specs.declared.state.State.the-variants.{Id, Whole as InWhole, Fraction, Stopped}
 use Rattle.profiles_row.specs.Near.{cap, Near, empty-near, zero-near, digits-near, NearNext, next-near, next-broken, Pushes, NearEnd, end-near, end-broken, Ends as NumberEnds}
 use Rattle.profiles_row.specs.Sample.{Sample, whole, fraction, negated, wholeStep}
-use Rattle.profiles_state.specs.Open.{Open, inId, inList, start, openStep, openEnd, Reached, reach}
+use Rattle.profiles_state.specs.Open.{Open, inId, inList, openStep, openEnd, Reached, inRow, stopped, onByte, onLine, reach}
 use Rattle.profiles_row.specs.Row.{Closed, Going}
-use Rattle.profiles_state.specs.Holds.{Holds, in-header, in-id, in-whole, in-fraction, at-stop, Free}
+use Rattle.profiles_state.specs.Holds.{Holds, in-id, in-whole, in-fraction, at-stop, Free}
 use Rattle.rules.proofs.Numbers.{digit-in, digit-below, digit-above}
 use Rattle.csv_machine.proofs.Number.{no-step}
 use Rattle.rules.proofs.Lists.{over-length}
@@ -42,10 +40,10 @@ use Rattle.profiles_row.proofs.Tables.{samples-length}
 
 module _ (profiles samples : ℕ) (place next : ℕ) (before : List Curve) where
   abbrev pub taken : Option Open → Reached
-  taken = onByte profilesFile profilesHeader (judgeForm profiles samples) start openStep openEnd place next before
+  taken = onByte place next before
 
   abbrev pub ended : Judged Curve → Reached
-  ended = onLine profilesFile profilesHeader (judgeForm profiles samples) start openStep openEnd place next before
+  ended = onLine place next before
 
   module _ (o : Open) (b : ℕ) where
     pub reach-byte : (b ≡ lineFeed → ⊥) → reach profiles samples (inRow place next before o) b ≡ taken (openStep o b)
@@ -64,44 +62,6 @@ module _ (profiles samples : ℕ) (place next : ℕ) (before : List Curve) where
         go : (t : Bool) → cond t (ended (judgeForm profiles samples before (openEnd o))) (taken (openStep o b)) ≡ stopped badRow place
         go true = rw h
         go false = rw e
-
--- ---- the header
-
-module _ (at b x : ℕ) (e : x ≡ getD profilesHeader at 0) where
-  pub header-on : b ≡ x → at + 1 < length profilesHeader → Free at Header b Header
-  unfolding reach
-  header-on q h profiles samples profiles₀ samples₀ reached (in-header k) =
-      let l : suc at < length profilesHeader = omega arith in
-      rw (eq-eqb b (getD profilesHeader at 0) (q ∙ e), lt-ltb (suc at) (length profilesHeader) l) (in-header l)
-
-  pub header-off : (b ≡ x → ⊥) → Free at Header b (Stopped badHeader 0)
-  unfolding reach
-  header-off q profiles samples profiles₀ samples₀ reached (in-header k) =
-      rw (ne-eqb b (getD profilesHeader at 0) (λ z. q (z ∙ sym e))) at-stop
-
-  -- the first row opens
-  abbrev opened : Past
-  opened = record { place = at + 1; profiles = 0; samples = 0; rising = 0; last = 0 }
-
-  none-closed : (profiles : List ℕ) (samples : List ℤ) → Closed profiles samples opened profiles []
-  unfolding over
-  none-closed profiles samples =
-      record {
-        counted = refl;
-        summed = refl;
-        room = omega arith;
-        samples-room = omega arith;
-        entered = refl;
-        climb = record { within = omega arith; ascending = λ i h. omega arith; top = λ h. omega arith };
-      }
-
-  pub header-end : b ≡ x → length profilesHeader ≤ at + 1 → Free at Header b (Id opened Empty)
-  unfolding reach over
-  header-end q h profiles samples profiles₀ samples₀ reached (in-header k) =
-      rw (eq-eqb b (getD profilesHeader at 0) (q ∙ e), le-ltb (suc at) (length profilesHeader) (omega arith))
-      (let h : Holds profiles samples (suc at) (Id opened Empty) profiles samples (inRow (at + 1) (suc at) [] start) =
-      in-id {past = opened} (omega arith) (none-closed profiles samples) refl empty-near in
-      subst (λ (p : ℕ). Holds profiles samples (suc at) (Id opened Empty) profiles samples (inRow p (suc at) [] start)) (add-one at) h)
 
 -- the samples of the rows before fit
 pub samples-long : {profiles₀ : List ℕ} {samples₀ samples : List ℤ} {past : Past} {profiles : List ℕ} {before : List Curve}
@@ -306,10 +266,5 @@ module _ (past : Past) (l : Listed) (negative : Bool) (n : Number) where
       go : (m : Whole) → Near Empty m → Lands past l (InWhole past l true Empty) (negated false m)
       go empty empty-near profiles₀ samples₀ at profiles samples before id done c g = in-whole {past = past} {l = l} c g empty-near
 
--- ---- leaves
-
-pub past-header : (place : ℕ) → length profilesHeader ≤ place → 0 ≡ getD profilesHeader place 0
-past-header place h = sym (List·getD-eq-default profilesHeader 0 h)
-
 pub ruleset ways =
-    (past-header, header-on, header-off, header-end, id-broken, id-digits, id-low, id-high, id-unfit, id-whole, whole-broken, whole-digits, whole-low, whole-high, point-unfit, point-value, minus-again, minus-zero, minus-digits, minus-first, same-byte)
+    (id-broken, id-digits, id-low, id-high, id-unfit, id-whole, whole-broken, whole-digits, whole-low, whole-high, point-unfit, point-value, minus-again, minus-zero, minus-digits, minus-first, same-byte)

@@ -1,18 +1,21 @@
 -- A row of profiles byte by byte: the id, then samples with one space between.
-use Prim.Native.Nat.{ℕ}
-use mathlib.Core.Bool.{cond}
+use Prim.Native.Nat.{ℕ, suc}
+use mathlib.Core.Bool.{Bool, true, false, cond}
 use mathlib.Core.List.{List, [], _∷_, _++_}
 use mathlib.Core.Option.{Option, none, some}
 use lib.Dec.{eqb}
 use lib.IntN.{ℤ}
 use Rattle.rules.specs.Lists.{_>>=_}
-use Rattle.rules.specs.Answers.{Reading, profilesFile}
-use Rattle.rules.specs.Bytes.{comma, space}
-use Rattle.rules.specs.Profiles.{Curve, profilesHeader, judgeForm}
-use Rattle.csv_machine.specs.Number.{Number, empty, numberStep, numberEnd}
-use Rattle.profiles_row.specs.Sample.{Sample, fresh, sampleStep, sampleEnd}
+use Rattle.rules.specs.Answers.{badRow, profilesFile, Reading, Judged, wrong, right}
+use Rattle.rules.specs.Bytes.{lineFeed, comma, space}
+use Rattle.rules.specs.Profiles.{Curve, profilesNames, judgeForm}
+use Rattle.csv_machine.specs.Number.{Number, empty, zero, digits, numberStep, numberEnd}
+use Rattle.csv_machine.specs.Marks.{Marked}
+use Rattle.csv_machine.specs.Names.{Named}
+use Rattle.csv_machine.specs.Machine.{Machine, progress, finished}
+use Rattle.csv_machine.specs.Contents.{Contents, Reached as TextReached, machineOf}
+use Rattle.profiles_row.specs.Sample.{Sample, whole, fraction, fresh, sampleStep, sampleEnd}
 use Rattle.profiles_row.specs.Row.{curve}
-use Rattle.csv_machine.specs.Machine.{Progress, progress, finished}
 
 -- ---- a row
 
@@ -37,14 +40,58 @@ unfoldable pub openEnd : Open → Option Curve
 openEnd (inId m) = none
 openEnd (inList id samples x) = sampleEnd x >>= (λ kw. some (curve id (samples ++ kw ∷ [])))
 
--- ---- the whole text: how far it is read, byte by byte; the lent room in profiles and in samples
+-- nothing of the open field is read
+abbrev pub noDigit : Number → Bool
+noDigit empty = true
+noDigit zero = false
+noDigit (digits n) = false
 
-abbrev pub Reached : Type 0
-Reached = Progress Curve Open
+abbrev pub isFresh : Sample → Bool
+isFresh (whole false m) = noDigit m
+isFresh (whole true m) = false
+isFresh (fraction negative n count value) = false
 
+abbrev pub openBegins : Open → Bool
+openBegins (inId m) = noDigit m
+openBegins (inList id [] x) = isFresh x
+openBegins (inList id (kw ∷ samples) x) = false
+
+-- ---- rows by their contents: the rows before and the open row, with its place and the place of the next byte; or the first fault
+
+pub data Reached : Type 0 where
+  inRow : (place next : ℕ) → List Curve → Open → Reached
+  stopped : (number place : ℕ) → Reached
+
+abbrev pub onByte : (place next : ℕ) → List Curve → Option Open → Reached
+onByte place next before none = stopped badRow place
+onByte place next before (some o) = inRow place (suc next) before o
+
+abbrev pub onLine : (place next : ℕ) → List Curve → Judged Curve → Reached
+onLine place next before (wrong n) = stopped n place
+onLine place next before (right row) = inRow (suc next) (suc next) (before ++ row ∷ []) start
+
+-- ---- the whole text: how far it is read, byte by byte
+
+abbrev pub Read : Type 0
+Read = TextReached Curve Open
+
+-- the lent room in profiles and in samples
 module _ (profiles samples : ℕ) where
+  -- a byte of the contents
   unfoldable pub reach : Reached → ℕ → Reached
-  reach = progress profilesFile profilesHeader (judgeForm profiles samples) start openStep openEnd
+  reach (inRow place next before o) b =
+      cond (eqb b lineFeed) (onLine place next before (judgeForm profiles samples before (openEnd o))) (onByte place next before (openStep o b))
+  reach (stopped n place) b = stopped n place
 
-  unfoldable pub reachedEnd : Reached → Reading (List Curve)
-  reachedEnd = finished profilesFile profilesHeader (judgeForm profiles samples) start openStep openEnd
+  abbrev pub contents : Contents Curve Open
+  contents = record { file = profilesFile; names = profilesNames; judge = judgeForm profiles samples; start = start; step = openStep; close = openEnd; begins = openBegins }
+
+  abbrev pub machine : Machine Curve (Marked Named) (Marked Open)
+  machine = machineOf contents
+
+  -- a byte of the text
+  unfoldable pub read : Read → ℕ → Read
+  read = progress machine
+
+  unfoldable pub readEnd : Read → Reading (List Curve)
+  readEnd = finished machine

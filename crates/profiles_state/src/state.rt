@@ -1,4 +1,4 @@
-// A byte of profiles.csv: where it takes what is read so far.
+// A byte of a row's contents: where it takes what is read so far.
 use profiles_row::number;
 use profiles_row::number::Ended;
 use profiles_row::number::Number;
@@ -10,53 +10,18 @@ use profiles_row::sample;
 use profiles_row::sample::Tail;
 use rules::answers::Refusal;
 use rules::sizes::Profile;
-ghost use mathlib.Core.Path.{_≡_};
 ghost use Prim.Native.Nat.{ℕ, _≤_, _<_};
-ghost use lib.ListN.{getD};
 ghost use Rattle.rules.specs.Limits.{mostText};
 ghost use Rattle.rules.specs.Bytes.{digitZero, digitNine, minus, point};
-ghost use Rattle.rules.specs.Profiles.{profilesHeader};
 ghost use Rattle.profiles_row.specs.Row.{Ending};
 ghost use Rattle.profiles_state.specs.Holds.{Live, Steps, Free, Ends};
 
-// Where the next byte falls: into the header, an id, the whole part of a sample, its digits past the point; or after the first fault.
+// Where the next byte falls: into an id, the whole part of a sample, its digits past the point; or after the first fault.
 pub enum State {
-    Header,
     Id(Past, Number),
     Whole(Past, Listed, bool, Number),
     Fraction(Past, Listed, Tail),
     Stopped(u8, u32),
-}
-
-fn header_at(place: u32) -> u8
-    ensures { λ r. ⌜ r ≡ getD profilesHeader place 0 ⌝ }
-{
-    let i = place as usize;
-    if i < Profile::HEADER_LENGTH {
-        Profile::HEADER[i]
-    } else {
-        0
-    }
-}
-
-fn header_step(at: u32, b: u8) -> State
-    requires { ⌜ at < mostText ⌝ }
-    ensures { λ r. ⌜ Free at State.Header b r ⌝ }
-{
-    if b == header_at(at) {
-        if at + 1 < Profile::HEADER_LENGTH as u32 {
-            return State::Header;
-        }
-        let past = Past {
-            place: at + 1,
-            profiles: 0,
-            samples: 0,
-            rising: 0,
-            last: 0,
-        };
-        return State::Id(past, Number::Empty);
-    }
-    State::Stopped(Refusal::HEADER, 0)
 }
 
 fn id_digit(past: Past, n: Number, b: u8) -> State
@@ -242,7 +207,6 @@ pub fn step(state: State, at: u32, b: u8, profiles: &mut [u32], samples: &mut [i
     ensures { λ r. ⌜ Steps at state (now (profiles .entry)) (now (samples .entry)) b r (now (profiles .exit)) (now (samples .exit)) ⌝ }
 {
     match state {
-        State::Header => header_step(at, b),
         State::Id(past, n) => id_step(past, n, b),
         State::Whole(past, l, negative, n) => whole_step(past, l, negative, n, b),
         State::Fraction(past, l, t) => fraction_step(past, l, t, at, b, profiles, samples),

@@ -3,11 +3,13 @@ use Prim.Native.Nat.{ℕ, zero, suc, _+_, _*_, _≤_, _<_}
 use native.Mathlib.Omega.{arith}
 use native.Mathlib.Nat.{suc-mul, le-of-suc-le-suc, not-suc-le-zero}
 use mathlib.Core.Path.{_≡_, refl, ap, ap₂, sym, _∙_}
-use mathlib.Core.Bool.{Bool, true, false, _&&_}
+use mathlib.Core.Bool.{Bool, true, false, _&&_, false≢true}
 use mathlib.Core.List.{List, [], _∷_, _++_, append-assoc}
+use lib.Dec.{eqb}
 use lib.ListN.{length, getD, take, drop, length-append, length-drop}
 use lib.Seq.{sets, sets-eq, drop-drop, take-append-seam, drop-append-add}
-use Rattle.rules.specs.Lists.{every, lead, flat, over}
+use borrow.Author.Tests.{eqb-true, eq-eqb}
+use Rattle.rules.specs.Lists.{every, lead, sameList, sameLists, flat, over}
 use Rattle.rules.specs.Energy.{tabulate}
 use Rattle.rules.proofs.Truth.{by-case, and-true}
 
@@ -33,6 +35,36 @@ module _ {A : Type 0} (p : A → Bool) where
   pub take-lead : (s : List A) → take (length (lead p s)) s ≡ lead p s
   take-lead [] = refl
   take-lead (x ∷ s) = by-case (λ l. take (length l) (x ∷ s) ≡ l) (p x) (x ∷ lead p s) [] (λ e. ap (λ l. x ∷ l) (take-lead s)) (λ e. refl)
+
+-- ---- lists that are the same are equal, and equal ones are the same
+
+pub same-self : (s : List ℕ) → sameList s s ≡ true
+same-self [] = refl
+same-self (b ∷ s) = rw (eq-eqb b b refl) (same-self s)
+
+pub same-equal : (s t : List ℕ) → sameList s t ≡ true → s ≡ t
+same-equal [] [] e = refl
+same-equal [] (y ∷ t) e = absurd (false≢true e)
+same-equal (x ∷ s) [] e = absurd (false≢true e)
+same-equal (x ∷ s) (y ∷ t) e = go (eqb x y) refl e (same-equal s t)
+  where
+    go : (q : Bool) → eqb x y ≡ q → (q && sameList s t) ≡ true → (sameList s t ≡ true → s ≡ t) → x ∷ s ≡ y ∷ t
+    go true p e ih = let a : x ≡ y = eqb-true x y p in let b : s ≡ t = ih e in cc
+    go false p e ih = absurd (false≢true e)
+
+pub all-self : (ps : List (List ℕ)) → sameLists ps ps ≡ true
+all-self [] = refl
+all-self (p ∷ ps) = rw (same-self p) (all-self ps)
+
+pub all-equal : (ps qs : List (List ℕ)) → sameLists ps qs ≡ true → ps ≡ qs
+all-equal [] [] e = refl
+all-equal [] (y ∷ t) e = absurd (false≢true e)
+all-equal (x ∷ s) [] e = absurd (false≢true e)
+all-equal (x ∷ s) (y ∷ t) e = go (sameList x y) refl e (all-equal s t)
+  where
+    go : (q : Bool) → sameList x y ≡ q → (q && sameLists s t) ≡ true → (sameLists s t ≡ true → s ≡ t) → x ∷ s ≡ y ∷ t
+    go true p e ih = let a : x ≡ y = same-equal x y p in let b : s ≡ t = ih e in cc
+    go false p e ih = absurd (false≢true e)
 
 -- ---- a function's values in order
 

@@ -8,7 +8,7 @@ use mathlib.Core.Option.{Option, none, some, Option·map}
 use lib.Dec.{leb, ltb, eqb}
 use lib.ListN.{length}
 use lib.IntN.{ℤ, pos, negℤ}
-use Rattle.rules.specs.Lists.{_>>=_, every}
+use Rattle.rules.specs.Lists.{_>>=_, each, every}
 
 -- the bytes of a text that is written here as it stands in a file
 abbrev pub bytes : String → List ℕ
@@ -19,6 +19,13 @@ bytes (_then_ c s) = code c ∷ bytes s
 
 abbrev pub lineFeed : ℕ
 lineFeed = code "\n"
+
+-- one CR just before LF is dropped with it
+abbrev pub carriageReturn : ℕ
+carriageReturn = code "\r"
+
+abbrev pub quote : ℕ
+quote = code "\""
 
 abbrev pub space : ℕ
 space = code " "
@@ -62,6 +69,32 @@ abbrev pub startOf : ℕ → List (List ℕ) → ℕ
 startOf zero ps = 0
 startOf (suc k) [] = 0
 startOf (suc k) (p ∷ ps) = length p + 1 + startOf k ps
+
+-- ---- a line, and the contents of its fields
+
+-- a line that an LF ended, less one CR just before the LF
+abbrev pub lessReturn : List ℕ → List ℕ
+lessReturn [] = []
+lessReturn (b ∷ []) = cond (eqb b carriageReturn) [] (b ∷ [])
+lessReturn (b ∷ c ∷ s) = b ∷ lessReturn (c ∷ s)
+
+-- the pieces of a field between quotes: the content alone, or nothing, the content and nothing
+abbrev pub between : List (List ℕ) → Option (List ℕ)
+between [] = none
+between (p ∷ []) = some p
+between (p ∷ q ∷ []) = none
+between ([] ∷ q ∷ [] ∷ []) = some q
+between ([] ∷ q ∷ (b ∷ r) ∷ []) = none
+between ((b ∷ p) ∷ q ∷ r ∷ []) = none
+between (p ∷ q ∷ r ∷ x ∷ more) = none
+
+-- "Any CSV field, header names too, may now stand in a pair of quotes"; a quote in the content breaks the form
+abbrev pub contentOf : List ℕ → Option (List ℕ)
+contentOf field = between (splitOn quote field)
+
+-- a comma parts two fields wherever it stands
+abbrev pub contentsOf : List ℕ → Option (List (List ℕ))
+contentsOf line = each contentOf (splitOn comma line)
 
 -- ---- whole numbers: one or more digits with no needless leading zero
 

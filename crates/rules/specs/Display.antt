@@ -6,7 +6,7 @@ use lib.Dec.{ltb, eqb}
 use lib.ListN.{length, drop, getD}
 use Rattle.rules.specs.Lists.{lead}
 use Rattle.rules.specs.Answers.{timetableFile, solutionFile}
-use Rattle.rules.specs.Bytes.{lineFeed}
+use Rattle.rules.specs.Bytes.{lineFeed, lessReturn}
 
 -- a row below the header starts just after an LF that is not the text's last byte
 abbrev pub startsRow : List ℕ → ℕ → Bool
@@ -16,8 +16,12 @@ startsRow s place = ltb 0 place && (ltb place (length s) && eqb (getD s (place -
 abbrev pub lineOf : List ℕ → List ℕ
 lineOf s = lead (λ b. not (eqb b lineFeed)) s
 
+-- what is shown of it: one CR just before the LF is dropped too
+abbrev pub shownOf : List ℕ → List ℕ
+shownOf s = cond (ltb (length (lineOf s)) (length s)) (lessReturn (lineOf s)) (lineOf s)
+
 unfoldable pub rowIn : List ℕ → (place : ℕ) → List ℕ
-rowIn s place = cond (startsRow s place) (lineOf (drop place s)) []
+rowIn s place = cond (startsRow s place) (shownOf (drop place s)) []
 
 unfoldable pub rowAt : (draft solution : List ℕ) → (file place : ℕ) → List ℕ
 rowAt draft solution file place = cond (eqb file timetableFile) (rowIn draft place) (cond (eqb file solutionFile) (rowIn solution place) [])

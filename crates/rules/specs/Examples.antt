@@ -7,7 +7,7 @@ use mathlib.Core.Bool.{Bool, true, false}
 use mathlib.Core.List.{List, [], _∷_, _++_}
 use lib.ListN.{replicate, length}
 use lib.IntN.{ℤ, pos}
-use Rattle.rules.specs.Answers.{refusal, violation, badHeader, outOfRange, unknownName, noSubnet, noRoom, timetableFile, profilesFile, constraintsFile, solutionFile}
+use Rattle.rules.specs.Answers.{refusal, violation, badHeader, badRow, outOfRange, unknownName, noSubnet, noRoom, timetableFile, profilesFile, constraintsFile, solutionFile}
 use Rattle.rules.specs.Bytes.{bytes, joined, comma}
 use Rattle.rules.specs.Timetable.{timetableHeader, configuration, inRange}
 use Rattle.rules.specs.Profiles.{profilesHeader}
@@ -16,6 +16,7 @@ use Rattle.rules.specs.Reading.{Texts}
 use Rattle.rules.specs.Verdict.{All}
 use Rattle.rules.specs.Merge.{earlier, later}
 use Rattle.rules.specs.Entries.{Tables, checked, noPeaks, reported, merged}
+use Rattle.rules.specs.Display.{rowAt}
 use Rattle.rules.specs.Computed.{computed}
 use Rattle.rules.specs.declared.sizes.Configuration.{Configuration}
 use Rattle.rules.specs.declared.figures.Peaks.{Peaks}
@@ -233,3 +234,55 @@ unmarked =
 unmarked-hold : All Right unmarked
 unfolding computed
 unmarked-hold = (refl, (refl, (refl, (refl, (refl, (refl, (refl, (refl, (refl, (refl, tt))))))))))
+
+-- ---- quoted fields and CR LF (document 02, E1)
+
+-- the draft as a spreadsheet writes it: every field in quotes, every line ended by CR LF
+abbrev pub quotedHeader : List ℕ
+quotedHeader =
+    bytes "\"leg_id\",\"train_id\",\"track_id\",\"start_station_id\",\"end_station_id\",\"nominal_departure_configuration\",\"departure_configurations\"\r\n"
+
+abbrev pub quotedDraft : List ℕ
+quotedDraft =
+    quotedHeader
+    ++ bytes "\"1\",\"1\",\"1\",\"1\",\"2\",\"10_4_7\",\"10_4_7 15_4_7\"\r\n\"2\",\"1\",\"2\",\"2\",\"3\",\"40_3_8\",\"40_3_8 45_3_8\"\r\n"
+
+abbrev pub quotedProfiles : List ℕ
+quotedProfiles = bytes "profile_id,\"power_consumptions\"\n\"7\",0.5 1.0 0.25 -0.4\r\n8,\"0.3 0.0 -0.2\"\n"
+
+-- a draft whose one row is given
+abbrev oneRow : String → List ℕ
+oneRow s = quotedHeader ++ bytes s
+
+abbrev pub quotes : List Example
+quotes =
+    -- a draft in quotes beside a solution without, and the other way round: contents count
+    answers quotedDraft quotedProfiles dwell20 draft Accepted
+    ∷ answers draft profiles dwell20 quotedDraft Accepted
+    -- a row's place is its first byte, the quote: 15 at the second row
+    ∷ answers quotedDraft profiles (document "" "{\"subnet_id\": 1, \"track_ids\": [1]}") draft (Refused (refusal noSubnet timetableFile 175))
+    -- "still 4": quotes about a part of a field, a quote in the content, a comma in it, no closing quote, an empty content
+    ∷ answers (oneRow "1,1,1,1,2,10_\"4\"_7,10_4_7\n") profiles dwell20 draft (Refused (refusal badRow timetableFile 129))
+    ∷ answers (oneRow "\"\"1\"\",1,1,1,2,10_4_7,10_4_7\n") profiles dwell20 draft (Refused (refusal badRow timetableFile 129))
+    ∷ answers (oneRow "\"1,1\",1,1,2,10_4_7,10_4_7\n") profiles dwell20 draft (Refused (refusal badRow timetableFile 129))
+    ∷ answers (oneRow "1,1,1,1,2,10_4_7,\"10_4_7\n") profiles dwell20 draft (Refused (refusal badRow timetableFile 129))
+    ∷ answers (oneRow "1,\"\",1,1,2,10_4_7,10_4_7\n") profiles dwell20 draft (Refused (refusal badRow timetableFile 129))
+    -- one CR and no more, just before LF and nowhere else
+    ∷ answers (oneRow "1,1,1,1,2,10_4_7,10_4_7\r\r\n") profiles dwell20 draft (Refused (refusal badRow timetableFile 129))
+    ∷ answers (oneRow "1,1,1,1,2,10_4_7,\"10_4_7\r\"\n") profiles dwell20 draft (Refused (refusal badRow timetableFile 129))
+    ∷ answers (oneRow "1,1,1,1,2,10_4_7,10_4_7\r") profiles dwell20 draft (Refused (refusal badRow timetableFile 129))
+    -- 3: one pair of quotes about the whole line; a name cut by its quotes
+    ∷ answers draft (bytes "\"profile_id,power_consumptions\"\n7,0.5 1.0 0.25 -0.4\n") dwell20 draft (Refused (refusal badHeader profilesFile 0))
+    ∷ answers draft (bytes "\"profile\"_id,power_consumptions\n") dwell20 draft (Refused (refusal badHeader profilesFile 0))
+    ∷ []
+
+quotes-hold : All Right quotes
+unfolding computed
+quotes-hold = (refl, (refl, (refl, (refl, (refl, (refl, (refl, (refl, (refl, (refl, (refl, (refl, (refl, tt)))))))))))))
+
+-- for display a row keeps its quotes, and loses one CR before its LF; a row without LF keeps all
+shown : (rowAt (bytes "h\r\n\"a\"\r\nb\r\r\nc\r") [] timetableFile 3 ≡ bytes "\"a\"")
+    × (rowAt (bytes "h\r\n\"a\"\r\nb\r\r\nc\r") [] timetableFile 8 ≡ bytes "b\r")
+    × (rowAt (bytes "h\r\n\"a\"\r\nb\r\r\nc\r") [] timetableFile 12 ≡ bytes "c\r")
+unfolding computed
+shown = (refl, refl, refl)

@@ -63,6 +63,13 @@ sameList [] (y ∷ ys) = false
 sameList (x ∷ xs) [] = false
 sameList (x ∷ xs) (y ∷ ys) = eqb x y && sameList xs ys
 
+-- so are two lists of such lists
+abbrev pub sameLists : List (List ℕ) → List (List ℕ) → Bool
+sameLists [] [] = true
+sameLists [] (y ∷ ys) = false
+sameLists (x ∷ xs) [] = false
+sameLists (x ∷ xs) (y ∷ ys) = sameList x y && sameLists xs ys
+
 abbrev pub startsWith : List ℕ → List ℕ → Bool
 startsWith [] s = true
 startsWith (n ∷ ns) [] = false

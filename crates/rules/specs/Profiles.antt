@@ -9,13 +9,17 @@ use lib.IntN.{ℤ, natAbs}
 use Rattle.rules.specs.Limits.{mostId, mostKw, mostProfiles, mostSampled, mostSamples}
 use Rattle.rules.specs.Lists.{_>>=_, each, every, any, first, isSome, sumOf, flat}
 use Rattle.rules.specs.Answers.{Judged, wrong, judge, Test, _needs_, Reading, badRow, outOfRange, tooMany, alreadySeen, notThere, wrongSamples, noRoom, profilesFile}
-use Rattle.rules.specs.Bytes.{bytes, wholeOf, sampleOf, splitOn, comma, space}
+use Rattle.rules.specs.Bytes.{bytes, wholeOf, sampleOf, splitOn, contentsOf, space}
 use Rattle.rules.specs.Rows.{headerOf, csvOf}
 use Rattle.rules.specs.Timetable.{Row}
 use Rattle.rules.specs.declared.sizes.Profile.{Profile}
 
+abbrev pub profilesNames : List (List ℕ)
+profilesNames = bytes "profile_id" ∷ bytes "power_consumptions" ∷ []
+
+-- as it is written
 abbrev pub profilesHeader : List ℕ
-profilesHeader = headerOf (bytes "profile_id" ∷ bytes "power_consumptions" ∷ [])
+profilesHeader = headerOf profilesNames
 
 -- a profile's id and its samples, in kW
 pub record Curve : Type 0 where
@@ -35,7 +39,7 @@ twoOf (i ∷ l ∷ []) = do
 twoOf (i ∷ l ∷ x ∷ more) = none
 
 abbrev pub formOf : List ℕ → Option Curve
-formOf line = twoOf (splitOn comma line)
+formOf line = contentsOf line >>= twoOf
 
 -- how many samples profiles have
 abbrev pub sampled : List Curve → ℕ
@@ -59,7 +63,7 @@ module _ (profiles samples : ℕ) where
   rowOf before line = judgeForm before (formOf line)
 
   unfoldable pub profilesOf : List ℕ → Reading (List Curve)
-  profilesOf = csvOf profilesFile rowOf profilesHeader
+  profilesOf = csvOf profilesFile rowOf profilesNames
 
 -- ---- 12 and 13, over a row of the timetable: every entry of its list counts, 12 before 13
 

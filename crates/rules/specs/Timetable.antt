@@ -8,22 +8,25 @@ use lib.ListN.{length}
 use Rattle.rules.specs.Limits.{mostId, leastTravel, mostTravel, mostListed, mostLegs, mostConfigurations}
 use Rattle.rules.specs.Lists.{_>>=_, each, every, any, firstPlace, sumOf, flat}
 use Rattle.rules.specs.Answers.{Judged, wrong, judge, Test, _needs_, Reading, badRow, outOfRange, tooMany, alreadySeen, nominalNotListed, noRoom, timetableFile}
-use Rattle.rules.specs.Bytes.{bytes, wholeOf, splitOn, comma, space, underscore}
+use Rattle.rules.specs.Bytes.{bytes, wholeOf, splitOn, contentsOf, space, underscore}
 use Rattle.rules.specs.Rows.{headerOf, csvOf}
 use Rattle.rules.specs.declared.sizes.Configuration.{Configuration}
 use Rattle.rules.specs.declared.sizes.Leg.{Leg}
 
-abbrev pub timetableHeader : List ℕ
-timetableHeader =
-    headerOf
-    (bytes "leg_id"
+abbrev pub timetableNames : List (List ℕ)
+timetableNames =
+    bytes "leg_id"
     ∷ bytes "train_id"
     ∷ bytes "track_id"
     ∷ bytes "start_station_id"
     ∷ bytes "end_station_id"
     ∷ bytes "nominal_departure_configuration"
     ∷ bytes "departure_configurations"
-    ∷ [])
+    ∷ []
+
+-- as it is written
+abbrev pub timetableHeader : List ℕ
+timetableHeader = headerOf timetableNames
 
 -- ---- the form of a row
 
@@ -81,7 +84,7 @@ sevenOf (a ∷ b ∷ c ∷ d ∷ e ∷ n ∷ l ∷ []) = do
 sevenOf (a ∷ b ∷ c ∷ d ∷ e ∷ n ∷ l ∷ x ∷ more) = none
 
 abbrev pub formOf : List ℕ → Option Row
-formOf line = sevenOf (splitOn comma line)
+formOf line = contentsOf line >>= sevenOf
 
 -- ---- what a row of good form must keep
 
@@ -130,10 +133,10 @@ abbrev pub solutionFits : (choices : ℕ) → List Row → Row → Bool
 solutionFits choices before r = ltb (length before) choices
 
 unfoldable pub timetableOf : (H legs configurations : ℕ) → List ℕ → Reading (List Row)
-timetableOf H legs configurations = csvOf timetableFile (rowOf H (draftFits legs configurations)) timetableHeader
+timetableOf H legs configurations = csvOf timetableFile (rowOf H (draftFits legs configurations)) timetableNames
 
 unfoldable pub solutionOf : (H file choices : ℕ) → List ℕ → Reading (List Row)
-solutionOf H file choices = csvOf file (rowOf H (solutionFits choices)) timetableHeader
+solutionOf H file choices = csvOf file (rowOf H (solutionFits choices)) timetableNames
 
 -- ---- the tables
 

@@ -60,11 +60,16 @@ displays =
     ∷ shows (bytes "header") [] timetableFile 3 []
     ∷ shows (bytes "\n\n") [] timetableFile 1 []
     ∷ shows (bytes "\na") [] timetableFile 1 (bytes "a")
-    -- CR is no line's end
-    ∷ shows (bytes "h\r\na\r\nb") [] timetableFile 3 (bytes "a\r")
+    -- one CR just before the LF goes with it, and no other; quotes stay; a CR by itself is no line's end
+    ∷ shows (bytes "h\r\na\r\nb") [] timetableFile 3 (bytes "a")
+    ∷ shows (bytes "h\na\r\r\n") [] timetableFile 2 (bytes "a\r")
+    ∷ shows (bytes "h\n\ra\n") [] timetableFile 2 (bytes "\ra")
+    ∷ shows (bytes "h\n\r\n") [] timetableFile 2 []
+    ∷ shows (bytes "h\n\r") [] timetableFile 2 (bytes "\r")
+    ∷ shows [] (bytes "h\r\n\"a\",b\r\n") solutionFile 3 (bytes "\"a\",b")
     ∷ shows (bytes "h\ra\rb") [] timetableFile 2 []
     ∷ []
 
 displays-hold : All Right displays
 unfolding computed
-displays-hold = (refl, (refl, (refl, (refl, (refl, (refl, (refl, (refl, (refl, (refl, (refl, (refl, (refl, (refl, (refl, (refl, (refl, (refl, (refl, (refl, (refl, (refl, (refl, (refl, (refl, (refl, (refl, tt)))))))))))))))))))))))))))
+displays-hold = (refl, (refl, (refl, (refl, (refl, (refl, (refl, (refl, (refl, (refl, (refl, (refl, (refl, (refl, (refl, (refl, (refl, (refl, (refl, (refl, (refl, (refl, (refl, (refl, (refl, (refl, (refl, (refl, (refl, (refl, (refl, (refl, tt))))))))))))))))))))))))))))))))

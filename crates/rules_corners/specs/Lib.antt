@@ -7,8 +7,9 @@ pub mod Sizes
 -- No bytes, no rows, no records; H and quarters
 pub mod Empty
 pub mod Horizon
--- CSV rows; constraints.json
+-- CSV rows, in quotes or not; constraints.json
 pub mod Csv
+pub mod Quotes
 pub mod Tokens
 pub mod Documents
 -- Inequalities and choices

@@ -23,3 +23,5 @@ pub mod Left
 pub mod Rows
 pub mod Soundness
 pub mod OneValue
+-- All texts together
+pub mod Files

@@ -1,14 +1,14 @@
 -- What holds of all elements: of a second part, of what is looked up or picked out, of one more; pairs. Assumes nothing.
 use Prim.Native.Nat.{ℕ, zero, suc}
-use mathlib.Core.Path.{_≡_, sym, _∙_}
+use mathlib.Core.Path.{_≡_, refl, sym, _∙_}
 use mathlib.Core.Bool.{Bool, true, false, cond, true≢false}
 use mathlib.Core.List.{List, [], _∷_, _++_, map}
-use mathlib.Core.Option.{some}
+use mathlib.Core.Option.{Option, some}
 use lib.ListN.{getD}
-use Rattle.rules.specs.Lists.{any, only, first, flat}
+use Rattle.rules.specs.Lists.{each, any, only, first, flat}
 use Rattle.rules.specs.Verdict.{All}
-use Rattle.rules.proofs.Truth.{by-case, all-append, missing}
-use Rattle.rules_theorems.specs.Lists.{Pairs}
+use Rattle.rules.proofs.Truth.{by-case, all-append, missing, found-first}
+use Rattle.rules_theorems.specs.Lists.{Pairs, Along}
 use Rattle.rules_theorems.proofs.DocumentWords.{or-first, or-second}
 
 module _ {A : Type 0} (P : A → Type 0) where
@@ -67,3 +67,28 @@ none-passes p (x ∷ l) e = (or-first (p x) (any p l) e, none-passes p l (or-sec
 pub pairs-more : {A : Type 0} (R : A → A → Type 0) (l : List A) (y : A) → Pairs R l → All (λ x. R x y) l → Pairs R (l ++ y ∷ [])
 pairs-more R [] y h k = (tt, tt)
 pairs-more R (x ∷ l) y h k = (all-more (R x) l y (h .0) (k .0), pairs-more R l y (h .1) (k .1))
+
+-- ---- two lists, place by place
+
+module _ {A B : Type 0} (R : A → B → Type 0) where
+  -- what each element of the first list keeps
+  pub along-first : (P : A → Type 0) → ((x : A) (y : B) → R x y → P x) → (xs : List A) (ys : List B) → Along R xs ys → All P xs
+  along-first P f [] ys h = tt
+  along-first P f (x ∷ xs) [] h = absurd h
+  along-first P f (x ∷ xs) (y ∷ ys) h = (f x y (h .0), along-first P f xs ys (h .1))
+
+-- each element gives its partner
+module _ {A B : Type 0} (f : A → Option B) (R : A → B → Type 0) where
+  pub along-each : ((x : A) (y : B) → R x y → f x ≡ some y) → (xs : List A) (ys : List B) → Along R xs ys → each f xs ≡ some ys
+  along-each g [] [] h = refl
+  along-each g [] (y ∷ ys) h = absurd h
+  along-each g (x ∷ xs) [] h = absurd h
+  along-each g (x ∷ xs) (y ∷ ys) h = rw (g x y (h .0), along-each g xs ys (h .1))
+
+  pub each-along : ((x : A) (y : B) → f x ≡ some y → R x y) → (xs : List A) (ys : List B) → each f xs ≡ some ys → Along R xs ys
+  each-along g [] ys e = let q : [] ≡ ys = cc in rw (← q) tt
+  each-along g (x ∷ xs) ys e =
+      let a = found-first (f x) _ ys e in
+      let b = found-first (each f xs) _ ys (a .2) in
+      let q : a .0 ∷ b .0 ≡ ys = cc (b .2) in
+      rw (← q) (g x (a .0) (a .1), each-along g xs (b .0) (b .1))

@@ -9,9 +9,9 @@ use borrow.Author.Tests.{le-leb, lt-leb}
 use Rattle.rules.specs.Limits.{leastHorizon, mostHorizon, mostText}
 use Rattle.rules.specs.Answers.{badHorizon, tooLong, noFile, timetableFile, profilesFile, constraintsFile, refusal, refused, Judged}
 use Rattle.rules.specs.Rows.{csvOf}
-use Rattle.rules.specs.Timetable.{rowOf, draftFits, solutionFits, timetableHeader, timetableOf, solutionOf}
+use Rattle.rules.specs.Timetable.{rowOf, draftFits, solutionFits, timetableNames, timetableOf, solutionOf}
 use Rattle.rules.specs.Profiles as Profiles
-use Rattle.rules.specs.Profiles.{profilesHeader, profilesOf}
+use Rattle.rules.specs.Profiles.{profilesNames, profilesOf}
 use Rattle.rules.specs.Constraints.{constraintsOf}
 use Rattle.rules.specs.Reading.{Rooms, Texts, filesOf}
 use Rattle.rules.specs.Entries.{Tables, roomsOf, allRead, checked}
@@ -25,22 +25,22 @@ horizon-out H x room (inl h) = rw (lt-leb leastHorizon H h)
 horizon-out H x room (inr h) = rw (lt-leb H mostHorizon h, and-false)
 
 module _ (s : List ℕ) (long : mostText < length s) where
-  csv-too-long : {A : Type 0} (file : ℕ) (rowOf : List A → List ℕ → Judged A) (header : List ℕ) → csvOf file rowOf header s ≡ refused (refusal tooLong file 0)
+  csv-too-long : {A : Type 0} (file : ℕ) (rowOf : List A → List ℕ → Judged A) (names : List (List ℕ)) → csvOf file rowOf names s ≡ refused (refusal tooLong file 0)
   unfolding csvOf
-  csv-too-long file rowOf header = rw (lt-leb (length s) mostText long)
+  csv-too-long file rowOf names = rw (lt-leb (length s) mostText long)
 
   -- 2: a text of more bytes than the limit, whatever it says
   pub timetable-too-long : (H legs configurations : ℕ) → timetableOf H legs configurations s ≡ refused (refusal tooLong timetableFile 0)
   unfolding timetableOf
-  timetable-too-long H legs configurations = csv-too-long timetableFile (rowOf H (draftFits legs configurations)) timetableHeader
+  timetable-too-long H legs configurations = csv-too-long timetableFile (rowOf H (draftFits legs configurations)) timetableNames
 
   pub profiles-too-long : (profiles samples : ℕ) → profilesOf profiles samples s ≡ refused (refusal tooLong profilesFile 0)
   unfolding profilesOf
-  profiles-too-long profiles samples = csv-too-long profilesFile (Profiles.rowOf profiles samples) profilesHeader
+  profiles-too-long profiles samples = csv-too-long profilesFile (Profiles.rowOf profiles samples) profilesNames
 
   pub solution-too-long : (H file choices : ℕ) → solutionOf H file choices s ≡ refused (refusal tooLong file 0)
   unfolding solutionOf
-  solution-too-long H file choices = csv-too-long file (rowOf H (solutionFits choices)) timetableHeader
+  solution-too-long H file choices = csv-too-long file (rowOf H (solutionFits choices)) timetableNames
 
   pub constraints-too-long : (legs : List ℕ) (constraints tracks : ℕ) (rules : Rules) → constraintsOf legs constraints tracks rules s ≡ refused (refusal tooLong constraintsFile 0)
   unfolding constraintsOf

@@ -1,32 +1,31 @@
 -- What texts say does not depend on the room that was lent: two readings of them that are not refused give the same. Assumes nothing.
-use Prim.Native.Nat.{ℕ, suc, _+_, _/_, _≤_}
+use Prim.Native.Nat.{ℕ, _+_, _/_, _≤_}
 use mathlib.Core.Path.{_≡_, refl, ap, sym, _∙_}
 use mathlib.Core.Bool.{Bool, true, false, not, cond}
 use mathlib.Core.List.{List, [], _∷_, _++_}
-use mathlib.Core.Option.{Option, none, some}
+use mathlib.Core.Option.{Option, some}
 use lib.Dec.{leb, ltb, eqb}
-use lib.ListN.{length, drop}
+use lib.ListN.{length}
 use Rattle.rules.specs.Limits.{mostText, mostId, mostConstraints, mostTracks, configurationWidth}
-use Rattle.rules.specs.Lists.{startsWith, any}
+use Rattle.rules.specs.Lists.{any}
 use Rattle.rules.specs.Kinds.{subnets}
 use Rattle.rules.specs.Answers.{Reading, good, Judged, wrong, right, timetableFile, profilesFile, solutionFile, secondFile}
-use Rattle.rules.specs.Bytes.{lineFeed, splitOn}
-use Rattle.rules.specs.Rows.{onRow, rowsFrom, csvOf, placeOfRow}
-use Rattle.rules.specs.Timetable.{Row, rowOf, formOf, timetableHeader, timetableOf, solutionOf, draftFits, solutionFits, choicesOf}
-use Rattle.rules.specs.Profiles.{Curve, profilesHeader, profilesOf, formOf as curveForm, rowOf as curveRow}
+use Rattle.rules.specs.Bytes.{lineFeed, splitOn, lessReturn}
+use Rattle.rules.specs.Rows.{heads, onRow, rowsFrom, headed, csvOf}
+use Rattle.rules.specs.Timetable.{Row, rowOf, formOf, timetableNames, timetableOf, solutionOf, draftFits, solutionFits, choicesOf}
+use Rattle.rules.specs.Profiles.{Curve, profilesNames, profilesOf, formOf as curveForm, rowOf as curveRow}
 use Rattle.rules.specs.Tokens.{Token, tokensOf}
 use Rattle.rules.specs.Constraints.{actionOf, Document, Turn, fault, on, finish, isNumber, numberOf, start, empty, plainRules, listName, documentEnds, recordOpens, keyName, recordEnds, stringValue, stringCut, legValue, subnetValue, secondsValue, numberValue, tracksOpen, trackNumber, act, turnOf, onward, run, constraintsOf}
-use Rattle.rules.specs.Reading.{Rooms, Texts, Files, legIds, filesOf, sameLeg, differsFrom, choicesRead}
+use Rattle.rules.specs.Reading.{Rooms, Texts, Files, legIds, filesOf, choicesRead}
 use Rattle.rules.specs.Entries.{Whole, allRead, Both, bothRead}
 use Rattle.rules.specs.declared.sizes.Configuration.{Configuration}
 use Rattle.rules.specs.declared.tokens.Action.{Action}
 use Rattle.rules.specs.declared.tokens.Action.the-variants.{Broken, Early, Goes, ListName, DocumentEnds, RecordOpens, KeyName, RecordEnds, StringValue, StringCut, NumberValue, TracksOpen, TrackNumber, Finishes}
 use Rattle.rules.specs.declared.tokens.State.{State}
-use Rattle.rules.proofs.Truth.{missing}
 use Rattle.rules_theorems.proofs.GoodText.{never-good, good-test}
-use Rattle.rules_theorems.proofs.GoodRows.{form-right, curve-right, timetable-good, solution-good}
+use Rattle.rules_theorems.proofs.GoodRows.{form-right, curve-right, timetable-good, solution-good, profiles-good}
 use Rattle.rules_theorems.proofs.LawfulRows.{choices-fit}
-use Rattle.rules_theorems.proofs.GoodFiles.{files-good, choices-good, good-choices, all-good, both-good}
+use Rattle.rules_theorems.proofs.GoodFiles.{files-good, columns-many, choices-good, good-choices, all-good, both-good}
 
 -- ---- CSV: two judges that take a line for the same row, where neither finds it wrong
 
@@ -38,24 +37,28 @@ module _ {A : Type 0} (file : ℕ) (one two : List A → List ℕ → Judged A)
   rows-alike place before ([] ∷ []) rs qs e k = cc
   rows-alike place before ((b ∷ line) ∷ []) rs qs e k = never-good _ rs e
   rows-alike place before (line ∷ next ∷ lines) rs qs e k =
-      go (one before line) (two before line) refl refl (λ r. rows-alike (place + length line + 1) (before ++ r ∷ []) (next ∷ lines) rs qs) e k
+      go (one before (lessReturn line)) (two before (lessReturn line)) refl refl (λ r. rows-alike (place + length line + 1) (before ++ r ∷ []) (next ∷ lines) rs qs) e k
     where
       more : (List A → List ℕ → Judged A) → A → Reading (List A)
       more judge r = rowsFrom file judge (place + length line + 1) (before ++ r ∷ []) (next ∷ lines)
 
-      go : (j₁ j₂ : Judged A) → one before line ≡ j₁ → two before line ≡ j₂ → ((r : A) → more one r ≡ good rs → more two r ≡ good qs → rs ≡ qs)
+      go : (j₁ j₂ : Judged A) → one before (lessReturn line) ≡ j₁ → two before (lessReturn line) ≡ j₂ → ((r : A) → more one r ≡ good rs → more two r ≡ good qs → rs ≡ qs)
           → onRow file one place j₁ (more one) ≡ good rs → onRow file two place j₂ (more two) ≡ good qs → rs ≡ qs
       go (wrong n) j₂ is₁ is₂ ih e k = never-good _ rs e
       go (right r) (wrong n) is₁ is₂ ih e k = never-good _ qs k
-      go (right r) (right q) is₁ is₂ ih e k = ih r e (rw (alike before line r q is₁ is₂) k)
+      go (right r) (right q) is₁ is₂ ih e k = ih r e (rw (alike before (lessReturn line) r q is₁ is₂) k)
 
-  csv-alike : (header s : List ℕ) (rs qs : List A) → csvOf file one header s ≡ good rs → csvOf file two header s ≡ good qs → rs ≡ qs
+  headed-alike : (names lines : List (List ℕ)) (rs qs : List A) → headed file one names lines ≡ good rs → headed file two names lines ≡ good qs → rs ≡ qs
+  headed-alike names [] rs qs e k = never-good _ rs e
+  headed-alike names (line ∷ []) rs qs e k = never-good _ rs e
+  headed-alike names (line ∷ next ∷ lines) rs qs e k =
+      rows-alike (length line + 1) [] (next ∷ lines) rs qs (good-test (heads names line) _ _ rs e .1) (good-test (heads names line) _ _ qs k .1)
+
+  csv-alike : (names : List (List ℕ)) (s : List ℕ) (rs qs : List A) → csvOf file one names s ≡ good rs → csvOf file two names s ≡ good qs → rs ≡ qs
   unfolding csvOf
-  csv-alike header s rs qs e k =
+  csv-alike names s rs qs e k =
       let short = leb (length s) mostText in
-      let a = good-test (startsWith header s) _ _ rs (good-test short _ _ rs e .1) .1 in
-      let b = good-test (startsWith header s) _ _ qs (good-test short _ _ qs k .1) .1 in
-      rows-alike (length header) [] (splitOn lineFeed (drop (length header) s)) rs qs a b
+      headed-alike names (splitOn lineFeed s) rs qs (good-test short _ _ rs e .1) (good-test short _ _ qs k .1)
 
 one-form : {A : Type 0} (o : Option A) (r q : A) → o ≡ some r → o ≡ some q → r ≡ q
 one-form o r q e k = cc
@@ -68,7 +71,7 @@ timetables-alike H legs₁ configurations₁ legs₂ configurations₂ s rs qs =
     let fits₂ = draftFits legs₂ configurations₂ in
     csv-alike timetableFile (rowOf H fits₁) (rowOf H fits₂)
     (λ before line r q e k. one-form (formOf line) r q (form-right H fits₁ before (formOf line) r e .0) (form-right H fits₂ before (formOf line) q k .0))
-    timetableHeader s rs qs
+    timetableNames s rs qs
 
 solutions-alike : (H file choices₁ choices₂ : ℕ) (s : List ℕ) (rs qs : List Row)
     → solutionOf H file choices₁ s ≡ good rs → solutionOf H file choices₂ s ≡ good qs → rs ≡ qs
@@ -77,7 +80,7 @@ solutions-alike H file choices₁ choices₂ s rs qs =
     csv-alike file (rowOf H (solutionFits choices₁)) (rowOf H (solutionFits choices₂))
     (λ before line r q e k.
     one-form (formOf line) r q (form-right H (solutionFits choices₁) before (formOf line) r e .0) (form-right H (solutionFits choices₂) before (formOf line) q k .0))
-    timetableHeader s rs qs
+    timetableNames s rs qs
 
 profiles-alike : (profiles₁ samples₁ profiles₂ samples₂ : ℕ) (s : List ℕ) (rs qs : List Curve)
     → profilesOf profiles₁ samples₁ s ≡ good rs → profilesOf profiles₂ samples₂ s ≡ good qs → rs ≡ qs
@@ -86,7 +89,7 @@ profiles-alike profiles₁ samples₁ profiles₂ samples₂ s rs qs =
     csv-alike profilesFile (curveRow profiles₁ samples₁) (curveRow profiles₂ samples₂)
     (λ before line r q e k.
     one-form (curveForm line) r q (curve-right profiles₁ samples₁ before (curveForm line) r e .0) (curve-right profiles₂ samples₂ before (curveForm line) q k .0))
-    profilesHeader s rs qs
+    profilesNames s rs qs
 
 -- ---- constraints.json: two turns that are the same, unless one of them is a fault
 
@@ -163,23 +166,13 @@ files-alike H x room₁ room₂ f g e k =
     let rows : f .rows ≡ g .rows =
     timetables-alike H _ _ _ _ (x .timetable) (f .rows) (g .rows) (timetable-good H _ _ (x .timetable) (f .rows) .1 (one .timetable))
     (timetable-good H _ _ (x .timetable) (g .rows) .1 (two .timetable)) in
-    let curves : f .curves ≡ g .curves = profiles-alike _ _ _ _ (x .profiles) (f .curves) (g .curves) (one .profiles-read) (two .profiles-read) in
+    let curves : f .curves ≡ g .curves =
+    profiles-alike _ _ _ _ (x .profiles) (f .curves) (g .curves) (profiles-good _ _ (x .profiles) (f .curves) .1 (one .profiles))
+    (profiles-good _ _ (x .profiles) (g .curves) .1 (two .profiles)) in
     let document : f .document ≡ g .document =
     documents-alike (legIds (f .rows)) _ _ _ _ (x .constraints) (f .document) (g .document) (one .constraints)
     (rw (← rows) at (two .constraints)) in
     λ i. record { rows = rows i; curves = curves i; document = document i }
-
--- a solution that matches the draft has its rows' count
-differs-length : (n : ℕ) (text : List ℕ) (draft rows : List Row) → differsFrom n text draft rows ≡ none → length rows ≡ length draft
-differs-length n text [] [] e = refl
-differs-length n text [] (r ∷ rows) e = missing _ (sym e)
-differs-length n text (a ∷ draft) [] e = missing _ (sym e)
-differs-length n text (a ∷ draft) (r ∷ rows) e = go (sameLeg a r) e (differs-length (suc n) text draft rows)
-  where
-    go : (b : Bool) → cond b (differsFrom (suc n) text draft rows) (some (placeOfRow text n)) ≡ none
-        → (differsFrom (suc n) text draft rows ≡ none → length rows ≡ length draft) → suc (length rows) ≡ suc (length draft)
-    go true e ih = ap suc (ih e)
-    go false e ih = missing _ (sym e)
 
 -- choices that were read are read as the same in any room that takes one for each row, whichever file they are
 pub choices-anywhere : (H : ℕ) (f : Files) (file₁ file₂ room₁ room₂ : ℕ) (text : List ℕ) (s : List Configuration) → length (f .rows) ≤ room₂ / configurationWidth
@@ -191,11 +184,11 @@ choices-anywhere H f file₁ file₂ room₁ room₂ text s fits e =
       rows = g .rows;
       solution = record {
         lawful = g .solution .lawful;
-        fitting = choices-fit (room₂ / configurationWidth) (g .rows) (rw (differs-length 0 text (f .rows) (g .rows) (g .matches)) fits);
-        text = g .solution .text;
+        fitting = choices-fit (room₂ / configurationWidth) (g .rows) (rw (columns-many (f .rows) (g .rows) (g .columns)) fits);
+        spells = g .solution .spells;
         short = g .solution .short;
       };
-      matches = g .matches;
+      columns = g .columns;
       choices = g .choices;
     })
 

@@ -28,6 +28,11 @@ pub each-map : {A : Type 0} (P Q : List A → A → Type 0) → ((before : List 
 each-map P Q f before [] h = tt
 each-map P Q f before (x ∷ xs) h = (f before x (h .0), each-map P Q f (before ++ x ∷ []) xs (h .1))
 
+-- two things of each
+pub each-two : {A : Type 0} (P Q : List A → A → Type 0) (before xs : List A) → EachAfter P before xs → EachAfter Q before xs → EachAfter (λ b x. P b x × Q b x) before xs
+each-two P Q before [] h k = tt
+each-two P Q before (x ∷ xs) h k = ((h .0, k .0), each-two P Q (before ++ x ∷ []) xs (h .1) (k .1))
+
 -- ---- keys of which none was seen before are distinct
 
 pub new-distinct : {A : Type 0} (key : A → ℕ) (xs : List A) → EachAfter (λ before x. T (not (any (λ b. eqb (key b) (key x)) before))) [] xs → Distinct key xs

@@ -25,11 +25,11 @@ use Rattle.rules.specs.Answers.{
   right,
   judge,
 }
-use Rattle.rules.specs.Bytes.{lineFeed, splitOn}
-use Rattle.rules.specs.Rows.{onRow, lastLine, rowsFrom, csvOf, placeOfRow, firstFault, orElse, passed}
-use Rattle.rules.specs.Timetable.{Row, rowTests, judgeForm, formOf, rowOf, draftFits, solutionFits, timetableHeader, timetableOf, solutionOf}
+use Rattle.rules.specs.Bytes.{lineFeed, splitOn, lessReturn}
+use Rattle.rules.specs.Rows.{heads, onRow, lastLine, rowsFrom, headed, csvOf, placeOfRow, firstFault, orElse, passed}
+use Rattle.rules.specs.Timetable.{Row, rowTests, judgeForm, formOf, rowOf, draftFits, solutionFits, timetableNames, timetableOf, solutionOf}
 use Rattle.rules.specs.Profiles as Profiles
-use Rattle.rules.specs.Profiles.{Curve, profilesHeader, profilesOf, curveOf, lasts, profileFault}
+use Rattle.rules.specs.Profiles.{Curve, profilesNames, profilesOf, curveOf, lasts, profileFault}
 use Rattle.rules.specs.Kinds.{subnets, firstLeg, secondLeg, connectionType, subnetId, trackIds}
 use Rattle.rules.specs.Tokens.{Token, tokensOf}
 use Rattle.rules.specs.Constraints.{
@@ -132,15 +132,19 @@ module _ {P : Refusal → Type 0} {A : Type 0} (l : Line) (allows : Allows P l) 
   rows-from place before [] = reads
   rows-from place before (s ∷ []) = last-line place before s
   rows-from place before (s ∷ t ∷ lines) =
-      on-row place (rowOf before s) _ (row before s) (λ a. rows-from (place + length s + 1) (before ++ a ∷ []) (t ∷ lines))
+      on-row place (rowOf before (lessReturn s)) _ (row before (lessReturn s)) (λ a. rows-from (place + length s + 1) (before ++ a ∷ []) (t ∷ lines))
 
   -- a CSV text's refusal has its file, and 2, 3, 4 or a number that the tests of a row can give
-  csv-refuses : (header s : List ℕ) → T (among tooLong (l .atStart)) → T (among badHeader (l .atStart)) → Refuses P (csvOf (l .file) rowOf header s)
+  lines-from : (names lines : List (List ℕ)) → T (among badHeader (l .atStart)) → Refuses P (headed (l .file) rowOf names lines)
+  lines-from names [] head = refuses (allows .atStart badHeader head)
+  lines-from names (s ∷ []) head = refuses (allows .atStart badHeader head)
+  lines-from names (s ∷ t ∷ lines) head =
+      either (Refuses P) (heads names s) (rows-from (length s + 1) [] (t ∷ lines)) (refuses (allows .atStart badHeader head))
+
+  csv-refuses : (names : List (List ℕ)) (s : List ℕ) → T (among tooLong (l .atStart)) → T (among badHeader (l .atStart)) → Refuses P (csvOf (l .file) rowOf names s)
   unfolding csvOf
-  csv-refuses header s long head =
-      either (Refuses P) (leb (length s) mostText)
-      (either (Refuses P) (startsWith header s) (rows-from (length header) [] (splitOn lineFeed (drop (length header) s))) (refuses (allows .atStart badHeader head)))
-      (refuses (allows .atStart tooLong long))
+  csv-refuses names s long head =
+      either (Refuses P) (leb (length s) mostText) (lines-from names (splitOn lineFeed s) head) (refuses (allows .atStart tooLong long))
 
 -- ---- timetable, solution, profiles
 
@@ -158,7 +162,7 @@ module _ {P : Refusal → Type 0} where
   timetable-refuses H legs configurations s allows =
       csv-refuses timetableLine allows (rowOf H (draftFits legs configurations)) tt
       (λ before line. row-wrongs H (draftFits legs configurations) (In timetableLine) before (formOf line) tt (λ r. (tt, (tt, (tt, (tt, (tt, tt)))))))
-      timetableHeader
+      timetableNames
       s
       tt
       tt
@@ -168,7 +172,7 @@ module _ {P : Refusal → Type 0} where
   solution-refuses H file choices s allows =
       csv-refuses (solutionLine file) allows (rowOf H (solutionFits choices)) tt
       (λ before line. row-wrongs H (solutionFits choices) (In (solutionLine file)) before (formOf line) tt (λ r. (tt, (tt, (tt, (tt, (tt, tt)))))))
-      timetableHeader
+      timetableNames
       s
       tt
       tt
@@ -178,7 +182,7 @@ module _ {P : Refusal → Type 0} where
   profiles-refuse profiles samples s allows =
       csv-refuses profilesLine allows (Profiles.rowOf profiles samples) tt
       (λ before line. curve-wrongs profiles samples before (Profiles.formOf line))
-      profilesHeader
+      profilesNames
       s
       tt
       tt

@@ -107,7 +107,7 @@ no-field-is-fill H x room f e =
     let curves = f .curves in
     let low : ℕ → Type 0 = λ n. n < unsignedFill in
     let kept = rows-kept H rows (g .timetable .lawful) in
-    let sound = curves-kept _ _ curves (g .profiles) in
+    let sound = curves-kept _ _ curves (g .profiles .lawful) in
     let document = good-is-lawful (legIds rows) _ _ _ (x .constraints) (f .document) (g .constraints) .tables in
     let each = configuration-unfilled H (g .horizon .1) in
     let few : length (legIds rows) ≤ mostLegs = rw (length-map rows (λ r. r .leg)) (legs-most H rows (g .timetable .lawful)) in
@@ -117,7 +117,7 @@ no-field-is-fill H x room f e =
           all-flat low configurationNumbers (configurationsOf rows)
           (all-flat (λ c. Unfilled (configurationNumbers c)) (λ r. r .list) rows
           (all-map (KeptRow H) _ (λ r k. all-map (InRange H) _ each (r .list) (k .listIn)) rows kept));
-      profiles = all-flat low profileNumbers (profilesFrom 0 curves) (profiles-unfilled 0 curves sound (omega (arith, sampled-most _ _ curves (g .profiles))));
+      profiles = all-flat low profileNumbers (profilesFrom 0 curves) (profiles-unfilled 0 curves sound (omega (arith, sampled-most _ _ curves (g .profiles .lawful))));
       samples =
           all-flat (λ x. x ≡ signedFill → ⊥) (λ c. c .samples) curves
           (all-map KeptCurve _ (λ c k. all-map (λ x. natAbs x ≤ mostKw) _ sample-unfilled (c .samples) (k .sizes)) curves sound);

@@ -7,33 +7,24 @@ use mathlib.Core.Option.{Option, some}
 use native.Mathlib.Omega.{arith}
 use lib.Dec.{T}
 use lib.ListN.{length}
-use Rattle.rules.specs.Lists.{each}
-use Rattle.rules.specs.Bytes.{lineFeed, comma, space, underscore, isDigit, wholeOf, splitOn, joined, spelled}
+use borrow.Author.Tests.{ne-eqb}
+use Rattle.rules.specs.Lists.{_>>=_, each}
+use Rattle.rules.specs.Bytes.{carriageReturn, lineFeed, quote, comma, space, underscore, isDigit, wholeOf, splitOn, joined, lessReturn, contentOf, contentsOf, spelled}
 use Rattle.rules.specs.Timetable.{Row, row, configuration, threeOf, configurationOf, listOf, sevenOf, formOf}
 use Rattle.rules.specs.Merge.{spelledConfiguration}
 use Rattle.rules.specs.Verdict.{All}
 use Rattle.rules.specs.declared.sizes.Configuration.{Configuration}
 use Rattle.rules.proofs.Truth.{missing, found-first}
-use Rattle.rules.proofs.Pieces.{Free, split-cons, split-joined, joined-split, joined-free}
+use Rattle.rules.proofs.Pieces.{Free, split-cons, split-alone, split-joined, joined-split, joined-free}
 use Rattle.rules.proofs.Numbers.{whole-spelled, spelled-whole, spelled-free}
+use Rattle.rules_theorems.specs.WellFormed.{fieldsOf}
 
--- the parts of a configuration, and of a row
+-- the parts of a configuration, and its list
 abbrev pub partsOf : Configuration → List (List ℕ)
 partsOf c = spelled (c .departure) ∷ spelled (c .travel) ∷ spelled (c .profile) ∷ []
 
 abbrev pub spelledList : List Configuration → List ℕ
 spelledList l = joined space (map spelledConfiguration l)
-
-abbrev pub fieldsOf : Row → List (List ℕ)
-fieldsOf r =
-    spelled (r .leg)
-    ∷ spelled (r .train)
-    ∷ spelled (r .track)
-    ∷ spelled (r .start)
-    ∷ spelled (r .end)
-    ∷ spelledConfiguration (r .nominal)
-    ∷ spelledList (r .list)
-    ∷ []
 
 -- a row's line, without its LF
 abbrev pub lineOf : Row → List ℕ
@@ -101,13 +92,29 @@ seven-spelled : (r : Row) → 0 < length (r .list) → sevenOf (fieldsOf r) ≡ 
 seven-spelled r h =
     rw (whole-spelled (r .leg), whole-spelled (r .train), whole-spelled (r .track), whole-spelled (r .start), whole-spelled (r .end), configuration-spelled (r .nominal), list-spelled (r .list) h)
 
--- a row that was written is read back
-pub form-spelled : (r : Row) → 0 < length (r .list) → formOf (lineOf r) ≡ some r
-form-spelled r h =
-    rw (split-joined comma (spelled (r .leg))
+-- ---- fields without quotes and lines without CR are their own contents
+
+less-free : (s : List ℕ) → Free carriageReturn s → lessReturn s ≡ s
+less-free [] h = refl
+less-free (b ∷ []) h = rw (ne-eqb b carriageReturn (h .0))
+less-free (b ∷ c ∷ s) h = ap (λ (r : List ℕ). b ∷ r) (less-free (c ∷ s) (h .1))
+
+contents-plain : (fs : List (List ℕ)) → All (Free quote) fs → each contentOf fs ≡ some fs
+contents-plain [] h = refl
+contents-plain (f ∷ fs) h = rw (split-alone quote f (h .0), contents-plain fs (h .1))
+
+-- the contents of a row's line
+pub line-contents : (r : Row) → contentsOf (lessReturn (lineOf r)) ≡ some (fieldsOf r)
+line-contents r =
+    ap contentsOf (less-free (lineOf r) (joined-free comma carriageReturn (fieldsOf r) (omega arith) (fields-free carriageReturn tt (omega arith) (omega arith) r)))
+    ∙ ap (each contentOf) (split-joined comma (spelled (r .leg))
     (spelled (r .train) ∷ spelled (r .track) ∷ spelled (r .start) ∷ spelled (r .end) ∷ spelledConfiguration (r .nominal) ∷ spelledList (r .list) ∷ [])
     (fields-free comma tt (omega arith) (omega arith) r))
-    (seven-spelled r h)
+    ∙ contents-plain (fieldsOf r) (fields-free quote tt (omega arith) (omega arith) r)
+
+-- a line with a row's contents is read as the row
+pub form-spelled : (line : List ℕ) (r : Row) → contentsOf line ≡ some (fieldsOf r) → 0 < length (r .list) → formOf line ≡ some r
+form-spelled line r e h = ap (λ (x : Option (List (List ℕ))). x >>= sevenOf) e ∙ seven-spelled r h
 
 -- ---- writing what was read
 
@@ -183,6 +190,6 @@ seven-one (a ∷ b ∷ c ∷ d ∷ e ∷ n ∷ l ∷ []) r x =
     made-seven a b c d e n l (a′ .0) (b′ .0) (c′ .0) (d′ .0) (e′ .0) (n′ .0) (l′ .0) r (a′ .1) (b′ .1) (c′ .1) (d′ .1) (e′ .1) (n′ .1) (l′ .1) (l′ .2)
 seven-one (a ∷ b ∷ c ∷ d ∷ e ∷ n ∷ l ∷ y ∷ more) r x = missing r x
 
--- a row that was read has no other spelling
-pub form-one : (line : List ℕ) (r : Row) → formOf line ≡ some r → line ≡ lineOf r
-form-one line r e = sym (joined-split comma line) ∙ ap (joined comma) (seven-one (splitOn comma line) r e)
+-- the contents of a row that was read have no other spelling
+pub form-one : (line : List ℕ) (r : Row) → formOf line ≡ some r → contentsOf line ≡ some (fieldsOf r)
+form-one line r e = let k = found-first (contentsOf line) sevenOf r e in k .1 ∙ ap (λ (x : List (List ℕ)). some x) (seven-one (k .0) r (k .2))

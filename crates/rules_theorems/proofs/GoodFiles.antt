@@ -1,22 +1,27 @@
--- What files and choices that are read without refusal are: each of document 01's steps went well. Assumes nothing.
-use Prim.Native.Nat.{ℕ, _/_, _≤_}
-use mathlib.Core.Path.{_≡_, refl, ap}
-use mathlib.Core.Bool.{_&&_}
-use mathlib.Core.List.{List}
+-- Files and choices are read without refusal exactly where each of document 01's steps goes well. Assumes nothing.
+use Prim.Native.Nat.{ℕ, suc, _/_, _≤_}
+use mathlib.Core.Path.{_≡_, refl, ap, sym, _∙_}
+use mathlib.Core.Bool.{Bool, true, false, cond, _&&_}
+use mathlib.Core.List.{List, [], _∷_, map}
 use mathlib.Core.Option.{Option, none, some}
-use lib.Dec.{leb, leb→le}
+use native.Mathlib.Omega.{arith}
+use lib.Dec.{T, leb, eqb, leb→le, eqb→eq}
 use lib.ListN.{length, length-map}
+use borrow.Author.Tests.{le-leb, eq-eqb}
 use Rattle.rules.specs.Limits.{leastHorizon, mostHorizon, legWidth, configurationWidth, profileWidth, constraintWidth, trackWidth}
-use Rattle.rules.specs.Answers.{Reading, refused, good, _>>=_, timetableFile, solutionFile, secondFile}
-use Rattle.rules.specs.Rows.{RowFault, firstFault, passed}
-use Rattle.rules.specs.Timetable.{Row, draftFits, solutionFits, timetableOf, solutionOf, choicesOf}
-use Rattle.rules.specs.Profiles.{Curve, profilesOf, profileFault}
-use Rattle.rules.specs.Constraints.{Document, plainRules, constraintsOf, subnetFault}
-use Rattle.rules.specs.Reading.{Rooms, Texts, Files, horizonOf, legIds, filesOf, differsFrom, matched, choicesRead}
+use Rattle.rules.specs.Lists.{every, isSome}
+use Rattle.rules.specs.Answers.{Reading, refused, good, _>>=_, notThere, wrongSamples, noSubnet, timetableFile, solutionFile, secondFile}
+use Rattle.rules.specs.Rows.{RowFault, orElse, firstFault, passed, placeOfRow}
+use Rattle.rules.specs.Timetable.{Row, idsOf, timetableOf, solutionOf}
+use Rattle.rules.specs.Profiles.{Curve, curveOf, lasts, profilesOf, profileFault}
+use Rattle.rules.specs.Constraints.{Document, plainRules, constraintsOf, subnetOf, subnetFault}
+use Rattle.rules.specs.Reading.{Rooms, Texts, Files, horizonOf, legIds, filesOf, sameLeg, differsFrom, matched, choicesRead}
 use Rattle.rules.specs.Entries.{Whole, allRead, Both, bothRead}
+use Rattle.rules.specs.Verdict.{All}
 use Rattle.rules.specs.declared.sizes.Configuration.{Configuration}
-use Rattle.rules.proofs.Truth.{and-both}
-use Rattle.rules_theorems.specs.WellFormed.{Written, LawfulCurves}
+use Rattle.rules.specs.declared.sizes.Track.{Track}
+use Rattle.rules.proofs.Truth.{and-both, every-all, all-map, missing}
+use Rattle.rules_theorems.specs.Files.{HasProfile, HasSubnet, Saying, ByAutomaton, GoodFiles, GoodChoices}
 use Rattle.rules_theorems.proofs.GoodText.{never-good, good-test}
 use Rattle.rules_theorems.proofs.LawfulRows.{fit-choices}
 use Rattle.rules_theorems.proofs.GoodRows.{timetable-good, solution-good, profiles-good}
@@ -40,18 +45,80 @@ horizon-good H n e =
     let k = and-both (leb leastHorizon H) (leb H mostHorizon) (good-test (leb leastHorizon H && leb H mostHorizon) _ _ n e .0) in
     (leb→le leastHorizon H (k .0), leb→le H mostHorizon (k .1))
 
--- every step of reading the files
-pub record GoodFiles (H : ℕ) (x : Texts) (room : Rooms) (files : Files) : Type 0 where
-  pub horizon : (leastHorizon ≤ H) × (H ≤ mostHorizon)
-  pub timetable : Written H (draftFits (room .legs / legWidth) (room .configurations / configurationWidth)) (x .timetable) (files .rows)
-  pub profiles-read : profilesOf (room .profiles / profileWidth) (room .samples) (x .profiles) ≡ good (files .curves)
-  pub profiles : LawfulCurves (room .profiles / profileWidth) (room .samples) (files .curves)
-  pub powered : firstFault 0 (profileFault (files .curves)) (files .rows) ≡ none
-  pub constraints : constraintsOf (legIds (files .rows)) (room .constraints / constraintWidth) (room .tracks / trackWidth) plainRules (x .constraints) ≡ good (files .document)
-  pub placed : firstFault 0 (subnetFault (files .document .tracks)) (files .rows) ≡ none
+good-horizon : (H : ℕ) → (leastHorizon ≤ H) × (H ≤ mostHorizon) → horizonOf H ≡ good H
+good-horizon H h = rw (le-leb leastHorizon H (h .0), le-leb H mostHorizon (h .1))
 
--- files that are read without refusal: H is in range, the timetable and the profiles are lawful, and no row is at fault
-pub files-good : (H : ℕ) (x : Texts) (room : Rooms) (files : Files) → filesOf H x room ≡ good files → GoodFiles H x room files
+-- ---- no row at fault
+
+-- where the first row at fault is none, no row is
+no-fault : {A : Type 0} (fault : A → Option ℕ) (n : ℕ) (xs : List A) → firstFault n fault xs ≡ none → All (λ x. fault x ≡ none) xs
+no-fault fault n [] e = tt
+no-fault fault n (x ∷ xs) e = go (fault x) e (no-fault fault (suc n) xs)
+  where
+    go : (o : Option ℕ) → orElse n o (firstFault (suc n) fault xs) ≡ none → (firstFault (suc n) fault xs ≡ none → All (λ x. fault x ≡ none) xs)
+        → (o ≡ none) × All (λ x. fault x ≡ none) xs
+    go none e ih = (refl, ih e)
+    go (some k) e ih = missing _ (sym e)
+
+-- and the other way round
+fault-none : {A : Type 0} (fault : A → Option ℕ) (n : ℕ) (xs : List A) → All (λ x. fault x ≡ none) xs → firstFault n fault xs ≡ none
+fault-none fault n [] h = refl
+fault-none fault n (x ∷ xs) h = rw (h .0) (fault-none fault (suc n) xs (h .1))
+
+-- a test that gives no number holds
+test-holds : (t : Bool) (o : Option ℕ) (k : ℕ) → cond t o (some k) ≡ none → T t × (o ≡ none)
+test-holds true o k e = (tt, e)
+test-holds false o k e = missing k (sym e)
+
+-- ---- 12 and 13: each entry of each list has a profile with a sample for each second
+
+module _ (curves : List Curve) where
+  has-profile : (c : Configuration) → T (isSome (curveOf curves (c .profile))) → T (lasts (c .travel) (curveOf curves (c .profile))) → HasProfile curves c
+  has-profile c = go (curveOf curves (c .profile)) refl
+    where
+      go : (o : Option Curve) → curveOf curves (c .profile) ≡ o → T (isSome o) → T (lasts (c .travel) o) → HasProfile curves c
+      go none e there counts = absurd there
+      go (some k) e there counts = record { curve = k; exists = e; counted = omega (arith, eqb→eq (length (k .samples)) (c .travel) counts) }
+
+  profiles-there : (l : List Configuration) → All (λ c. T (isSome (curveOf curves (c .profile)))) l → All (λ c. T (lasts (c .travel) (curveOf curves (c .profile)))) l
+      → All (HasProfile curves) l
+  profiles-there [] there counts = tt
+  profiles-there (c ∷ l) there counts = (has-profile c (there .0) (counts .0), profiles-there l (there .1) (counts .1))
+
+  row-powered : (r : Row) → profileFault curves r ≡ none → All (HasProfile curves) (r .list)
+  row-powered r e =
+      let a = test-holds (every (λ c. isSome (curveOf curves (c .profile))) (r .list)) _ notThere e in
+      let b = test-holds (every (λ c. lasts (c .travel) (curveOf curves (c .profile))) (r .list)) none wrongSamples (a .1) in
+      profiles-there (r .list) (every-all _ (r .list) (a .0)) (every-all _ (r .list) (b .0))
+
+  all-there : (l : List Configuration) → All (HasProfile curves) l → every (λ c. isSome (curveOf curves (c .profile))) l ≡ true
+  all-there [] h = refl
+  all-there (c ∷ l) h = rw (h .0 .exists) (all-there l (h .1))
+
+  all-last : (l : List Configuration) → All (HasProfile curves) l → every (λ c. lasts (c .travel) (curveOf curves (c .profile))) l ≡ true
+  all-last [] h = refl
+  all-last (c ∷ l) h = rw (h .0 .exists, eq-eqb (length (h .0 .curve .samples)) (c .travel) (omega (arith, h .0 .counted))) (all-last l (h .1))
+
+  powered-row : (r : Row) → All (HasProfile curves) (r .list) → profileFault curves r ≡ none
+  powered-row r h = rw (all-there (r .list) h, all-last (r .list) h)
+
+-- ---- 15: each row's track is in a subnet
+
+module _ (tracks : List Track) where
+  row-placed : (r : Row) → subnetFault tracks r ≡ none → HasSubnet tracks r
+  row-placed r = go (subnetOf tracks (r .track)) refl
+    where
+      go : (o : Option ℕ) → subnetOf tracks (r .track) ≡ o → cond (isSome o) none (some noSubnet) ≡ none → HasSubnet tracks r
+      go none e k = missing noSubnet (sym k)
+      go (some u) e k = record { subnet = u; inside = e }
+
+  placed-row : (r : Row) → HasSubnet tracks r → subnetFault tracks r ≡ none
+  placed-row r h = rw (h .inside)
+
+-- ---- all files
+
+-- files that are read without refusal: H is in range, the texts write what is lawful, and no row is at fault
+pub files-good : (H : ℕ) (x : Texts) (room : Rooms) (files : Files) → filesOf H x room ≡ good files → GoodFiles ByAutomaton H x room files
 unfolding filesOf
 files-good H x room files e =
     let h = good-first (horizonOf H) _ files e in
@@ -70,27 +137,83 @@ files-good H x room files e =
         → constraintsOf (legIds rows) (room .constraints / constraintWidth) (room .tracks / trackWidth) plainRules (x .constraints) ≡ good document
         → firstFault 0 (subnetFault (document .tracks)) rows ≡ none
         → _≡_ {A = Reading Files} (good (record { rows = rows; curves = curves; document = document })) (good files)
-        → GoodFiles H x room files
+        → GoodFiles ByAutomaton H x room files
     made rows curves document h t p q d s e =
         let k : _≡_ {A = Files} (record { rows = rows; curves = curves; document = document }) files = cc in
         rw (← k)
         (record {
           horizon = h;
           timetable = timetable-good H (room .legs / legWidth) (room .configurations / configurationWidth) (x .timetable) rows .0 t;
-          profiles-read = p;
-          profiles = profiles-good (room .profiles / profileWidth) (room .samples) (x .profiles) curves p;
-          powered = q;
+          profiles = profiles-good (room .profiles / profileWidth) (room .samples) (x .profiles) curves .0 p;
+          powered = all-map (λ r. profileFault curves r ≡ none) _ (row-powered curves) rows (no-fault (profileFault curves) 0 rows q);
           constraints = d;
-          placed = s;
+          placed = all-map (λ r. subnetFault (document .tracks) r ≡ none) _ (row-placed (document .tracks)) rows (no-fault (subnetFault (document .tracks)) 0 rows s);
         })
 
--- choices that are read without refusal are the nominal column of lawful rows whose first five columns are the draft's
-pub record GoodChoices (H : ℕ) (files : Files) (room : ℕ) (text : List ℕ) (s : List Configuration) : Type 0 where
-  pub rows : List Row
-  pub solution : Written H (solutionFits (room / configurationWidth)) text rows
-  pub matches : differsFrom 0 text (files .rows) rows ≡ none
-  pub choices : choicesOf rows ≡ s
+-- and the other way round: such files are read
+pub good-files : (H : ℕ) (x : Texts) (room : Rooms) (files : Files) → GoodFiles ByAutomaton H x room files → filesOf H x room ≡ good files
+unfolding filesOf
+good-files H x room files g =
+    rw (
+      good-horizon H (g .horizon),
+      timetable-good H (room .legs / legWidth) (room .configurations / configurationWidth) (x .timetable) (files .rows) .1 (g .timetable),
+      profiles-good (room .profiles / profileWidth) (room .samples) (x .profiles) (files .curves) .1 (g .profiles),
+      fault-none (profileFault (files .curves)) 0 (files .rows) (all-map _ (λ r. profileFault (files .curves) r ≡ none) (powered-row (files .curves)) (files .rows) (g .powered)),
+      g .constraints,
+      fault-none (subnetFault (files .document .tracks)) 0 (files .rows)
+          (all-map (HasSubnet (files .document .tracks)) (λ r. subnetFault (files .document .tracks) r ≡ none) (placed-row (files .document .tracks)) (files .rows) (g .placed)),
+    )
 
+-- whatever else says when constraints.json is read
+pub said-so : (Says Says′ : Saying) → ((legs : List ℕ) (constraints tracks : ℕ) (s : List ℕ) (d : Document) → Says legs constraints tracks s d → Says′ legs constraints tracks s d)
+    → {H : ℕ} {x : Texts} {room : Rooms} {files : Files} → GoodFiles Says H x room files → GoodFiles Says′ H x room files
+said-so Says Says′ so g =
+    record { horizon = g .horizon; timetable = g .timetable; profiles = g .profiles; powered = g .powered; constraints = so _ _ _ _ _ (g .constraints); placed = g .placed }
+
+-- ---- 14: the first five columns are the draft's
+
+same-ids : (a b : Row) → T (sameLeg a b) → idsOf b ≡ idsOf a
+same-ids a b h =
+    let p = and-both (eqb (a .leg) (b .leg)) _ h in
+    let q = and-both (eqb (a .train) (b .train)) _ (p .1) in
+    let r = and-both (eqb (a .track) (b .track)) _ (q .1) in
+    let s = and-both (eqb (a .start) (b .start)) (eqb (a .end) (b .end)) (r .1) in
+    cc (eqb→eq (a .leg) (b .leg) (p .0), eqb→eq (a .train) (b .train) (q .0), eqb→eq (a .track) (b .track) (r .0), eqb→eq (a .start) (b .start) (s .0), eqb→eq (a .end) (b .end) (s .1))
+
+ids-same : (a b : Row) → idsOf b ≡ idsOf a → sameLeg a b ≡ true
+ids-same a b e =
+    let p : a .leg ≡ b .leg = cc in
+    let q : a .train ≡ b .train = cc in
+    let r : a .track ≡ b .track = cc in
+    let s : a .start ≡ b .start = cc in
+    let t : a .end ≡ b .end = cc in
+    rw (eq-eqb (a .leg) (b .leg) p, eq-eqb (a .train) (b .train) q, eq-eqb (a .track) (b .track) r, eq-eqb (a .start) (b .start) s, eq-eqb (a .end) (b .end) t)
+
+columns-same : (n : ℕ) (text : List ℕ) (draft rows : List Row) → differsFrom n text draft rows ≡ none → map idsOf rows ≡ map idsOf draft
+columns-same n text [] [] e = refl
+columns-same n text [] (b ∷ bs) e = missing _ (sym e)
+columns-same n text (a ∷ r) [] e = missing _ (sym e)
+columns-same n text (a ∷ r) (b ∷ bs) e = go (sameLeg a b) (same-ids a b) e (columns-same (suc n) text r bs)
+  where
+    go : (t : Bool) → (T t → idsOf b ≡ idsOf a) → cond t (differsFrom (suc n) text r bs) (some (placeOfRow text n)) ≡ none
+        → (differsFrom (suc n) text r bs ≡ none → map idsOf bs ≡ map idsOf r) → idsOf b ∷ map idsOf bs ≡ idsOf a ∷ map idsOf r
+    go true same e ih = cc (same tt, ih e)
+    go false same e ih = missing _ (sym e)
+
+same-columns : (n : ℕ) (text : List ℕ) (draft rows : List Row) → map idsOf rows ≡ map idsOf draft → differsFrom n text draft rows ≡ none
+same-columns n text [] [] e = refl
+same-columns n text [] (b ∷ bs) e = let z : _≡_ {A = ℕ} 0 1 = cc in absurd (omega arith)
+same-columns n text (a ∷ r) [] e = let z : _≡_ {A = ℕ} 0 1 = cc in absurd (omega arith)
+same-columns n text (a ∷ r) (b ∷ bs) e =
+    let here : idsOf b ≡ idsOf a = cc in
+    let rest : map idsOf bs ≡ map idsOf r = cc in
+    rw (ids-same a b here) (same-columns (suc n) text r bs rest)
+
+-- so a solution has as many rows
+pub columns-many : (draft rows : List Row) → map idsOf rows ≡ map idsOf draft → length rows ≡ length draft
+columns-many draft rows e = sym (length-map rows idsOf) ∙ ap length e ∙ length-map draft idsOf
+
+-- choices that are read without refusal are the nominal column of lawful rows whose first five columns are the draft's
 pub choices-good : (H : ℕ) (files : Files) (file room : ℕ) (text : List ℕ) (s : List Configuration) → choicesRead H files file room text ≡ good s
     → GoodChoices H files room text s
 unfolding choicesRead
@@ -100,7 +223,7 @@ choices-good H files file room text s e =
     record {
       rows = r .0;
       solution = solution-good H file (room / configurationWidth) text (r .0) .0 (r .1);
-      matches = matched-good file (differsFrom 0 text (files .rows) (r .0)) (r .0) (m .0) (m .1);
+      columns = columns-same 0 text (files .rows) (r .0) (matched-good file (differsFrom 0 text (files .rows) (r .0)) (r .0) (m .0) (m .1));
       choices = cc (m .2);
     }
 
@@ -109,7 +232,7 @@ pub good-choices : (H : ℕ) (files : Files) (file room : ℕ) (text : List ℕ)
     → choicesRead H files file room text ≡ good s
 unfolding choicesRead
 good-choices H files file room text s g =
-    rw (solution-good H file (room / configurationWidth) text (g .rows) .1 (g .solution), g .matches) (ap good (g .choices))
+    rw (solution-good H file (room / configurationWidth) text (g .rows) .1 (g .solution), same-columns 0 text (files .rows) (g .rows) (g .columns)) (ap good (g .choices))
 
 -- the choice table has room for them
 pub choices-room : (H : ℕ) (files : Files) (room : ℕ) (text : List ℕ) (s : List Configuration) → GoodChoices H files room text s → length s ≤ room / configurationWidth

@@ -1,4 +1,4 @@
--- What a timetable, a solution or a profiles text that is read without refusal keeps, and that its rows were written so. Assumes nothing.
+-- A timetable, a solution or a profiles text is read without refusal exactly where it spells what is lawful and has room. Assumes nothing.
 use Prim.Native.Nat.{ℕ, zero, suc, _-_, _≤_, _<_}
 use mathlib.Core.Path.{_≡_, refl, ap, sym, _∙_}
 use mathlib.Core.Bool.{Bool}
@@ -8,23 +8,24 @@ use mathlib.Core.Logic.{_↔_}
 use native.Mathlib.Omega.{arith}
 use lib.Dec.{T}
 use lib.ListN.{length, take, length-map}
-use lib.IntN.{ℤ}
-use Rattle.rules.specs.Limits.{leastSampled}
-use Rattle.rules.specs.Lists.{flat}
+use Rattle.rules.specs.Limits.{mostText, leastSampled}
+use Rattle.rules.specs.Lists.{_>>=_, flat}
 use Rattle.rules.specs.Answers.{good, right, badRow, timetableFile, profilesFile}
-use Rattle.rules.specs.Bytes.{lineFeed, comma, space, wholeOf, sampleOf, splitOn}
+use Rattle.rules.specs.Bytes.{lineFeed, comma, joined, lessReturn, contentsOf}
 use Rattle.rules.specs.Rows.{csvOf, placeOfRow}
-use Rattle.rules.specs.Timetable.{Row, rowTests, judgeForm, rowOf, formOf, offers, draftFits, solutionFits, timetableHeader, timetableOf, solutionOf}
-use Rattle.rules.specs.Profiles.{Curve, samplesOf, twoOf, profilesHeader, profilesOf, formOf as curveForm, rowTests as curveTests, judgeForm as judgeCurve, rowOf as curveRow}
+use Rattle.rules.specs.Timetable.{Row, rowTests, judgeForm, rowOf, formOf, offers, draftFits, solutionFits, timetableNames, timetableHeader, timetableOf, solutionOf}
+use Rattle.rules.specs.Profiles.{Curve, twoOf, profilesNames, profilesOf, formOf as curveForm, rowTests as curveTests, judgeForm as judgeCurve, rowOf as curveRow}
 use Rattle.rules.specs.Merge.{textOf}
 use Rattle.rules.specs.Verdict.{All}
 use Rattle.rules.specs.declared.sizes.Configuration.{Configuration}
-use Rattle.rules.proofs.Truth.{missing, found-first}
+use Rattle.rules.proofs.Truth.{found-first}
 use Rattle.rules.proofs.Pieces.{Free, ended, split-free, row-start}
-use Rattle.rules_theorems.specs.Lists.{EachAfter}
-use Rattle.rules_theorems.specs.WellFormed.{Passed, anyRoom, Written, LawfulCurves}
-use Rattle.rules_theorems.proofs.GoodText.{Reads, Good, csv-good, never-right, right-judged, passed-own}
-use Rattle.rules_theorems.proofs.Forms.{lineOf, line-free, form-spelled, form-one, pieces-some}
+use Rattle.rules_theorems.specs.Lists.{EachAfter, Along}
+use Rattle.rules_theorems.specs.WellFormed.{Passed, Tells, Spelled, anyRoom, fieldsOf, RowFields, Written, LawfulCurves, CurveFields, WrittenCurves}
+use Rattle.rules_theorems.proofs.Each.{each-map, each-two}
+use Rattle.rules_theorems.proofs.GoodText.{never-right, right-judged, passed-own, told-good}
+use Rattle.rules_theorems.proofs.Forms.{lineOf, line-free, line-contents, form-spelled, form-one}
+use Rattle.rules_theorems.proofs.Samples.{fields-read, read-fields}
 
 flat-map : {A B C : Type 0} (f : B → List C) (g : A → B) (xs : List A) → flat f (map g xs) ≡ flat (λ x. f (g x)) xs
 flat-map f g [] = refl
@@ -49,62 +50,70 @@ module _ (H : ℕ) (fits : List Row → Row → Bool) where
   form-right before none r e = never-right badRow r e
   form-right before (some q) r e = passed-own (rowTests H fits before) q r e
 
-  -- a line that is right is its row's, and the row passes its tests
+  -- a line that is right has its row's contents, and the row passes its tests
   pub row-right : (before : List Row) (line : List ℕ) (r : Row) → rowOf H fits before line ≡ right r
-      → (line ≡ lineOf r) × Passed (rowTests H anyRoom before r) × T (fits before r)
+      → (contentsOf line ≡ some (fieldsOf r)) × Passed (rowTests H anyRoom before r) × T (fits before r)
   row-right before line r e = settle (form-right before (formOf line) r e)
     where
-      settle : (formOf line ≡ some r) × Passed (rowTests H fits before r) → (line ≡ lineOf r) × Passed (rowTests H anyRoom before r) × T (fits before r)
+      settle : (formOf line ≡ some r) × Passed (rowTests H fits before r) → (contentsOf line ≡ some (fieldsOf r)) × Passed (rowTests H anyRoom before r) × T (fits before r)
       settle k = let a = tests-apart before r (k .1) in (form-one line r (k .0), a .0, a .1)
 
-  -- a row that passes its tests is read from its line
-  pub right-row : (before : List Row) (r : Row) → Passed (rowTests H anyRoom before r) → T (fits before r) → rowOf H fits before (lineOf r) ≡ right r
-  right-row before r h k =
-      rw (form-spelled r (offers-some (r .list) (r .nominal) (h .1 .1 .1 .0))) (right-judged (rowTests H fits before r) r (tests-together before r h k))
+  -- a row that passes its tests is read from a line with its contents
+  pub right-row : (before : List Row) (line : List ℕ) (r : Row) → contentsOf line ≡ some (fieldsOf r) → Passed (rowTests H anyRoom before r) → T (fits before r)
+      → rowOf H fits before line ≡ right r
+  right-row before line r e h k =
+      ap (judgeForm H fits before) (form-spelled line r e (offers-some (r .list) (r .nominal) (h .1 .1 .1 .0))) ∙ right-judged (rowTests H fits before r) r (tests-together before r h k)
 
-  reads-kept : (before : List Row) (lines : List (List ℕ)) (rows : List Row) → Reads (rowOf H fits) before lines rows
-      → EachAfter (λ b r. Passed (rowTests H anyRoom b r)) before rows × EachAfter (λ b r. T (fits b r)) before rows × (lines ≡ map lineOf rows)
-  reads-kept before [] [] h = (tt, tt, refl)
-  reads-kept before [] (r ∷ rows) h = absurd h
-  reads-kept before (line ∷ lines) [] h = absurd h
-  reads-kept before (line ∷ lines) (r ∷ rows) h =
-      let k = row-right before line r (h .0) in
-      let ih = reads-kept (before ++ r ∷ []) lines rows (h .1) in
-      ((k .1, ih .0), (k .2, ih .1), cc (k .0, ih .2))
-
-  kept-reads : (before rows : List Row) → EachAfter (λ b r. Passed (rowTests H anyRoom b r)) before rows → EachAfter (λ b r. T (fits b r)) before rows
-      → Reads (rowOf H fits) before (map lineOf rows) rows
-  kept-reads before [] h k = tt
-  kept-reads before (r ∷ rows) h k = (right-row before r (h .0) (k .0), kept-reads (before ++ r ∷ []) rows (h .1) (k .1))
+  -- what a line that is right tells
+  row-told : (before : List Row) (line : List ℕ) (r : Row)
+      → (rowOf H fits before (lessReturn line) ≡ right r) ↔ (Tells RowFields line r × (Passed (rowTests H anyRoom before r) × T (fits before r)))
+  row-told before line r = (there, λ t. right-row before (lessReturn line) r (t .0 .contents ∙ ap (λ (fs : List (List ℕ)). some fs) (t .0 .says)) (t .1 .0) (t .1 .1))
+    where
+      there : rowOf H fits before (lessReturn line) ≡ right r → Tells RowFields line r × (Passed (rowTests H anyRoom before r) × T (fits before r))
+      there e = let k = row-right before (lessReturn line) r e in (record { fields = fieldsOf r; contents = k .0; says = refl }, (k .1, k .2))
 
 lines-free : (rows : List Row) → All (Free lineFeed) (map lineOf rows)
 lines-free [] = tt
 lines-free (r ∷ rows) = (line-free r, lines-free rows)
 
--- a text is read without refusal as rows exactly where they are lawful, have room, and it is theirs
-pub rows-good : (H file : ℕ) (fits : List Row → Row → Bool) (s : List ℕ) (rows : List Row)
-    → (csvOf file (rowOf H fits) timetableHeader s ≡ good rows) ↔ Written H fits s rows
-unfolding textOf
-rows-good H file fits s rows = (λ e. there (csv-good file (rowOf H fits) timetableHeader s rows .0 e), λ w. csv-good file (rowOf H fits) timetableHeader s rows .1 (back w))
-  where
-    there : Good (rowOf H fits) timetableHeader s rows → Written H fits s rows
-    there g =
-        let k = reads-kept H fits [] (g .lines) rows (g .reads) in
-        record {
-          lawful = k .0;
-          fitting = k .1;
-          text = g .text ∙ ap (λ (r : List ℕ). timetableHeader ++ r) (ap (flat (ended lineFeed)) (k .2) ∙ flat-map (ended lineFeed) lineOf rows);
-          short = g .short;
-        }
+lines-told : (rows : List Row) → Along (Tells RowFields) (map lineOf rows) rows
+lines-told [] = tt
+lines-told (r ∷ rows) = (record { fields = fieldsOf r; contents = line-contents r; says = refl }, lines-told rows)
 
-    back : Written H fits s rows → Good (rowOf H fits) timetableHeader s rows
-    back w =
+-- the text that rows write spells them
+pub spelled-own : (rows : List Row) → Spelled timetableNames RowFields (textOf rows) rows
+unfolding textOf
+spelled-own rows =
+    record {
+      first = joined comma timetableNames;
+      lines = map lineOf rows;
+      text = ap (λ (r : List ℕ). timetableHeader ++ r) (sym (flat-map (ended lineFeed) lineOf rows));
+      free = (split-free lineFeed (joined comma timetableNames) .0, lines-free rows);
+      named = refl;
+      told = lines-told rows;
+    }
+
+-- a text is read without refusal as rows exactly where they are lawful, have room, and it spells them
+pub rows-good : (H file : ℕ) (fits : List Row → Row → Bool) (s : List ℕ) (rows : List Row)
+    → (csvOf file (rowOf H fits) timetableNames s ≡ good rows) ↔ Written H fits s rows
+rows-good H file fits s rows = (λ e. there (text .0 e), λ w. text .1 (each-two Tested Fits [] rows (w .lawful) (w .fitting), w .spells, w .short))
+  where
+    Tested : List Row → Row → Type 0
+    Tested before r = Passed (rowTests H anyRoom before r)
+
+    Fits : List Row → Row → Type 0
+    Fits before r = T (fits before r)
+
+    text : (csvOf file (rowOf H fits) timetableNames s ≡ good rows) ↔ (EachAfter (λ b r. Tested b r × Fits b r) [] rows × Spelled timetableNames RowFields s rows × (length s ≤ mostText))
+    text = told-good (rowOf H fits) RowFields (λ b r. Tested b r × Fits b r) (row-told H fits) file timetableNames s rows
+
+    there : EachAfter (λ b r. Tested b r × Fits b r) [] rows × Spelled timetableNames RowFields s rows × (length s ≤ mostText) → Written H fits s rows
+    there k =
         record {
-          lines = map lineOf rows;
-          lineFree = lines-free rows;
-          text = w .text ∙ ap (λ (r : List ℕ). timetableHeader ++ r) (sym (flat-map (ended lineFeed) lineOf rows));
-          reads = kept-reads H fits [] rows (w .lawful) (w .fitting);
-          short = w .short;
+          lawful = each-map (λ b r. Tested b r × Fits b r) Tested (λ b r h. h .0) [] rows (k .0);
+          fitting = each-map (λ b r. Tested b r × Fits b r) Fits (λ b r h. h .1) [] rows (k .0);
+          spells = k .1;
+          short = k .2;
         }
 
 -- timetable.csv
@@ -120,41 +129,40 @@ solution-good H file choices s rows = rows-good H file (solutionFits choices) s 
 
 -- ---- profiles
 
--- a curve has one sample at least
-curve-some : (ps : List (List ℕ)) (c : Curve) → twoOf ps ≡ some c → 0 < length (c .samples)
-curve-some [] c e = missing c e
-curve-some (i ∷ []) c e = missing c e
-curve-some (i ∷ l ∷ []) c e =
-    let a = found-first (wholeOf i) _ c e in
-    let b = found-first (samplesOf l) _ c (a .2) in
-    made (a .0) (b .0) (b .1) (b .2)
-  where
-    made : (id : ℕ) (samples : List ℤ) → samplesOf l ≡ some samples → _≡_ {A = Option Curve} (some (record { id = id; samples = samples })) (some c) → 0 < length (c .samples)
-    made id samples h q =
-        let k : record { id = id; samples = samples } ≡ c = cc in
-        rw (← k) (pieces-some sampleOf space l samples h)
-curve-some (i ∷ l ∷ x ∷ more) c e = missing c e
-
 module _ (profiles samples : ℕ) where
   pub curve-right : (before : List Curve) (o : Option Curve) (c : Curve) → judgeCurve profiles samples before o ≡ right c → (o ≡ some c) × Passed (curveTests profiles samples before c)
   curve-right before none c e = never-right badRow c e
   curve-right before (some q) c e = passed-own (curveTests profiles samples before) q c e
 
-  curves-kept : (before : List Curve) (lines : List (List ℕ)) (curves : List Curve) → Reads (curveRow profiles samples) before lines curves
-      → EachAfter (λ b c. Passed (curveTests profiles samples b c) × (leastSampled ≤ length (c .samples))) before curves
-  curves-kept before [] [] h = tt
-  curves-kept before [] (c ∷ curves) h = absurd h
-  curves-kept before (line ∷ lines) [] h = absurd h
-  curves-kept before (line ∷ lines) (c ∷ curves) h =
-      let k = curve-right before (curveForm line) c (h .0) in
-      ((k .1, curve-some (splitOn comma line) c (k .0)), curves-kept (before ++ c ∷ []) lines curves (h .1))
+  -- what a line that is right tells
+  curve-told : (before : List Curve) (line : List ℕ) (c : Curve)
+      → (curveRow profiles samples before (lessReturn line) ≡ right c) ↔ (Tells CurveFields line c × (Passed (curveTests profiles samples before c) × (leastSampled ≤ length (c .samples))))
+  curve-told before line c = (there, back)
+    where
+      there : curveRow profiles samples before (lessReturn line) ≡ right c → Tells CurveFields line c × (Passed (curveTests profiles samples before c) × (leastSampled ≤ length (c .samples)))
+      there e =
+          let k = curve-right before (curveForm (lessReturn line)) c e in
+          let f = found-first (contentsOf (lessReturn line)) twoOf c (k .0) in
+          let t = read-fields (f .0) c (f .2) in
+          (record { fields = f .0; contents = f .1; says = t .0 }, (k .1, t .1))
 
-  -- profiles.csv: every profile passes its tests after those before it, and has a sample
-  pub profiles-good : (s : List ℕ) (curves : List Curve) → profilesOf profiles samples s ≡ good curves → LawfulCurves profiles samples curves
+      back : Tells CurveFields line c × (Passed (curveTests profiles samples before c) × (leastSampled ≤ length (c .samples))) → curveRow profiles samples before (lessReturn line) ≡ right c
+      back t =
+          ap (judgeCurve profiles samples before) (ap (λ (x : Option (List (List ℕ))). x >>= twoOf) (t .0 .contents) ∙ fields-read (t .0 .fields) c (t .0 .says) (t .1 .1))
+          ∙ right-judged (curveTests profiles samples before c) c (t .1 .0)
+
+  -- profiles.csv: a text is read without refusal as profiles exactly where they are lawful, have room, and it spells them
+  pub profiles-good : (s : List ℕ) (curves : List Curve) → (profilesOf profiles samples s ≡ good curves) ↔ WrittenCurves profiles samples s curves
   unfolding profilesOf
-  profiles-good s curves e =
-      let g = csv-good profilesFile (curveRow profiles samples) profilesHeader s curves .0 e in
-      curves-kept [] (g .lines) curves (g .reads)
+  profiles-good s curves = (λ e. there (text .0 e), λ w. text .1 (w .lawful, w .spells, w .short))
+    where
+      text : (csvOf profilesFile (curveRow profiles samples) profilesNames s ≡ good curves) ↔ (LawfulCurves profiles samples curves × Spelled profilesNames CurveFields s curves × (length s ≤ mostText))
+      text =
+          told-good (curveRow profiles samples) CurveFields (λ b c. Passed (curveTests profiles samples b c) × (leastSampled ≤ length (c .samples))) curve-told
+          profilesFile profilesNames s curves
+
+      there : LawfulCurves profiles samples curves × Spelled profilesNames CurveFields s curves × (length s ≤ mostText) → WrittenCurves profiles samples s curves
+      there k = record { lawful = k .0; spells = k .1; short = k .2 }
 
 -- ---- where a row starts
 

@@ -10,6 +10,7 @@ pub mod Tabulate
 -- Timetables and profiles: what a text that is read without refusal is, and that what is written is read back
 pub mod GoodText
 pub mod Forms
+pub mod Samples
 pub mod GoodRows
 pub mod LawfulRows
 pub mod Tables

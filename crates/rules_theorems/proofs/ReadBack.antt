@@ -1,18 +1,18 @@
--- What is written is read back: timetables, solutions, tables and choices; and a text that is read is the text that its rows write. Assumes nothing.
+-- What is written is read back: timetables, solutions, tables and choices; and a text that is read spells its rows. Assumes nothing.
 use Prim.Native.Nat.{ℕ, _/_, _≤_}
-use mathlib.Core.Path.{_≡_, refl, ap, sym, _∙_}
+use mathlib.Core.Path.{_≡_, ap, sym, _∙_}
 use mathlib.Core.List.{List}
 use lib.ListN.{length, length-map}
 use Rattle.rules.specs.Limits.{mostText, configurationWidth}
 use Rattle.rules.specs.Answers.{good}
-use Rattle.rules.specs.Timetable.{Row, listed, legsOf, configurationsOf, timetableOf, solutionOf}
+use Rattle.rules.specs.Timetable.{Row, timetableNames, listed, legsOf, configurationsOf, timetableOf, solutionOf}
 use Rattle.rules.specs.Reading.{Files, choicesRead}
 use Rattle.rules.specs.Verdict.{offered, Offered}
 use Rattle.rules.specs.Merge.{textOf, chosen}
 use Rattle.rules.specs.declared.sizes.Configuration.{Configuration}
 use Rattle.rules.specs.declared.sizes.Leg.{Leg}
-use Rattle.rules_theorems.specs.WellFormed.{Lawful, Fitting, FittingChoices, rowOfLeg, rowsOf, WellFormed}
-use Rattle.rules_theorems.proofs.GoodRows.{timetable-good, solution-good}
+use Rattle.rules_theorems.specs.WellFormed.{Lawful, Fitting, FittingChoices, Spelled, RowFields, rowOfLeg, rowsOf, WellFormed}
+use Rattle.rules_theorems.proofs.GoodRows.{spelled-own, timetable-good, solution-good}
 use Rattle.rules_theorems.proofs.LawfulRows.{rooms-fit, choices-fit}
 use Rattle.rules_theorems.proofs.Tables.{lawful-wellformed, length-flat}
 use Rattle.rules_theorems.proofs.Chosen.{chosen-lawful, chosen-choices, chosen-length, chosen-matches}
@@ -21,20 +21,20 @@ use Rattle.rules_theorems.proofs.Chosen.{chosen-lawful, chosen-choices,
 pub read-back : (H legs configurations : ℕ) (rows : List Row) → Lawful H rows → Fitting legs configurations rows → length (textOf rows) ≤ mostText
     → timetableOf H legs configurations (textOf rows) ≡ good rows
 read-back H legs configurations rows lawful fitting short =
-    timetable-good H legs configurations (textOf rows) rows .1 (record { lawful = lawful; fitting = fitting; text = refl; short = short })
+    timetable-good H legs configurations (textOf rows) rows .1 (record { lawful = lawful; fitting = fitting; spells = spelled-own rows; short = short })
 
 -- and so is a solution
 pub solution-back : (H file choices : ℕ) (rows : List Row) → Lawful H rows → FittingChoices choices rows → length (textOf rows) ≤ mostText
     → solutionOf H file choices (textOf rows) ≡ good rows
 solution-back H file choices rows lawful fitting short =
-    solution-good H file choices (textOf rows) rows .1 (record { lawful = lawful; fitting = fitting; text = refl; short = short })
+    solution-good H file choices (textOf rows) rows .1 (record { lawful = lawful; fitting = fitting; spells = spelled-own rows; short = short })
 
--- a text that is read without refusal is the one that its rows write
-pub reads-as-written : (H legs configurations : ℕ) (s : List ℕ) (rows : List Row) → timetableOf H legs configurations s ≡ good rows → textOf rows ≡ s
-reads-as-written H legs configurations s rows e = sym (timetable-good H legs configurations s rows .0 e .text)
+-- a text that is read without refusal spells its rows
+pub reads-as-spelled : (H legs configurations : ℕ) (s : List ℕ) (rows : List Row) → timetableOf H legs configurations s ≡ good rows → Spelled timetableNames RowFields s rows
+reads-as-spelled H legs configurations s rows e = timetable-good H legs configurations s rows .0 e .spells
 
-pub solution-as-written : (H file choices : ℕ) (s : List ℕ) (rows : List Row) → solutionOf H file choices s ≡ good rows → textOf rows ≡ s
-solution-as-written H file choices s rows e = sym (solution-good H file choices s rows .0 e .text)
+pub solution-as-spelled : (H file choices : ℕ) (s : List ℕ) (rows : List Row) → solutionOf H file choices s ≡ good rows → Spelled timetableNames RowFields s rows
+solution-as-spelled H file choices s rows e = solution-good H file choices s rows .0 e .spells
 
 -- ---- tables
 

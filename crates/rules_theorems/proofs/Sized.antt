@@ -1,85 +1,54 @@
 -- What reading gives of an accepted solution, and so how great its figures and curves can be, and those of every report. Assumes nothing.
-use Prim.Native.Nat.{ℕ, suc, _+_, _*_, _/_, _%_, _≤_}
-use mathlib.Core.Path.{_≡_, refl, sym, _∙_}
+use Prim.Native.Nat.{ℕ, _+_, _*_, _/_, _%_, _≤_}
+use mathlib.Core.Path.{_≡_, refl, _∙_}
 use mathlib.Core.Bool.{Bool, true, false, cond}
 use mathlib.Core.List.{List, [], _∷_}
-use mathlib.Core.Option.{Option, none, some}
+use mathlib.Core.Option.{some}
 use native.Mathlib.Omega.{arith}
-use lib.Dec.{T, leb, eqb, eqb→eq}
+use lib.Dec.{T, leb, eqb}
 use lib.ListN.{length, length-map}
 use lib.IntN.{ℤ, natAbs}
-use Rattle.rules.specs.Limits.{mostKw}
-use Rattle.rules.specs.Lists.{every, isSome}
-use Rattle.rules.specs.Answers.{Reading, refused, good, notThere, wrongSamples, noSubnet}
-use Rattle.rules.specs.Rows.{orElse, firstFault}
+use Rattle.rules.specs.Lists.{isSome}
+use Rattle.rules.specs.Answers.{Reading, refused, good}
 use Rattle.rules.specs.Timetable.{Row}
-use Rattle.rules.specs.Profiles.{Curve, curveOf, lasts, profileFault}
-use Rattle.rules.specs.Constraints.{subnetOf, subnetFault, ordered}
+use Rattle.rules.specs.Profiles.{Curve}
+use Rattle.rules.specs.Constraints.{subnetOf, ordered}
 use Rattle.rules.specs.Reading.{Rooms, Texts, Files, legIds}
 use Rattle.rules.specs.Verdict.{All, offered, Offered, Verdict, accepted, violated}
-use Rattle.rules.specs.Energy.{samplesOr, samplesIn, homesOf, power, figuresOf, curvesOf}
+use Rattle.rules.specs.Energy.{samplesIn, homesOf, power, figuresOf, curvesOf}
 use Rattle.rules.specs.Entries.{Tables, roomsOf, verdictOf, Whole, allRead, noFigures, reportAccepted, reportJudged, reportFrom, reported}
 use Rattle.rules.specs.declared.sizes.Configuration.{Configuration}
 use Rattle.rules.specs.declared.sizes.Track.{Track}
-use Rattle.rules.proofs.Truth.{every-all, all-map, missing}
+use Rattle.rules.proofs.Truth.{all-map}
 use Rattle.rules_theorems.specs.WellFormed.{InRange, KeptRow, KeptCurve}
 use Rattle.rules_theorems.specs.LawfulDocument.{LawfulTrack}
+use Rattle.rules_theorems.specs.Files.{HasProfile, HasSubnet, ByAutomaton, GoodFiles}
 use Rattle.rules_theorems.specs.Sized.{mostPower, Powered, IsPlaced, SizedFiles, Moderate, BoundedFigures}
 use Rattle.rules_theorems.proofs.All.{all-mapped, first-keeps}
 use Rattle.rules_theorems.proofs.Tabulate.{tabulate-all}
 use Rattle.rules_theorems.proofs.LawfulRows.{rows-kept, legs-most, curves-kept}
 use Rattle.rules_theorems.proofs.Chosen.{choices-keep, offered-length}
 use Rattle.rules_theorems.proofs.Documents.{good-is-lawful}
-use Rattle.rules_theorems.proofs.GoodFiles.{GoodFiles, files-good, all-good}
+use Rattle.rules_theorems.proofs.GoodFiles.{files-good, all-good}
 use Rattle.rules_theorems.proofs.Verdicts.{verdict-accepted}
 use Rattle.rules_theorems.proofs.Recuperation.{drawn-and-returned}
 use Rattle.rules_theorems.proofs.Bounds.{power-bound, fluctuation-bound, before-bound, drawn-bound, lost-bound, peak-before-bound, peak-drawn-bound}
 
--- ---- no row at fault
-
--- where the first row at fault is none, no row is
-no-fault : {A : Type 0} (fault : A → Option ℕ) (n : ℕ) (xs : List A) → firstFault n fault xs ≡ none → All (λ x. fault x ≡ none) xs
-no-fault fault n [] e = tt
-no-fault fault n (x ∷ xs) e = go (fault x) e (no-fault fault (suc n) xs)
-  where
-    go : (o : Option ℕ) → orElse n o (firstFault (suc n) fault xs) ≡ none → (firstFault (suc n) fault xs ≡ none → All (λ x. fault x ≡ none) xs)
-        → (o ≡ none) × All (λ x. fault x ≡ none) xs
-    go none e ih = (refl, ih e)
-    go (some k) e ih = missing _ (sym e)
-
--- a test that gives no number holds
-test-holds : (t : Bool) (o : Option ℕ) (k : ℕ) → cond t o (some k) ≡ none → T t × (o ≡ none)
-test-holds true o k e = (tt, e)
-test-holds false o k e = missing k (sym e)
-
--- ---- 12 and 13: each entry of each list has a profile with a sample for each second
+-- ---- each entry of each list has its samples
 
 module _ (H : ℕ) (curves : List Curve) (kept : All KeptCurve curves) where
-  found-powered : (t : ℕ) (o : Option Curve) → ((k : Curve) → o ≡ some k → KeptCurve k) → T (isSome o) → T (lasts t o)
-      → (length (samplesOr o) ≡ t) × All (λ x. natAbs x ≤ mostKw) (samplesOr o)
-  found-powered t none k there counts = absurd there
-  found-powered t (some c) k there counts = (eqb→eq (length (c .samples)) t counts, k c refl .sizes)
+  entry-powered : (c : Configuration) → InRange H c → HasProfile curves c → Powered (samplesIn curves) c
+  entry-powered c h p =
+      let sizes = first-keeps KeptCurve (λ x. eqb (x .id) (c .profile)) curves (p .curve) kept (p .exists) .sizes in
+      record { brief = h .travelMost; counted = rw (p .exists) (p .counted); moderate = rw (p .exists) sizes }
 
-  entry-powered : (c : Configuration) → InRange H c → T (isSome (curveOf curves (c .profile))) → T (lasts (c .travel) (curveOf curves (c .profile)))
-      → Powered (samplesIn curves) c
-  entry-powered c h there counts =
-      let f = found-powered (c .travel) (curveOf curves (c .profile)) (λ k e. first-keeps KeptCurve (λ x. eqb (x .id) (c .profile)) curves k kept e) there counts in
-      record { brief = h .travelMost; counted = f .0; moderate = f .1 }
+  list-powered : (l : List Configuration) → All (InRange H) l → All (HasProfile curves) l → All (Powered (samplesIn curves)) l
+  list-powered [] h p = tt
+  list-powered (c ∷ l) h p = (entry-powered c (h .0) (p .0), list-powered l (h .1) (p .1))
 
-  list-powered : (l : List Configuration) → All (InRange H) l → All (λ c. T (isSome (curveOf curves (c .profile)))) l
-      → All (λ c. T (lasts (c .travel) (curveOf curves (c .profile)))) l → All (Powered (samplesIn curves)) l
-  list-powered [] h there counts = tt
-  list-powered (c ∷ l) h there counts = (entry-powered c (h .0) (there .0) (counts .0), list-powered l (h .1) (there .1) (counts .1))
-
-  row-powered : (r : Row) → KeptRow H r → profileFault curves r ≡ none → All (Powered (samplesIn curves)) (r .list)
-  row-powered r h e =
-      let a = test-holds (every (λ c. isSome (curveOf curves (c .profile))) (r .list)) _ notThere e in
-      let b = test-holds (every (λ c. lasts (c .travel) (curveOf curves (c .profile))) (r .list)) none wrongSamples (a .1) in
-      list-powered (r .list) (h .listIn) (every-all _ (r .list) (a .0)) (every-all _ (r .list) (b .0))
-
-  rows-powered : (rows : List Row) → All (KeptRow H) rows → All (λ r. profileFault curves r ≡ none) rows → All (λ r. All (Powered (samplesIn curves)) (r .list)) rows
-  rows-powered [] h e = tt
-  rows-powered (r ∷ rows) h e = (row-powered r (h .0) (e .0), rows-powered rows (h .1) (e .1))
+  rows-powered : (rows : List Row) → All (KeptRow H) rows → All (λ r. All (HasProfile curves) (r .list)) rows → All (λ r. All (Powered (samplesIn curves)) (r .list)) rows
+  rows-powered [] h p = tt
+  rows-powered (r ∷ rows) h p = (list-powered (r .list) (h .0 .listIn) (p .0), rows-powered rows (h .1) (p .1))
 
 -- ---- 15: each row's track stands in one of the subnets that were opened
 
@@ -92,12 +61,12 @@ track-placed n (t ∷ ts) track h there = go (eqb (t .id) track) there (track-pl
     go true there ih = h .0 .subnet-is-there
     go false there ih = ih there
 
-row-placed : (n : ℕ) (ts : List Track) → All (LawfulTrack n) ts → (r : Row) → subnetFault ts r ≡ none → IsPlaced n (subnetOf ts (r .track))
-row-placed n ts h r e = track-placed n ts (r .track) h (test-holds (isSome (subnetOf ts (r .track))) none noSubnet e .0)
+row-placed : (n : ℕ) (ts : List Track) → All (LawfulTrack n) ts → (r : Row) → HasSubnet ts r → IsPlaced n (subnetOf ts (r .track))
+row-placed n ts h r p = track-placed n ts (r .track) h (rw (p .inside) tt)
 
 -- ---- of files that were read without refusal
 
-module _ (H : ℕ) (x : Texts) (room : Rooms) (f : Files) (g : GoodFiles H x room f) (s : List Configuration) (o : Offered (offered (f .rows)) s) where
+module _ (H : ℕ) (x : Texts) (room : Rooms) (f : Files) (g : GoodFiles ByAutomaton H x room f) (s : List Configuration) (o : Offered (offered (f .rows)) s) where
   -- offered choices
   offered-sized : SizedFiles H f s
   offered-sized =
@@ -110,7 +79,7 @@ module _ (H : ℕ) (x : Texts) (room : Rooms) (f : Files) (g : GoodFiles H x roo
           few = rw (← many) (legs-most H (f .rows) lawful);
           powered =
               choices-keep (Powered (samplesIn (f .curves))) (f .rows) s o
-              (rows-powered H (f .curves) (curves-kept _ _ (f .curves) (g .profiles)) (f .rows) kept (no-fault (profileFault (f .curves)) 0 (f .rows) (g .powered)));
+              (rows-powered H (f .curves) (curves-kept _ _ (f .curves) (g .profiles .lawful)) (f .rows) kept (g .powered));
         };
         fits =
             choices-keep (λ c. c .departure + c .travel ≤ H) (f .rows) s o
@@ -118,9 +87,8 @@ module _ (H : ℕ) (x : Texts) (room : Rooms) (f : Files) (g : GoodFiles H x roo
         placed = (
           length-map (f .rows) _ ∙ many,
           all-mapped (IsPlaced (f .document .opened)) (λ r. subnetOf (f .document .tracks) (r .track)) (f .rows)
-              (all-map (λ r. subnetFault (f .document .tracks) r ≡ none) _
-              (row-placed (f .document .opened) (f .document .tracks) (document .tables .tracks-lawful .each))
-              (f .rows) (no-fault (subnetFault (f .document .tracks)) 0 (f .rows) (g .placed))),
+              (all-map (HasSubnet (f .document .tracks)) _ (row-placed (f .document .opened) (f .document .tracks) (document .tables .tracks-lawful .each))
+              (f .rows) (g .placed)),
         );
       }
 

@@ -2,9 +2,11 @@
 -- Lists, and the numbers of document 01's table
 pub mod Lists
 pub mod Numbers
--- Timetables, profiles and constraints.json that are read without refusal
+-- Timetables, profiles and constraints.json that are read without refusal, and all of them together
+pub mod Samples
 pub mod WellFormed
 pub mod LawfulDocument
+pub mod Files
 -- The verdict's tests, sizes of an accepted solution, and how its curves are made
 pub mod Tests
 pub mod Sized

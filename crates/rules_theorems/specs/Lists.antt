@@ -17,3 +17,10 @@ Pairs R (x ∷ xs) = All (R x) xs × Pairs R xs
 -- no two elements have the same number
 abbrev pub Distinct : {A : Type 0} → (A → ℕ) → List A → Type 0
 Distinct f = Pairs (λ x y. f x ≡ f y → ⊥)
+
+-- two lists of one length: elements at the same place are related
+abbrev pub Along : {A B : Type 0} → (A → B → Type 0) → List A → List B → Type 0
+Along R [] [] = Unit {0}
+Along R [] (y ∷ ys) = ⊥
+Along R (x ∷ xs) [] = ⊥
+Along R (x ∷ xs) (y ∷ ys) = R x y × Along R xs ys

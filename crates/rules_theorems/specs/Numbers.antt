@@ -202,7 +202,7 @@ headers =
     timetableCut [] []
     ∷ timetableCut [] (bytes "leg_id,train_id,track_id,start_station_id,end_station_id,nominal_departure_configuration,departure_configurations")
     ∷ timetableCut [] (byteOrderMark ++ draft)
-    ∷ profilesCut [] (bytes "profile_id,power_consumptions\r\n")
+    ∷ profilesCut [] (bytes "profile_id,power_consumptions\r\r\n")
     ∷ solutionCut [] profiles
     ∷ []
 
@@ -220,7 +220,7 @@ forms =
     ∷ legs "" "1,1,1,1,2,10_4_7\n"
     ∷ legs "" "1,1,1,1,2,10_4,10_4\n"
     ∷ legs "" "1,1,1,1,2,10_4_7,10_4_7,15_4_7\n"
-    ∷ legs "" "1,1,1,1,2,10_4_7,10_4_7 15_4_7\r\n"
+    ∷ legs "" "1,1,1,1,2,10_4_7,10_4_7 15_4_7\r\r\n"
     ∷ legs "" "1,1,1,1,-2,10_4_7,10_4_7 15_4_7\n"
     -- the timetable comes before the other texts
     ∷ example (timetableHeader ++ bytes "1\n") [] [] [] timetableFile (length timetableHeader)

@@ -1,22 +1,18 @@
 -- The loop over a solution's lines: its invariant, kept by each turn, and what it gives at each return. Assumes nothing.
 use Prim.Native.Nat.{ℕ, suc, _+_, _*_, _-_, _/_, _≤_, _<_}
 use mathlib.Core.Path.{_≡_, refl, ap, sym, _∙_}
-use mathlib.Core.Bool.{true}
 use mathlib.Core.List.{List, [], _∷_, _++_}
 use native.Mathlib.Omega.{arith}
-use lib.Dec.{eqb}
 use lib.ListN.{length, take, drop, drop-of-length-le, length-drop, length-take}
 use lib.Seq.{drop-cons}
-use borrow.Author.Tests.{eqb-true}
 use Rattle.rules.specs.Limits.{legWidth, configurationWidth}
-use Rattle.rules.specs.Lists.{flat, over, startsWith}
+use Rattle.rules.specs.Lists.{flat, over}
 use Rattle.rules.specs.Answers.{refusal, badRow, Reading, refused, good, Judged, wrong, right}
-use Rattle.rules.specs.Bytes.{lineFeed, splitOn, startOf}
+use Rattle.rules.specs.Bytes.{lineFeed, splitOn, startOf, lessReturn}
 use Rattle.rules.specs.Rows.{onRow, rowsFrom}
-use Rattle.rules.specs.Timetable.{Row, rowOf, solutionFits, timetableHeader}
+use Rattle.rules.specs.Timetable.{Row, rowOf, solutionFits}
 use Rattle.rules.proofs.Pieces.{split-not-empty, split-free}
 use Rattle.rules.proofs.Lists.{over-length}
-use Rattle.rules.proofs.Truth.{and-first, and-second}
 use Rattle.text_read.specs.Places.{upTo}
 use Rattle.text_read.proofs.Laws.{pieces-next, pieces-last}
 use Rattle.timetable_row.specs.declared.line.Line.{Line}
@@ -34,32 +30,11 @@ use Rattle.solution.specs.Whole.{Headed, rowsAfter, RowsRead}
 use Rattle.solution.proofs.Judging.{packed-length}
 use Rattle.solution.proofs.Differing.{Compares, compares-on, compared-right, read-all}
 
--- ---- the header
-
--- a text that begins with a name
-starts-front : (name s : List ℕ) → startsWith name s ≡ true → s ≡ name ++ drop (length name) s
-starts-front [] s e = refl
-starts-front (n ∷ name) [] e = let z : _≡_ {A = ℕ} 0 1 = cc in absurd (omega arith)
-starts-front (n ∷ name) (b ∷ s) e =
-    let same : b ≡ n = eqb-true b n (and-first (eqb b n) (startsWith name s) e) in
-    let rest : s ≡ name ++ drop (length name) s = starts-front name s (and-second (eqb b n) (startsWith name s) e) in
-    ap (λ (x : ℕ). x ∷ s) same ∙ ap (λ (t : List ℕ). n ∷ t) rest
-
-starts-long : (name s : List ℕ) → startsWith name s ≡ true → length name ≤ length s
-starts-long [] s e = omega arith
-starts-long (n ∷ name) [] e = let z : _≡_ {A = ℕ} 0 1 = cc in absurd (omega arith)
-starts-long (n ∷ name) (b ∷ s) e = let k : length name ≤ length s = starts-long name s (and-second (eqb b n) (startsWith name s) e) in omega arith
-
--- the header is the text's first line
-header-line : (text : List ℕ) → startsWith timetableHeader text ≡ true → (k : ℕ)
-    → startOf (suc k) (splitOn lineFeed text) ≡ length timetableHeader + startOf k (splitOn lineFeed (drop (length timetableHeader) text))
-header-line text e k = ap (λ (t : List ℕ). startOf (suc k) (splitOn lineFeed t)) (starts-front timetableHeader text e)
-
 -- ---- the invariant
 
 -- a line that others follow is a row
 row-first : (file : ℕ) (judge : List Row → List ℕ → Judged Row) (place : ℕ) (before : List Row) (line : List ℕ) (lines : List (List ℕ)) → (lines ≡ [] → ⊥)
-    → rowsFrom file judge place before (line ∷ lines) ≡ onRow file judge place (judge before line) (λ r. rowsFrom file judge (place + length line + 1) (before ++ r ∷ []) lines)
+    → rowsFrom file judge place before (line ∷ lines) ≡ onRow file judge place (judge before (lessReturn line)) (λ r. rowsFrom file judge (place + length line + 1) (before ++ r ∷ []) lines)
 row-first file judge place before line [] h = absurd (h refl)
 row-first file judge place before line (next ∷ lines) h = refl
 
@@ -67,14 +42,13 @@ abbrev judgeOf : (H : ℕ) (lent : List ℕ) → List Row → List ℕ → Judge
 judgeOf H lent = rowOf H (solutionFits (length lent / configurationWidth))
 
 -- the rows before; what is left of the text gives the rest of the reading, of the places and of the comparison
-pub record Going (H : ℕ) (text legs : List ℕ) (n : ℕ) (lent : List ℕ) (line : Line) (compared : Compared) (choices : List ℕ) (i : ℕ) : Type 0 where
-  pub headed : Headed H text legs n
+pub record Going (H : ℕ) (text legs : List ℕ) (n from : ℕ) (lent : List ℕ) (line : Line) (compared : Compared) (choices : List ℕ) (i : ℕ) : Type 0 where
+  pub headed : Headed H text legs n from
   pub within : i ≤ length text
-  pub past : length timetableHeader ≤ i
   pub long : length choices ≡ length lent
   pub before : List Row
   pub counted : Counted H lent line choices before
-  pub left : (file : ℕ) → rowsFrom file (judgeOf H lent) i before (splitOn lineFeed (drop i text)) ≡ rowsAfter H file lent text
+  pub left : (file : ℕ) → rowsFrom file (judgeOf H lent) i before (splitOn lineFeed (drop i text)) ≡ rowsAfter H file from lent text
   pub places : (k : ℕ) → startOf (suc (length before + k)) (splitOn lineFeed text) ≡ i + startOf k (splitOn lineFeed (drop i text))
   pub compares : (draft : List Row) → HoldsRows legs n draft → Compares text draft before compared
 
@@ -94,23 +68,26 @@ none-counted H lent =
       choices-are = refl;
     }
 
-pub going-first : (H : ℕ) (text legs : List ℕ) (n : ℕ) (lent : List ℕ) (line : Line) (compared : Compared) → Headed H text legs n → line ≡ firstLine → compared ≡ noneDiffers
-    → Going H text legs n lent line compared lent (length timetableHeader)
-going-first H text legs n lent line compared h e d =
+pub going-first : (H : ℕ) (text legs : List ℕ) (n from : ℕ) (lent : List ℕ) (line : Line) (compared : Compared) → Headed H text legs n from → line ≡ firstLine → compared ≡ noneDiffers
+    → Going H text legs n from lent line compared lent from
+going-first H text legs n from lent line compared h e d =
     record {
       headed = h;
-      within = starts-long timetableHeader text (h .header);
-      past = omega arith;
+      within = h .inside;
       long = refl;
       before = [];
       counted = rw e (none-counted H lent);
       left = λ file. refl;
-      places = λ k. let at : 0 + k ≡ k = omega arith in rw at (header-line text (h .header) k);
+      places = λ k.
+          let at : 0 + k ≡ k = omega arith in
+          ap (λ (m : ℕ). startOf (suc m) (splitOn lineFeed text)) at
+          ∙ ap (λ (ps : List (List ℕ)). startOf (suc k) ps) (h .first-is)
+          ∙ ap (λ (x : ℕ). x + startOf k (splitOn lineFeed (drop from text))) (sym (h .from-is));
       compares = λ draft holds rest. rw d;
     }
 
-module _ {H : ℕ} {text legs : List ℕ} {n : ℕ} {lent : List ℕ} {line : Line} {compared : Compared} {choices : List ℕ} {i : ℕ}
-    (g : Going H text legs n lent line compared choices i) where
+module _ {H : ℕ} {text legs : List ℕ} {n from : ℕ} {lent : List ℕ} {line : Line} {compared : Compared} {choices : List ℕ} {i : ℕ}
+    (g : Going H text legs n from lent line compared choices i) where
   pub whole : n * legWidth ≤ length legs
   whole = g .headed .able .whole
 
@@ -118,7 +95,7 @@ module _ {H : ℕ} {text legs : List ℕ} {n : ℕ} {lent : List ℕ} {line : Li
   roomy = omega (arith, g .counted .rows-are, g .counted .fits, g .long)
 
   -- the text is over
-  pub gone-over : (answer : Choices) → length text ≤ i → answer ≡ comparedAnswer compared (line .rows) n (length text) → RowsRead H text legs n lent answer choices
+  pub gone-over : (answer : Choices) → length text ≤ i → answer ≡ comparedAnswer compared (line .rows) n (length text) → RowsRead H text legs n from lent answer choices
   gone-over answer o e =
       record {
         answers = λ draft file holds.
@@ -130,11 +107,11 @@ module _ {H : ℕ} {text legs : List ℕ} {n : ℕ} {lent : List ℕ} {line : Li
         fits = λ m q. omega (arith, read-all compared (line .rows) n (length text) m answer e q, g .counted .rows-are, g .counted .fits, g .long);
       }
     where
-      all-read : (file : ℕ) → good (g .before) ≡ rowsAfter H file lent text
+      all-read : (file : ℕ) → good (g .before) ≡ rowsAfter H file from lent text
       all-read file = rw (drop-of-length-le text o) at (g .left file)
 
   -- what is refused
-  refused-rows : (k : ℕ) (now : List ℕ) → ((file : ℕ) → refused (refusal k file i) ≡ rowsAfter H file lent text) → RowsRead H text legs n lent (Fault k i) now
+  refused-rows : (k : ℕ) (now : List ℕ) → ((file : ℕ) → refused (refusal k file i) ≡ rowsAfter H file from lent text) → RowsRead H text legs n from lent (Fault k i) now
   refused-rows k now r =
       record {
         answers = λ draft file holds. rw (← r file);
@@ -144,7 +121,7 @@ module _ {H : ℕ} {text legs : List ℕ} {n : ℕ} {lent : List ℕ} {line : Li
 
   module _ (e : ℕ) (found : e ≡ i + upTo lineFeed (drop i text)) where
     -- a row that lacks its LF
-    pub gone-short : i < length text → length text ≤ e → RowsRead H text legs n lent (Fault badRow i) choices
+    pub gone-short : i < length text → length text ≤ e → RowsRead H text legs n from lent (Fault badRow i) choices
     gone-short a b = refused-rows badRow choices (λ file. rw (pieces-last text lineFeed i e found b, drop-cons text i 0 a) at (g .left file))
 
     abbrev bytes : List ℕ
@@ -159,18 +136,18 @@ module _ {H : ℕ} {text legs : List ℕ} {n : ℕ} {lent : List ℕ} {line : Li
           record {
             horizon = g .headed .able .horizon;
             unbroken = let f = split-free lineFeed (drop i text) in (rw (pieces-next text lineFeed i e found inside) at f) .0;
-            short = omega (arith, bytes-length, g .headed .short, g .past);
+            short = omega (arith, bytes-length, g .headed .short);
           }
 
       -- the lines from i on: this one, and those after it
       abbrev onward : (file : ℕ) → Row → Reading (List Row)
       onward file r = rowsFrom file (judgeOf H lent) (e + 1) (g .before ++ r ∷ []) (splitOn lineFeed (drop (e + 1) text))
 
-      next-line : (file : ℕ) → onRow file (judgeOf H lent) i (judgeOf H lent (g .before) bytes) (onward file) ≡ rowsAfter H file lent text
+      next-line : (file : ℕ) → onRow file (judgeOf H lent) i (judgeOf H lent (g .before) (lessReturn bytes)) (onward file) ≡ rowsAfter H file from lent text
       next-line file =
           let at : i + length bytes + 1 ≡ e + 1 = omega (arith, bytes-length, found) in
           let after : List (List ℕ) = splitOn lineFeed (drop (e + 1) text) in
-          let lines : rowsFrom file (judgeOf H lent) i (g .before) (bytes ∷ after) ≡ rowsAfter H file lent text =
+          let lines : rowsFrom file (judgeOf H lent) i (g .before) (bytes ∷ after) ≡ rowsAfter H file from lent text =
           rw (pieces-next text lineFeed i e found inside) at (g .left file) in
           sym (row-first file (judgeOf H lent) i (g .before) bytes after (split-not-empty lineFeed (drop (e + 1) text)) ∙ rw at) ∙ lines
 
@@ -186,21 +163,20 @@ module _ {H : ℕ} {text legs : List ℕ} {n : ℕ} {lent : List ℕ} {line : Li
           ap (λ (m : ℕ). startOf (suc m) (splitOn lineFeed text)) at ∙ g .places 0 ∙ omega arith
 
       module _ (line′ : Line) (choices′ : List ℕ) (turned : Turned H bytes line choices line′ choices′) where
-        judged : AfterRow H lent line′ choices′ (g .before) (judgeOf H lent (g .before) bytes)
+        judged : AfterRow H lent line′ choices′ (g .before) (judgeOf H lent (g .before) (lessReturn bytes))
         judged = turned .turns lent (g .before) (g .counted)
 
         pub goes-on : (compared′ : Compared) → line′ .fault ≡ 0 → compared′ ≡ comparedWith compared (line′ .numbers) legs n (line .rows) i
-            → Going H text legs n lent line′ compared′ choices′ (e + 1)
-        goes-on compared′ f d = go (judgeOf H lent (g .before) bytes) judged next-line
+            → Going H text legs n from lent line′ compared′ choices′ (e + 1)
+        goes-on compared′ f d = go (judgeOf H lent (g .before) (lessReturn bytes)) judged next-line
           where
-            go : (j : Judged Row) → AfterRow H lent line′ choices′ (g .before) j → ((file : ℕ) → onRow file (judgeOf H lent) i j (onward file) ≡ rowsAfter H file lent text)
-                → Going H text legs n lent line′ compared′ choices′ (e + 1)
+            go : (j : Judged Row) → AfterRow H lent line′ choices′ (g .before) j → ((file : ℕ) → onRow file (judgeOf H lent) i j (onward file) ≡ rowsAfter H file from lent text)
+                → Going H text legs n from lent line′ compared′ choices′ (e + 1)
             go (wrong k) a r = absurd (omega (arith, a .0, a .1, f))
             go (right r) a l =
                 record {
                   headed = g .headed;
                   within = omega arith;
-                  past = omega (arith, g .past, found);
                   long =
                       ap length (a .0 .choices-are)
                       ∙ over-length (flat packedRow (g .before ++ r ∷ [])) lent (omega (arith, packed-length (g .before ++ r ∷ []), a .0 .fits));
@@ -213,10 +189,10 @@ module _ {H : ℕ} {text legs : List ℕ} {n : ℕ} {lent : List ℕ} {line : Li
                 }
 
         -- the first fault
-        pub gone-fault : (line′ .fault ≡ 0 → ⊥) → RowsRead H text legs n lent (Fault (line′ .fault) i) choices′
-        gone-fault f = go (judgeOf H lent (g .before) bytes) judged next-line
+        pub gone-fault : (line′ .fault ≡ 0 → ⊥) → RowsRead H text legs n from lent (Fault (line′ .fault) i) choices′
+        gone-fault f = go (judgeOf H lent (g .before) (lessReturn bytes)) judged next-line
           where
-            go : (j : Judged Row) → AfterRow H lent line′ choices′ (g .before) j → ((file : ℕ) → onRow file (judgeOf H lent) i j (onward file) ≡ rowsAfter H file lent text)
-                → RowsRead H text legs n lent (Fault (line′ .fault) i) choices′
+            go : (j : Judged Row) → AfterRow H lent line′ choices′ (g .before) j → ((file : ℕ) → onRow file (judgeOf H lent) i j (onward file) ≡ rowsAfter H file from lent text)
+                → RowsRead H text legs n from lent (Fault (line′ .fault) i) choices′
             go (wrong k) a l = rw (a .0) (refused-rows k choices′ l)
             go (right r) a l = absurd (f (a .0 .going))

@@ -15,6 +15,7 @@ use borrow.Author.Tests.{leb-true, leb-false, lt-leb, ltb-true}
 use Rattle.rules.specs.Limits.{mostId, leastTravel, mostTravel, mostLegs, mostListed, mostConfigurations, configurationWidth}
 use Rattle.rules.specs.Lists.{every, any, flat, over}
 use Rattle.rules.specs.Answers.{judge}
+use Rattle.rules.specs.Bytes.{lessReturn}
 use Rattle.rules.specs.Timetable.{Row, formOf, idsOf, inRange, offers, listed, rowTests, judgeForm, solutionFits}
 use Rattle.rules.specs.declared.sizes.Configuration.{Configuration}
 use Rattle.rules.proofs.Truth.{all-append, all-map, and-first, and-second}
@@ -185,10 +186,10 @@ module _ (H : ℕ) (lent : List ℕ) (line : Line) (choices : List ℕ) (before 
 
 -- ---- the three ways of a line
 
-module _ (H : ℕ) (bytes : List ℕ) (before alone line′ : Line) (choices choices′ : List ℕ) (said : SaidOf H (formOf bytes) alone) where
+module _ (H : ℕ) (bytes : List ℕ) (before alone line′ : Line) (choices choices′ : List ℕ) (said : SaidOf H (formOf (lessReturn bytes)) alone) where
   by-form : ((lent : List ℕ) (rows : List Row) → Counted H lent before choices rows → (f : Option Row) → SaidOf H f alone
       → AfterRow H lent line′ choices′ rows (judgeForm H (solutionFits (length lent / configurationWidth)) rows f)) → Turned H bytes before choices line′ choices′
-  by-form h = record { turns = λ lent rows c. h lent rows c (formOf bytes) said }
+  by-form h = record { turns = λ lent rows c. h lent rows c (formOf (lessReturn bytes)) said }
 
   -- it breaks a row's form
   broken : (alone .fault ≡ 0 → ⊥) → line′ ≡ alone → choices′ ≡ choices → Turned H bytes before choices line′ choices′
@@ -229,10 +230,10 @@ module _ (H : ℕ) (bytes : List ℕ) (before alone line′ : Line) (choices cho
         (accepted H lent line choices rows r s c (sym lowest-is ∙ z) choices′ 0 e, s .ids-are (ranged H lent line choices rows r s c (sym lowest-is ∙ z))))
 
 -- a row at fault leaves the table as it was
-pub turned-broken : (H : ℕ) (bytes : List ℕ) (before alone : Line) (choices : List ℕ) → SaidOf H (formOf bytes) alone → (alone .fault ≡ 0 → ⊥) → Turned H bytes before choices alone choices
+pub turned-broken : (H : ℕ) (bytes : List ℕ) (before alone : Line) (choices : List ℕ) → SaidOf H (formOf (lessReturn bytes)) alone → (alone .fault ≡ 0 → ⊥) → Turned H bytes before choices alone choices
 turned-broken H bytes before alone choices said f = broken H bytes before alone alone choices choices said f refl refl
 
-pub turned-fault : (H : ℕ) (bytes : List ℕ) (before alone line line′ : Line) (k : ℕ) (choices : List ℕ) → SaidOf H (formOf bytes) alone → alone .fault ≡ 0 → line ≡ countedAs alone before
+pub turned-fault : (H : ℕ) (bytes : List ℕ) (before alone line line′ : Line) (k : ℕ) (choices : List ℕ) → SaidOf H (formOf (lessReturn bytes)) alone → alone .fault ≡ 0 → line ≡ countedAs alone before
     → k ≡ lowest (choiceTests H line choices) → (k ≡ 0 → ⊥) → line′ ≡ stoppedWith line k → Turned H bytes before choices line′ choices
 turned-fault H bytes before alone line line′ k choices said f e l z s = faulty H bytes before alone line′ choices choices said line k f e l z s refl
 

@@ -2,41 +2,45 @@
 -- Assumes nothing.
 use Prim.Native.Nat.{ℕ, _+_, _≤_, _<_}
 use mathlib.Core.Path.{_≡_, refl, ap, sym, subst, _∙_}
-use mathlib.Core.Bool.{Bool, true, false}
+use mathlib.Core.Bool.{Bool, true, false, true≢false, false≢true}
 use mathlib.Core.List.{List, [], _∷_, _++_, append-nil}
 use mathlib.Core.Option.{Option, none, some}
 use native.Mathlib.Omega.{arith}
 use lib.Dec.{leb}
-use lib.ListN.{length, getD}
+use lib.ListN.{length, getD, drop}
 use lib.Seq.{drop-length}
 use borrow.Author.Tests.{leb-true}
 use Rattle.rules.specs.Limits.{mostId}
 use Rattle.rules.specs.Lists.{_>>=_}
 use Rattle.rules.specs.Answers.{badRow, timetableFile}
-use Rattle.rules.specs.Bytes.{lineFeed}
-use Rattle.rules.specs.Timetable.{Row, formOf, configuration, idsOf, judgeForm, timetableHeader}
+use Rattle.rules.specs.Bytes.{lineFeed, lessReturn}
+use Rattle.rules.specs.Timetable.{Row, formOf, configuration, idsOf, timetableHeader}
 use Rattle.rules.specs.Verdict.{All}
 use Rattle.rules.specs.declared.sizes.Configuration.{Configuration}
 use Rattle.rules.proofs.Truth.{and-first, and-second}
 use Rattle.csv_machine.specs.Fold.{fold, run}
 use Rattle.csv_machine.specs.Number as Row
-use Rattle.csv_machine.specs.Machine.{Progress, inRow, stopped}
+use Rattle.csv_machine.specs.Marks.{bare, Marked, on, markStep, markClose}
+use Rattle.csv_machine.specs.Machine.{inRow, broken}
 use Rattle.csv_machine.proofs.Lines.{Unbroken}
 use Rattle.csv_machine.proofs.Machine.{in-line, opened}
 use Rattle.timetable_row.specs.declared.line.Line.{Line}
 use Rattle.timetable_row.specs.declared.number.Number.{Number}
 use Rattle.timetable_row.specs.declared.number.Number.the-variants.{Empty}
+use Rattle.csv_marks.specs.declared.Mark.{Mark}
+use Rattle.csv_marks.specs.declared.Mark.the-variants.{Bare, Within, Behind, Returned}
+use Rattle.csv_marks.specs.Turns.{marked, mayEnd}
 use Rattle.timetable.specs.declared.reader.Reader.{Reader}
 use Rattle.timetable.specs.Held.{numberHeld, Shaped, inHead, inFirst, inSecond, inThird, Tables, tables, InLine, Entered}
 use Rattle.timetable_row.specs.Digits.{isEmpty, valueOf}
-use Rattle.timetable.specs.Open.{Open, partly, start, openStep, openEnd, reach}
+use Rattle.timetable.specs.Open.{Open, Reached, partly, start, openStep, openEnd, openBegins, machine, reach}
 use Rattle.timetable_row.specs.Slots.{lastSlot, entrySlot, nominalOf, heldIds}
 use Rattle.timetable_row.specs.RowOver.{stoppedWith}
 use Rattle.timetable.specs.Ended.{draftRoom}
-use Rattle.timetable.specs.Text.{firstLine, Holds, drafted, Placed, Ran}
+use Rattle.timetable.specs.Text.{firstLine, Holds, drafted, Placed, Lined}
 use Rattle.timetable.proofs.Words.{exact}
 use Rattle.timetable.proofs.Close.{entry-slot}
-use Rattle.timetable.proofs.Form.{form-run}
+use Rattle.timetable.proofs.Fields.{form-run}
 use Rattle.timetable.proofs.Feed.{first-row}
 use Rattle.timetable.proofs.Judge.{rowFrom, number-held, number-exact, range-same, ids-right, nominal-right, nominal-same}
 use Rattle.timetable.proofs.Ended.{end-row, end-none, not-empty, is-empty}
@@ -127,64 +131,96 @@ unbroken : (line : List ℕ) → All (λ b. b ≡ lineFeed → ⊥) line → Unb
 unbroken [] h = tt
 unbroken (b ∷ line) h = (h .0, unbroken line (h .1))
 
-pub alone-placed : (H : ℕ) (line : List ℕ) (begun : Line) → begun ≡ firstLine → Alone H line → Placed (length timetableHeader) line 0 begun
+pub alone-placed : (H : ℕ) (line : List ℕ) (begun : Line) → begun ≡ firstLine → Alone H line → Placed 0 line 0 begun
 alone-placed H line begun e a =
     record {
-      in-limit = a .short;
+      in-limit = omega (arith, a .short);
       inside = omega arith;
-      past-header = λ h. omega arith;
       no-fault = ap (λ (l : Line). l .fault) e;
     }
 
-abbrev reached : List ℕ → Option Open → Progress Row Open
-reached line none = stopped badRow (length timetableHeader)
-reached line (some o) = inRow (length timetableHeader) (length timetableHeader + length line) [] o
+-- where the line ends under a mark
+abbrev closeAt : Marked Open → Option Row
+closeAt = markClose openStep openEnd openBegins
+
+mark-ends : (mark : Mark) (o : Open) → mayEnd mark ≡ true → closeAt (marked mark o) ≡ openEnd o
+mark-ends Bare o e = refl
+mark-ends Within o e = absurd (false≢true e)
+mark-ends Behind o e = refl
+mark-ends Returned o e = refl
+
+mark-open : (mark : Mark) (o : Open) → mayEnd mark ≡ false → closeAt (marked mark o) ≡ none
+mark-open Bare o e = absurd (true≢false e)
+mark-open Within o e = refl
+mark-open Behind o e = absurd (true≢false e)
+mark-open Returned o e = absurd (true≢false e)
+
+abbrev reached : List ℕ → Option (Marked Open) → Reached
+reached line none = broken badRow 0
+reached line (some m) = inRow 0 (0 + length line) [] m
 
 module _ (H : ℕ) (line : List ℕ) (begun : Line) (reader : Reader) (legs entries legs′ entries′ : List ℕ) (first : begun ≡ firstLine) (alone : Alone H line)
-    (ran : Ran H begun Empty (length timetableHeader) line 0 reader (tables legs entries) (tables legs′ entries′)) where
+    (lined : Lined H begun Empty Bare 0 line 0 reader (tables legs entries) (tables legs′ entries′)) where
   abbrev lent : Tables
   lent = tables legs entries
 
   abbrev now : Tables
   now = tables legs′ entries′
 
-  by-line : fold (drafted H lent) (inRow (length timetableHeader) (length timetableHeader) [] start) line ≡ reached line (run openStep start line)
-  unfolding reach
-  by-line =
-      in-line timetableFile timetableHeader (judgeForm H (draftRoom lent)) start openStep openEnd (length timetableHeader) (length timetableHeader) [] start line (unbroken line (alone .unbroken))
-      ∙ go (run openStep start line)
-    where
-      go : (o : Option Open)
-          → opened timetableFile timetableHeader (judgeForm H (draftRoom lent)) start openStep openEnd (length timetableHeader) (length timetableHeader + length line) [] o
-          ≡ reached line o
-      go none = refl
-      go (some o) = refl
+  abbrev atEnd : Option (Marked Open)
+  atEnd = run (markStep openStep openEnd openBegins) (on bare start) line
 
-  at-end : (n : ℕ) × Holds H lent n (reader .number) (reader .line) now (reached line (run openStep start line))
+  by-line : fold (drafted H lent) (inRow 0 0 [] (on bare start)) line ≡ reached line atEnd
+  unfolding reach
+  by-line = in-line (machine H timetableFile (draftRoom lent)) 0 0 [] (on bare start) line (unbroken line (alone .unbroken)) ∙ go atEnd
+    where
+      go : (m : Option (Marked Open)) → opened (machine H timetableFile (draftRoom lent)) 0 (0 + length line) [] m ≡ reached line m
+      go none = refl
+      go (some m) = refl
+
+  abbrev HeldAt : Option (Marked Open) → Type 0
+  HeldAt m = Holds H lent (0 + length line) (reader .mark) (length timetableHeader) (reader .number) (reader .line) now (reached line m)
+
+  -- what is held where the bytes lead
+  settled : (a : (p : Reached) × Holds H lent (0 + length line) (reader .mark) (length timetableHeader) (reader .number) (reader .line) now p
+      × (fold (drafted H lent) p (drop (length line) line) ≡ fold (drafted H lent) (inRow 0 0 [] (on bare start)) line)) → HeldAt atEnd
+  settled a =
+      let over : a .0 ≡ reached line atEnd = ap (fold (drafted H lent) (a .0)) (sym (drop-length line)) ∙ a .2 ∙ by-line in
+      subst (λ (p : Reached). Holds H lent (0 + length line) (reader .mark) (length timetableHeader) (reader .number) (reader .line) now p) over (a .1)
+
+  at-end : HeldAt atEnd
   at-end =
-      let begins : Holds H lent (length timetableHeader + 0) Empty begun lent (inRow (length timetableHeader) (length timetableHeader) [] start) =
-      rw first (refl, refl, first-row H lent (omega (arith, alone .horizon)), omega arith) in
-      let a = ran .runs .leads lent (inRow (length timetableHeader) (length timetableHeader) [] start) begins in
-      let over : a .0 ≡ reached line (run openStep start line) =
-      ap (fold (drafted H lent) (a .0)) (sym (drop-length line)) ∙ a .2 ∙ by-line in
-      (length timetableHeader + length line, subst (λ (p : Progress Row Open). Holds H lent (length timetableHeader + length line) (reader .number) (reader .line) now p) over (a .1))
+      let begins : Holds H lent (0 + 0) Bare (length timetableHeader) Empty begun lent (inRow 0 0 [] (on bare start)) =
+      rw first (start, refl, refl, refl, first-row H lent 0 (omega (arith, alone .horizon)), omega arith) in
+      settled (lined .lines .leads lent (inRow 0 0 [] (on bare start)) begins)
 
   -- what holds of every end of the line holds of the line
-  by-end : (line′ : Line) → ((o : Option Open) (n : ℕ) → Holds H lent n (reader .number) (reader .line) now (reached line o) → SaidOf H (o >>= openEnd) line′) → SaidOf H (formOf line) line′
-  by-end line′ h = rw (form-run line) (h (run openStep start line) (at-end .0) (at-end .1))
+  by-end : (line′ : Line) → ((m : Option (Marked Open)) → HeldAt m → SaidOf H (m >>= closeAt) line′) → SaidOf H (formOf (lessReturn line)) line′
+  by-end line′ h = subst (λ (f : Option Row). SaidOf H f line′) (sym (form-run line)) (h atEnd at-end)
 
   -- it has stopped
-  pub said-stopped : (reader .line .fault ≡ 0 → ⊥) → SaidOf H (formOf line) (reader .line)
+  pub said-stopped : (reader .line .fault ≡ 0 → ⊥) → SaidOf H (formOf (lessReturn line)) (reader .line)
   said-stopped fault = by-end (reader .line) go
     where
-      go : (o : Option Open) (n : ℕ) → Holds H lent n (reader .number) (reader .line) now (reached line o) → SaidOf H (o >>= openEnd) (reader .line)
-      go none n h = h .0
-      go (some o) n h = absurd (fault (h .2 .going))
+      go : (m : Option (Marked Open)) → HeldAt m → SaidOf H (m >>= closeAt) (reader .line)
+      go none h = h .0
+      go (some m) h = absurd (fault (h .4 .going))
 
-  -- its last number is closed
-  pub said-closed : (line′ : Line) → reader .line .fault ≡ 0 → RowClosed H (reader .line) (reader .number) entries′ line′ → SaidOf H (formOf line) line′
-  said-closed line′ f closed = by-end line′ go
-    where
-      go : (o : Option Open) (n : ℕ) → Holds H lent n (reader .number) (reader .line) now (reached line o) → SaidOf H (o >>= openEnd) line′
-      go none n h = absurd (omega (arith, h .0, h .2, f))
-      go (some o) n h = closed .closes lent legs′ (length timetableHeader) o (h .2) (h .1)
+  module _ (line′ : Line) (t : Bool) (f : reader .line .fault ≡ 0) (ends : t ≡ mayEnd (reader .mark)) where
+    -- a quote is open
+    pub said-open : t ≡ false → line′ ≡ stoppedWith (reader .line) badRow → SaidOf H (formOf (lessReturn line)) line′
+    said-open u l = by-end line′ go
+      where
+        go : (m : Option (Marked Open)) → HeldAt m → SaidOf H (m >>= closeAt) line′
+        go none h = absurd (omega (arith, h .0, h .2, f))
+        go (some m) h =
+            subst (λ (x : Option Row). SaidOf H x line′) (sym (ap closeAt (h .2) ∙ mark-open (reader .mark) (h .0) (sym ends ∙ u))) (ap (λ (x : Line). x .fault) l)
+
+    -- its last number is closed
+    pub said-closed : t ≡ true → RowClosed H (reader .line) (reader .number) entries′ line′ → SaidOf H (formOf (lessReturn line)) line′
+    said-closed u closed = by-end line′ go
+      where
+        go : (m : Option (Marked Open)) → HeldAt m → SaidOf H (m >>= closeAt) line′
+        go none h = absurd (omega (arith, h .0, h .2, f))
+        go (some m) h =
+            subst (λ (x : Option Row). SaidOf H x line′) (sym (ap closeAt (h .2) ∙ mark-ends (reader .mark) (h .0) (sym ends ∙ u))) (closed .closes lent legs′ 0 (h .0) (h .4) (h .3))

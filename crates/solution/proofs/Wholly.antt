@@ -1,28 +1,101 @@
 -- A whole solution: the answer is the definition's, and so are the choices where nothing is refused. Assumes nothing.
-use Prim.Native.Nat.{ℕ, _*_, _/_, _≤_, _<_}
+use Prim.Native.Nat.{ℕ, suc, _+_, _*_, _/_, _≤_, _<_}
 use mathlib.Core.Path.{_≡_, refl, ap, sym, _∙_}
-use mathlib.Core.Bool.{Bool, true, false}
-use mathlib.Core.List.{List}
+use mathlib.Core.Bool.{Bool, true, false, cond}
+use mathlib.Core.List.{List, [], _∷_}
 use mathlib.Core.Option.{Option, none, some}
 use native.Mathlib.Omega.{arith}
-use lib.ListN.{length}
+use lib.Dec.{eqb}
+use lib.ListN.{length, drop}
 use borrow.Author.Tests.{le-leb, lt-leb}
 use Rattle.rules.specs.Limits.{mostText, configurationWidth}
-use Rattle.rules.specs.Lists.{flat, over, startsWith}
-use Rattle.rules.specs.Answers.{refusal, tooLong, badHeader, Reading, refused, good, _>>=_}
-use Rattle.rules.specs.Rows.{csvOf}
-use Rattle.rules.specs.Timetable.{Row, solutionOf, timetableHeader, choicesOf, configurationNumbers}
+use Rattle.rules.specs.Lists.{flat, over}
+use Rattle.rules.specs.Answers.{refusal, tooLong, badHeader, Reading, refused, good, _>>=_, Judged}
+use Rattle.rules.specs.Bytes.{lineFeed, onto, splitOn}
+use Rattle.rules.specs.Rows as Rows
+use Rattle.rules.specs.Rows.{heads, rowsFrom, csvOf}
+use Rattle.rules.specs.Timetable.{Row, rowOf, solutionFits, solutionOf, timetableNames, choicesOf, configurationNumbers}
 use Rattle.rules.specs.Reading.{Files, differsFrom, matched, choicesRead}
 use Rattle.rules.specs.declared.sizes.Configuration.{Configuration}
+use Rattle.rules.proofs.Pieces.{split-cons}
 use Rattle.solution_row.specs.declared.draft.Choices.{Choices}
 use Rattle.solution_row.specs.declared.draft.Choices.the-variants.{Fault, Read}
 use Rattle.solution.specs.Promise.{Able, HoldsRows, choicesAnswer, ChoicesRead}
-use Rattle.solution.specs.Whole.{Headed, rowsAfter, choicesAfter, RowsRead, unpacked}
+use Rattle.solution.specs.Whole.{headEnd, Headed, rowsAfter, choicesAfter, RowsRead, unpacked}
 use Rattle.solution.proofs.Differing.{choices-length}
 use Rattle.solution.proofs.Unpacking.{choices-out}
 
-pub headed : (H : ℕ) (text legs : List ℕ) (n : ℕ) (t : Bool) → Able H legs n → length text ≤ mostText → t ≡ startsWith timetableHeader text → t ≡ true → Headed H text legs n
-headed H text legs n t a l e u = record { able = a; short = l; header = sym e ∙ u }
+-- the text's second line and those after it start behind the first line's LF
+rest-of : (s p q : List ℕ) (ps : List (List ℕ)) → splitOn lineFeed s ≡ p ∷ q ∷ ps → (splitOn lineFeed (drop (suc (length p)) s) ≡ q ∷ ps) × (length p < length s)
+rest-of [] p q ps e = let z : _≡_ {A = ℕ} 0 1 = cc in absurd (omega arith)
+rest-of (b ∷ s) p q ps e = go (eqb b lineFeed) (split-cons lineFeed s) (rest-of s) e
+  where
+    go : (t : Bool) → (x : List ℕ) × (more : List (List ℕ)) × (splitOn lineFeed s ≡ x ∷ more)
+        → ((p q : List ℕ) (ps : List (List ℕ)) → splitOn lineFeed s ≡ p ∷ q ∷ ps → (splitOn lineFeed (drop (suc (length p)) s) ≡ q ∷ ps) × (length p < length s))
+        → cond t ([] ∷ splitOn lineFeed s) (onto b (splitOn lineFeed s)) ≡ p ∷ q ∷ ps
+        → (splitOn lineFeed (drop (length p) s) ≡ q ∷ ps) × (length p < suc (length s))
+    go true c ih e =
+        let nothing : p ≡ [] = cc in
+        let rest : splitOn lineFeed s ≡ q ∷ ps = cc in
+        rw nothing (rest, omega arith)
+    go false c ih e =
+        let whole : (b ∷ c .0) ∷ c .1 ≡ p ∷ q ∷ ps = sym (ap (onto b) (c .2)) ∙ e in
+        let front : p ≡ b ∷ c .0 = cc in
+        let back : c .1 ≡ q ∷ ps = cc in
+        let w = ih (c .0) q ps (c .2 ∙ ap (λ (y : List (List ℕ)). c .0 ∷ y) back) in
+        rw front (w .0, omega (arith, w .1))
+
+module _ (H : ℕ) (text legs : List ℕ) (n from : ℕ) (ends : from ≡ headEnd (splitOn lineFeed text)) (some-end : from ≡ 0 → ⊥) where
+  pub headed : Able H legs n → length text ≤ mostText → Headed H text legs n from
+  headed a l = go (splitOn lineFeed text) refl ends
+    where
+      go : (ps : List (List ℕ)) → splitOn lineFeed text ≡ ps → from ≡ headEnd ps → Headed H text legs n from
+      go [] e f = absurd (some-end f)
+      go (p ∷ []) e f = absurd (some-end f)
+      go (p ∷ q ∷ ps) e f = by-test (heads timetableNames p) f
+        where
+          by-test : (t : Bool) → from ≡ cond t (length p + 1) 0 → Headed H text legs n from
+          by-test true f =
+              let w = rest-of text p q ps e in
+              let at : from ≡ suc (length p) = omega arith in
+              record {
+                able = a;
+                short = l;
+                first = p;
+                first-is = e ∙ ap (λ (y : List (List ℕ)). p ∷ y) (sym (w .0) ∙ ap (λ (x : ℕ). splitOn lineFeed (drop x text)) (sym at));
+                from-is = f;
+                inside = omega (arith, w .1);
+              }
+          by-test false f = absurd (some-end f)
+
+  -- the definition's rows are those from there on
+  headed-rows : (file : ℕ) (judge : List Row → List ℕ → Judged Row) → Rows.headed file judge timetableNames (splitOn lineFeed text) ≡ rowsFrom file judge from [] (splitOn lineFeed (drop from text))
+  headed-rows file judge = go (splitOn lineFeed text) refl ends
+    where
+      go : (ps : List (List ℕ)) → splitOn lineFeed text ≡ ps → from ≡ headEnd ps
+          → Rows.headed file judge timetableNames ps ≡ rowsFrom file judge from [] (splitOn lineFeed (drop from text))
+      go [] e f = absurd (some-end f)
+      go (p ∷ []) e f = absurd (some-end f)
+      go (p ∷ q ∷ ps) e f = by-test (heads timetableNames p) f
+        where
+          by-test : (t : Bool) → from ≡ cond t (length p + 1) 0
+              → cond t (rowsFrom file judge (length p + 1) [] (q ∷ ps)) (refused (refusal badHeader file 0)) ≡ rowsFrom file judge from [] (splitOn lineFeed (drop from text))
+          by-test true f =
+              let w = rest-of text p q ps e in
+              let at : suc (length p) ≡ from = omega arith in
+              ap (λ (x : ℕ). rowsFrom file judge x [] (q ∷ ps)) (sym f)
+              ∙ ap (rowsFrom file judge from []) (sym (w .0) ∙ ap (λ (x : ℕ). splitOn lineFeed (drop x text)) at)
+          by-test false f = absurd (some-end f)
+
+headless : (file : ℕ) (judge : List Row → List ℕ → Judged Row) (ps : List (List ℕ)) → 0 ≡ headEnd ps → Rows.headed file judge timetableNames ps ≡ refused (refusal badHeader file 0)
+headless file judge [] e = refl
+headless file judge (p ∷ []) e = refl
+headless file judge (p ∷ q ∷ ps) e = by-test (heads timetableNames p) e
+  where
+    by-test : (t : Bool) → 0 ≡ cond t (length p + 1) 0
+        → cond t (rowsFrom file judge (length p + 1) [] (q ∷ ps)) (refused (refusal badHeader file 0)) ≡ refused (refusal badHeader file 0)
+    by-test true e = absurd (omega arith)
+    by-test false e = refl
 
 module _ (H : ℕ) (text legs : List ℕ) (n : ℕ) (lent now : List ℕ) where
   -- the rows, and then 14
@@ -43,16 +116,18 @@ module _ (H : ℕ) (text legs : List ℕ) (n : ℕ) (lent now : List ℕ) where
   unfolding solutionOf csvOf
   read-long h = refused-whole tooLong (λ file. rw (lt-leb (length text) mostText h))
 
-  module _ (short : length text ≤ mostText) (t : Bool) (starts : t ≡ startsWith timetableHeader text) where
+  module _ (short : length text ≤ mostText) (from : ℕ) (ends : from ≡ headEnd (splitOn lineFeed text)) where
     -- 3: the header differs
-    pub read-headless : t ≡ false → ChoicesRead H text legs n lent (Fault badHeader 0) now
+    pub read-headless : from ≡ 0 → ChoicesRead H text legs n lent (Fault badHeader 0) now
     unfolding solutionOf csvOf
-    read-headless u = refused-whole badHeader (λ file. rw (le-leb (length text) mostText short, ← starts, u))
+    read-headless u = refused-whole badHeader (λ file. rw (le-leb (length text) mostText short) (headless file (rowOf H (solutionFits (length lent / configurationWidth))) (splitOn lineFeed text) (sym u ∙ ends)))
 
-    module _ (u : t ≡ true) (answer : Choices) (choices : List ℕ) (rows : RowsRead H text legs n lent answer choices) where
-      rows-are : (files : Files) (file : ℕ) → choicesRead H files file (length lent) text ≡ choicesAfter file (files .rows) text (rowsAfter H file lent text)
+    module _ (u : from ≡ 0 → ⊥) (answer : Choices) (choices : List ℕ) (rows : RowsRead H text legs n from lent answer choices) where
+      rows-are : (files : Files) (file : ℕ) → choicesRead H files file (length lent) text ≡ choicesAfter file (files .rows) text (rowsAfter H file from lent text)
       unfolding choicesRead solutionOf csvOf
-      rows-are files file = rw (le-leb (length text) mostText short, ← starts, u)
+      rows-are files file =
+          rw (le-leb (length text) mostText short)
+          (ap (choicesAfter file (files .rows) text) (headed-rows H text legs n from ends u file (rowOf H (solutionFits (length lent / configurationWidth)))))
 
       answered : (files : Files) (file : ℕ) → HoldsRows legs n (files .rows) → answer ≡ choicesAnswer (choicesRead H files file (length lent) text)
       answered files file holds = rw (rows-are files file) (rows .answers (files .rows) file holds)
@@ -74,14 +149,14 @@ module _ (H : ℕ) (text legs : List ℕ) (n : ℕ) (lent now : List ℕ) where
             answers = λ files file holds. sym f ∙ answered files file holds;
             chooses = λ files file holds cs q.
                 let many : m ≡ length cs = cc (sym f ∙ answered files file holds ∙ ap choicesAnswer q) in
-                go file (files .rows) cs many (rowsAfter H file lent text) refl (sym (rows-are files file) ∙ q);
+                go file (files .rows) cs many (rowsAfter H file from lent text) refl (sym (rows-are files file) ∙ q);
           }
         where
           matched-all : (file : ℕ) (o : Option ℕ) (rs : List Row) (cs : List Configuration) → (matched file o rs >>= (λ same. good (choicesOf rs))) ≡ good cs → choicesOf rs ≡ cs
           matched-all file none rs cs q = cc
           matched-all file (some place) rs cs q = let z : _≡_ {A = ℕ} 0 1 = cc in absurd (omega arith)
 
-          go : (file : ℕ) (draft : List Row) (cs : List Configuration) → m ≡ length cs → (x : Reading (List Row)) → rowsAfter H file lent text ≡ x → choicesAfter file draft text x ≡ good cs
+          go : (file : ℕ) (draft : List Row) (cs : List Configuration) → m ≡ length cs → (x : Reading (List Row)) → rowsAfter H file from lent text ≡ x → choicesAfter file draft text x ≡ good cs
               → now ≡ over (flat configurationNumbers cs) lent
           go file draft cs many (refused r) x q = let z : _≡_ {A = ℕ} 0 1 = cc in absurd (omega arith)
           go file draft cs many (good rs) x q =
@@ -95,11 +170,11 @@ module _ (H : ℕ) (text legs : List ℕ) (n : ℕ) (lent now : List ℕ) where
               ∙ ap (λ (x : List Configuration). over (flat configurationNumbers x) lent) same
 
 -- a row at fault leaves the table as the rows left it
-pub read-fault : (H : ℕ) (text legs : List ℕ) (n : ℕ) (lent now : List ℕ) → length text ≤ mostText → (t : Bool) → t ≡ startsWith timetableHeader text → t ≡ true → (answer : Choices)
-    → RowsRead H text legs n lent answer now → (k place : ℕ) → answer ≡ Fault k place → ChoicesRead H text legs n lent answer now
-read-fault H text legs n lent now short t starts u answer rows k place f = faulty H text legs n lent now short t starts u answer now rows k place f
+pub read-fault : (H : ℕ) (text legs : List ℕ) (n : ℕ) (lent now : List ℕ) → length text ≤ mostText → (from : ℕ) → from ≡ headEnd (splitOn lineFeed text) → (from ≡ 0 → ⊥) → (answer : Choices)
+    → RowsRead H text legs n from lent answer now → (k place : ℕ) → answer ≡ Fault k place → ChoicesRead H text legs n lent answer now
+read-fault H text legs n lent now short from ends u answer rows k place f = faulty H text legs n lent now short from ends u answer now rows k place f
 
 -- the choices have room for what is unpacked
-pub unpack-room : {H : ℕ} {text legs : List ℕ} {n : ℕ} {lent choices : List ℕ} {answer : Choices} (m : ℕ) → RowsRead H text legs n lent answer choices → answer ≡ Read m
+pub unpack-room : {H : ℕ} {text legs : List ℕ} {n from : ℕ} {lent choices : List ℕ} {answer : Choices} (m : ℕ) → RowsRead H text legs n from lent answer choices → answer ≡ Read m
     → m * configurationWidth ≤ length choices
 unpack-room m rows f = rows .fits m f

@@ -8,6 +8,7 @@ use lib.ListN.{length}
 use Rattle.rules.specs.Limits.{mostLegs, mostConfigurations, mostTravel, configurationWidth}
 use Rattle.rules.specs.Lists.{flat, over}
 use Rattle.rules.specs.Answers.{Judged, wrong, right}
+use Rattle.rules.specs.Bytes.{lessReturn}
 use Rattle.rules.specs.Timetable.{Row, idsOf, inRange, listed, rowOf, solutionFits}
 use Rattle.rules.specs.Verdict.{All}
 use Rattle.rules.specs.declared.sizes.Configuration.{Configuration}
@@ -67,4 +68,4 @@ AfterRow H lent line choices before (right r) = Counted H lent line choices (bef
 
 pub record Turned (H : ℕ) (bytes : List ℕ) (line : Line) (choices : List ℕ) (line′ : Line) (choices′ : List ℕ) : Type 0 where
   pub turns : (lent : List ℕ) (before : List Row) → Counted H lent line choices before
-      → AfterRow H lent line′ choices′ before (rowOf H (solutionFits (length lent / configurationWidth)) before bytes)
+      → AfterRow H lent line′ choices′ before (rowOf H (solutionFits (length lent / configurationWidth)) before (lessReturn bytes))

@@ -1,7 +1,7 @@
 -- What a line says, read by itself: that it breaks a row's form, or the row's numbers as they are held and what the tests of a row need.
-use Prim.Native.Nat.{ℕ, suc, _+_, _≤_, min}
+use Prim.Native.Nat.{ℕ, suc, _≤_, min}
 use mathlib.Core.Path.{_≡_}
-use mathlib.Core.Bool.{Bool, true, _&&_}
+use mathlib.Core.Bool.{Bool, true, false, _&&_}
 use mathlib.Core.List.{List, []}
 use mathlib.Core.Option.{Option, none, some}
 use lib.Dec.{leb, ltb}
@@ -10,7 +10,7 @@ use Rattle.rules.specs.Limits.{mostHorizon, mostText, mostId, mostListed}
 use Rattle.rules.specs.Lists.{every}
 use Rattle.rules.specs.Answers.{badRow}
 use Rattle.rules.specs.Bytes.{lineFeed}
-use Rattle.rules.specs.Timetable.{Row, idsOf, inRange, offers, timetableHeader}
+use Rattle.rules.specs.Timetable.{Row, idsOf, inRange, offers}
 use Rattle.rules.specs.Verdict.{All}
 use Rattle.timetable_row.specs.declared.line.Line.{Line}
 use Rattle.timetable_row.specs.declared.number.Number.{Number}
@@ -23,7 +23,7 @@ use Rattle.timetable_row.specs.RowOver.{rangeHolds}
 pub record Alone (H : ℕ) (line : List ℕ) : Type 0 where
   pub horizon : H ≤ mostHorizon
   pub unbroken : All (λ b. b ≡ lineFeed → ⊥) line
-  pub short : length timetableHeader + length line ≤ mostText
+  pub short : length line ≤ mostText
 
 abbrev pub rangeOf : (H : ℕ) → Row → Bool
 rangeOf H r = every (λ id. leb id mostId) (idsOf r) && (inRange H (r .nominal) && every (inRange H) (r .list))

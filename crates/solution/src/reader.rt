@@ -3,10 +3,12 @@ ghost use mathlib.Core.Path.{_≡_};
 ghost use Prim.Native.Nat.{_*_, _≤_};
 ghost use lib.ListN.{length};
 ghost use Rattle.rules.specs.Limits.{configurationWidth};
+ghost use Rattle.rules.specs.Bytes.{lineFeed, splitOn};
 ghost use Rattle.solution.specs.Promise.{Able, ChoicesRead};
-ghost use Rattle.solution.specs.Whole.{Headed, RowsRead, unpacked};
+ghost use Rattle.solution.specs.Whole.{headEnd, Headed, RowsRead, unpacked};
 use crate::after;
 use csv_lines::ends;
+use csv_marks::Mark;
 use rules::answers::Refusal;
 use rules::sizes::Choice;
 use rules::sizes::Configuration;
@@ -14,18 +16,38 @@ use rules::sizes::Leg;
 use rules::sizes::Text;
 use solution_row::draft;
 use solution_row::draft::Choices;
-use text_read::words;
 use timetable::reader;
 use timetable_row::line;
 
-// The rows after the header. The table holds ids and choices, packed.
-fn read_rows(text: &[u8], h: u32, legs: &[u32], n: usize, choices: &mut [u32]) -> Choices
-    requires { ⌜ Headed h (now text) (now legs) n ⌝ }
-    ensures { λ r. ⌜ RowsRead h (now (text .entry)) (now (legs .entry)) n (now (choices .entry)) r (now (choices .exit)) ⌝ }
+// Where the header ends and the first row begins; 0 where the header differs.
+fn head_end(text: &[u8]) -> usize
+    ensures { λ r. ⌜ r ≡ headEnd (splitOn lineFeed (now (text .entry))) ⌝ }
+{
+    let headed = csv_header::header(text, 0, Mark::Bare);
+    if headed.right {
+        if Leg::HEADER_LENGTH <= headed.head {
+            return headed.next;
+        }
+        return 0;
+    }
+    0
+}
+
+// The rows after the header, from a place on. The table holds ids and choices, packed.
+fn read_rows(
+    text: &[u8],
+    from: usize,
+    h: u32,
+    legs: &[u32],
+    n: usize,
+    choices: &mut [u32],
+) -> Choices
+    requires { ⌜ Headed h (now text) (now legs) n from ⌝ }
+    ensures { λ r. ⌜ RowsRead h (now (text .entry)) (now (legs .entry)) n from (now (choices .entry)) r (now (choices .exit)) ⌝ }
 {
     let mut line = reader::first_line();
     let mut compared = draft::none_differs();
-    let mut i = Leg::HEADER_LENGTH;
+    let mut i = from;
     while i < text.len() {
         let place = i as u32;
         let e = ends::line_end(text, i);
@@ -73,13 +95,14 @@ pub fn read_choices(text: &[u8], h: u32, legs: &[u32], n: usize, choices: &mut [
     if Text::MOST < text.len() {
         return Choices::Fault(Refusal::TOO_LONG, 0);
     }
-    if words::starts_with(text, &Leg::HEADER) {
-        let read = read_rows(text, h, legs, n, choices);
-        let Choices::Read(rows) = read else {
-            return read;
-        };
-        unpack(choices, rows as usize);
-        return Choices::Read(rows);
+    let from = head_end(text);
+    if from == 0 {
+        return Choices::Fault(Refusal::HEADER, 0);
     }
-    Choices::Fault(Refusal::HEADER, 0)
+    let read = read_rows(text, from, h, legs, n, choices);
+    let Choices::Read(rows) = read else {
+        return read;
+    };
+    unpack(choices, rows as usize);
+    Choices::Read(rows)
 }

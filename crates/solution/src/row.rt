@@ -1,8 +1,9 @@
 // A line by itself: the timetable's machine reads it, after no rows and into no tables.
+ghost use Rattle.rules.specs.Bytes.{lessReturn};
 ghost use Rattle.rules.specs.Timetable.{formOf};
 ghost use Rattle.solution.specs.Said.{Alone, SaidOf, RowClosed};
+use csv_marks::Mark;
 use rules::answers::Refusal;
-use rules::sizes::Leg;
 use timetable::reader;
 use timetable_row::line;
 use timetable_row::line::Line;
@@ -22,17 +23,19 @@ fn close_row(row: Line, unclosed: Number, h: u32, entries: &mut [u32]) -> Line
     timetable::row::entry(row, number::value(unclosed), h, entries)
 }
 
+// A line as it stands in the text, with its quotes and its CR.
 pub fn read_row(bytes: &[u8], h: u32) -> Line
     requires { ⌜ Alone h (now bytes) ⌝ }
-    ensures { λ r. ⌜ SaidOf h (formOf (now (bytes .entry))) r ⌝ }
+    ensures { λ r. ⌜ SaidOf h (formOf (lessReturn (now (bytes .entry)))) r ⌝ }
 {
     let mut legs = [0u32; 1];
     let mut entries = [0u32; 1];
     let begun = reader::first_line();
-    let read = reader::run_rows(
+    let read = reader::run_lines(
         begun,
         Number::Empty,
-        Leg::HEADER_LENGTH,
+        Mark::Bare,
+        0,
         bytes,
         0,
         h,
@@ -41,8 +44,12 @@ pub fn read_row(bytes: &[u8], h: u32) -> Line
     );
     let row = read.line;
     let unclosed = read.number;
+    let mark = read.mark;
     if row.fault != 0 {
         return row;
     }
-    close_row(row, unclosed, h, &mut entries)
+    if csv_marks::may_end(mark) {
+        return close_row(row, unclosed, h, &mut entries);
+    }
+    line::stopped(row, Refusal::ROW_FORM)
 }

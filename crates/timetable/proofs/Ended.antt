@@ -10,26 +10,25 @@ use lib.ListN.{length, getD}
 use borrow.Author.Tests.{leb-true, ltb-true, le-ltb, lt-leb, eq-eqb, ne-eqb}
 use Rattle.rules.specs.Limits.{mostText, mostId, mostLegs, leastListed, mostListed, mostConfigurations, legWidth}
 use Rattle.rules.specs.Lists.{_>>=_, every}
-use Rattle.rules.specs.Answers.{badRow, timetableFile, Judged, wrong, right}
+use Rattle.rules.specs.Answers.{badRow}
 use Rattle.rules.specs.Bytes.{lineFeed, isDigit}
-use Rattle.rules.specs.Timetable.{Row, configuration, inRange, judgeForm, timetableHeader}
+use Rattle.rules.specs.Timetable.{Row, configuration, inRange, judgeForm}
 use Rattle.rules.specs.Verdict.{All}
 use Rattle.rules.specs.declared.sizes.Configuration.{Configuration}
 use Rattle.rules.specs.declared.sizes.LegMade.{LegMade}
 use Rattle.rules.specs.declared.sizes.LegMade.the-variants.{Within}
 use Rattle.rules.proofs.Truth.{and-first, and-second}
 use Rattle.csv_machine.specs.Number as Row
-use Rattle.csv_machine.specs.Machine.{onByte, onLine}
 use Rattle.timetable_row.specs.declared.line.Line.{Line}
 use Rattle.timetable_row.specs.declared.number.Number.{Number}
 use Rattle.timetable_row.specs.declared.number.Number.the-variants.{Empty}
 use Rattle.timetable_row.specs.Digits.{held, isEmpty, valueOf}
 use Rattle.timetable.specs.Held.{numberHeld, Shaped, inHead, inFirst, inSecond, inThird, Tables, tables, InLine, AfterByte, Entered, Closed}
-use Rattle.timetable.specs.Open.{Open, partly, start, openStep, openEnd, reach}
+use Rattle.timetable.specs.Open.{Open, partly, separate, openStep, openEnd}
 use Rattle.timetable_row.specs.Slots.{lastSlot, entrySlot, nominalOf, heldIds}
 use Rattle.timetable_row.specs.RowOver.{stoppedWith, storedAt, rangeHolds, countsHold, isNew, roomHolds, lineTests, lowest, heldLeg, legHeld, storedLeg, legOf, Bounded, nextLine}
 use Rattle.timetable.specs.Ended.{draftRoom, AfterLine, Ended}
-use Rattle.timetable.specs.Text.{Holds, Signed}
+use Rattle.timetable.specs.Text.{Signed}
 use Rattle.timetable.proofs.Words.{ids-low}
 use Rattle.timetable.proofs.Close.{entry-slot}
 use Rattle.timetable.proofs.Judge.{rowFrom, eight-make, outcome, judged, lowest-zero}
@@ -157,54 +156,37 @@ is-empty (Row.digits n) x e q = absurd (false≢true (sym (ap isEmpty e) ∙ q))
 module _ (H : ℕ) (line line′ : Line) (number : Number) (b at : ℕ) where
   -- no digit before it
   pub sign-empty : (now : Tables) (r : Bool) → r ≡ isEmpty number → r ≡ true → line′ ≡ stoppedWith line badRow → Signed H line number b at line′ now now
-  unfolding reach openStep openEnd
+  unfolding openStep openEnd
   sign-empty now r e t l =
       record {
-        signs = λ lent place before o g x q past.
+        signs = λ lent place before o g x q.
             let none-there : o .number ≡ Row.empty = is-empty (o .number) number x (sym e ∙ t) in
-            go lent place before o g none-there (eqb b lineFeed) (isDigit b) q;
+            (λ f. rw (none-there, l) (refl, g .placed, omega arith), λ f. go lent place before o g none-there (isDigit b) q);
       }
     where
       go : (lent : Tables) (place : ℕ) (before : List Row) (o : Open) → InLine H lent line now place before (o .closed) (o .list) (o .entry) → o .number ≡ Row.empty
-          → (f d : Bool) → Row.numberStep (o .number) b ≡ none
-          → Holds H lent (suc at) Empty line′ now
-          (cond f (onLine timetableFile timetableHeader (judgeForm H (draftRoom lent)) start openStep openEnd place at before (judgeForm H (draftRoom lent) before (openEnd o)))
-          (onByte timetableFile timetableHeader (judgeForm H (draftRoom lent)) start openStep openEnd place at before
-          (cond d (Row.numberStep (o .number) b >>= (λ m. some (partly (o .closed) (o .list) (o .entry) m))) (Row.numberEnd (o .number) >>= (λ n. Rattle.timetable.specs.Open.separate o b n)))))
-      go lent place before o g n true d q = rw (n, l) (refl, g .placed, omega arith)
-      go lent place before o g n false true q = rw (q, l) (refl, g .placed, omega arith)
-      go lent place before o g n false false q = rw (n, l) (refl, g .placed, omega arith)
+          → (d : Bool) → Row.numberStep (o .number) b ≡ none
+          → AfterByte H lent line′ now place before
+          (cond d (Row.numberStep (o .number) b >>= (λ m. some (partly (o .closed) (o .list) (o .entry) m))) (Row.numberEnd (o .number) >>= (λ n. separate o b n)))
+      go lent place before o g n true q = rw (q, l) (refl, g .placed)
+      go lent place before o g n false q = rw (n, l) (refl, g .placed)
 
   -- LF
-  after-line : length timetableHeader ≤ at → (lent now : Tables) (place : ℕ) (before : List Row) (j : Judged Row) → AfterLine H lent line′ now place at before j
-      → Holds H lent (suc at) Empty line′ now (onLine timetableFile timetableHeader (judgeForm H (draftRoom lent)) start openStep openEnd place at before j)
-  after-line past lent now place before (wrong k) h = h
-  after-line past lent now place before (right r) h = (refl, refl, h, omega arith)
-
   pub sign-line : (now now′ : Tables) (r : Bool) (n : ℕ) → r ≡ isEmpty number → r ≡ false → n ≡ valueOf number → b ≡ lineFeed → Ended H line n at line′ now now′
       → Signed H line number b at line′ now now′
-  unfolding reach
   sign-line now now′ r n e t nv f ended =
       record {
-        signs = λ lent place before o g x q past.
+        signs = λ lent place before o g x q.
             let v = not-empty (o .number) number x (sym e ∙ t) in
-            rw (eq-eqb b lineFeed f)
-            (after-line past lent now′ place before (judgeForm H (draftRoom lent) before (openEnd o)) (ended .ends lent place before o (v .0) g (v .1) (nv ∙ v .2)));
+            (λ k. ended .ends lent place before o (v .0) g (v .1) (nv ∙ v .2), λ k. absurd (true≢false (sym (eq-eqb b lineFeed f) ∙ k)));
       }
 
   -- another byte
-  after-byte : length timetableHeader ≤ at → (lent now : Tables) (place : ℕ) (before : List Row) (o : Option Open) → AfterByte H lent line′ now place before o
-      → Holds H lent (suc at) Empty line′ now (onByte timetableFile timetableHeader (judgeForm H (draftRoom lent)) start openStep openEnd place at before o)
-  after-byte past lent now place before none h = (h .0, h .1, omega arith)
-  after-byte past lent now place before (some o) h = (refl, sym (ap numberHeld (h .1)), h .0, omega arith)
-
   pub sign-close : (legs table table′ : List ℕ) (r : Bool) (n : ℕ) → r ≡ isEmpty number → r ≡ false → n ≡ valueOf number → (b ≡ lineFeed → ⊥) → Closed H line n b line′ table table′
       → Signed H line number b at line′ (tables legs table) (tables legs table′)
-  unfolding reach
   sign-close legs table table′ r n e t nv f closed =
       record {
-        signs = λ lent place before o g x q past.
+        signs = λ lent place before o g x q.
             let v = not-empty (o .number) number x (sym e ∙ t) in
-            rw (ne-eqb b lineFeed f)
-            (after-byte past lent (tables legs table′) place before (openStep o b) (closed .closes lent legs place before o (v .0) g (v .1) (nv ∙ v .2) q));
+            (λ k. absurd (true≢false (sym k ∙ ne-eqb b lineFeed f)), λ k. closed .closes lent legs place before o (v .0) g (v .1) (nv ∙ v .2) q);
       }

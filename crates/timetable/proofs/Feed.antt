@@ -2,38 +2,39 @@
 use Prim.Native.Nat.{ℕ, _+_, _≤_, _<_}
 use mathlib.Core.Path.{_≡_, refl, ap, sym, subst, _∙_}
 use mathlib.Core.Bool.{Bool, true, false, cond, false≢true}
-use mathlib.Core.List.{List, [], _∷_}
+use mathlib.Core.List.{List, []}
 use native.Mathlib.Omega.{arith}
-use lib.Dec.{ltb}
+use lib.Dec.{leb}
 use lib.ListN.{length, drop}
 use lib.Seq.{drop-length}
-use borrow.Author.Tests.{ltb-true, ltb-false, lt-ltb, le-ltb, eq-eqb, ne-eqb}
+use borrow.Author.Tests.{le-leb, lt-leb, eq-eqb, ne-eqb}
+use Rattle.rules.specs.Limits.{mostText}
 use Rattle.rules.specs.Lists.{over}
 use Rattle.rules.specs.Answers.{badHeader, badRow, timetableFile}
-use Rattle.rules.specs.Timetable.{Row, timetableHeader}
+use Rattle.rules.specs.Timetable.{timetableNames, timetableHeader}
 use Rattle.csv_machine.specs.Fold.{fold}
-use Rattle.csv_machine.specs.Machine.{Progress, inHeader, inRow, stopped}
+use Rattle.csv_machine.specs.Machine.{inHeader, inRow, broken, stopped, Faulty, isBroken, isStopped}
 use Rattle.timetable_row.specs.declared.line.Line.{Line}
-use Rattle.timetable_row.specs.declared.number.Number.{Number}
-use Rattle.timetable_row.specs.declared.number.Number.the-variants.{Empty}
-use Rattle.timetable_header.specs.declared.Headed.{Headed}
-use Rattle.timetable_header.specs.Heading.{headedFrom}
+use Rattle.timetable_row.specs.Digits.{mostHeld}
+use Rattle.csv_marks.specs.declared.Mark.{Mark}
+use Rattle.csv_marks.specs.Turns.{marked}
+use Rattle.csv_header.specs.declared.Headed.{Headed}
+use Rattle.csv_header.specs.Heading.{headed, comparedFrom, nameAt, Headings}
+use Rattle.csv_header.proofs.Part.{past-header, header-inside, header-law}
 use Rattle.timetable.specs.declared.reader.Reader.{Reader}
 use Rattle.timetable.specs.declared.reader.Rows.the-variants.{Fault, Read}
-use Rattle.timetable_row.specs.Digits.{mostHeld}
-use Rattle.timetable.specs.Open.{Open, start, reachedEnd}
+use Rattle.timetable.specs.Open.{Reached, start, contents, reach, reachedEnd}
 use Rattle.timetable.specs.Held.{inHead, Tables, InLine}
 use Rattle.timetable.specs.Ended.{draftRoom}
 use Rattle.timetable.specs.Promise.{answerOf}
-use Rattle.timetable.specs.Text.{firstLine, Holds, drafted, Ran, Fed, Finished}
-use Rattle.timetable.proofs.Header.{arrived, wrong-header, right-header}
-use Rattle.timetable.proofs.Turn.{stays}
+use Rattle.timetable.specs.Text.{firstLine, placedAt, begunAt, Holds, drafted, Placed, Lined, Stands, Fed, Finished}
+use Rattle.timetable.proofs.Faults.{faulty-fold, faulty-held}
 
 -- ---- before the first row
 
-pub first-row : (H : ℕ) (lent : Tables) → H ≤ mostHeld → InLine H lent firstLine lent (length timetableHeader) [] [] [] []
+pub first-row : (H : ℕ) (lent : Tables) (at : ℕ) → H ≤ mostHeld → InLine H lent (placedAt firstLine at) lent at [] [] [] []
 unfolding over
-first-row H lent h =
+first-row H lent at h =
     record {
       horizon = h;
       going = refl;
@@ -63,94 +64,123 @@ first-row H lent h =
       kept = λ ranged few room. refl;
     }
 
--- in the header, or at its end
-pub arrived-held : (H : ℕ) (lent : Tables) (k : ℕ) → k ≤ length timetableHeader → H ≤ mostHeld → Holds H lent k Empty firstLine lent (arrived H lent k)
-arrived-held H lent k h horizon = go (ltb k (length timetableHeader)) refl
-  where
-    go : (t : Bool) → ltb k (length timetableHeader) ≡ t → Holds H lent k Empty firstLine lent (cond t (inHeader k) (inRow k k [] start))
-    go true e = (refl, ltb-true k (length timetableHeader) e, refl, refl, refl, horizon)
-    go false e =
-        let q : length timetableHeader ≡ k = omega (arith, ltb-false k (length timetableHeader) e) in
-        (refl, refl, subst (λ (x : ℕ). InLine H lent firstLine lent x [] [] [] []) q (first-row H lent horizon), omega arith)
-
 -- ---- a part
-
-alike : (H : ℕ) (lent : Tables) (reached : Progress Row Open) {x y : ℕ} {m n : Number} {l k : Line} {t u : Tables} → x ≡ y → m ≡ n → l ≡ k → t ≡ u
-    → Holds H lent y n k u reached → Holds H lent x m l t reached
-alike H lent reached a b c d h = rw (a, b, c, d) h
 
 module _ (H : ℕ) (reader : Reader) (part : List ℕ) (now : Tables) where
   -- after a fault nothing is looked at
   pub fed-stopped : (reader .line .fault ≡ 0 → ⊥)
-      → Fed H reader part (record { read = reader .read + length part; number = reader .number; line = reader .line }) now now
+      → Fed H reader part (record { read = reader .read + length part; head = reader .head; mark = reader .mark; number = reader .number; line = reader .line }) now now
   fed-stopped fault = record { fed-to = refl; feeds = λ lent reached h. go lent reached h }
     where
-      go : (lent : Tables) (reached : Progress Row Open) → Holds H lent (reader .read) (reader .number) (reader .line) now reached
-          → Holds H lent (reader .read + length part) (reader .number) (reader .line) now (fold (drafted H lent) reached part)
-      go lent (inHeader k) h = absurd (fault (ap (λ (x : Line). x .fault) (h .3)))
-      go lent (stopped k place) h = rw (stays H lent k place part) h
-      go lent (inRow place n before o) h = absurd (fault (h .2 .going))
+      stays : (lent : Tables) (p : Reached) {k place : ℕ} → Faulty k place p → reader .line .fault ≡ k → reader .line .place ≡ place → 0 < k
+          → Holds H lent (reader .read + length part) (reader .mark) (reader .head) (reader .number) (reader .line) now (fold (drafted H lent) p part)
+      stays lent p f l q z =
+          faulty-held H lent (fold (drafted H lent) p part) (reader .read + length part) (reader .mark) (reader .head) (reader .number) (reader .line) now (faulty-fold H lent p part f) l q z
 
-  module _ (head : Headed) (head-is : head ≡ headedFrom (reader .read) 0 part) (clear : reader .line .fault ≡ 0) where
-    -- in the header, and only there, the reader is before the first row
-    at-header : (lent : Tables) (k : ℕ) → Holds H lent (reader .read) (reader .number) (reader .line) now (inHeader k) → arrived H lent (reader .read) ≡ inHeader k
-    at-header lent k h = rw (← h .0, lt-ltb k (length timetableHeader) (h .1))
+      go : (lent : Tables) (reached : Reached) → Stands H lent reader now reached
+          → Holds H lent (reader .read + length part) (reader .mark) (reader .head) (reader .number) (reader .line) now (fold (drafted H lent) reached part)
+      go lent (inHeader k m) h = absurd (fault (ap (λ (x : Line). x .fault) (h .4)))
+      go lent (broken k place) h = stays lent (broken k place) isBroken (h .0) (h .1) (h .2)
+      go lent (stopped k place) h = stays lent (stopped k place) isStopped (h .0) (h .1) (h .2)
+      go lent (inRow place n before m) h = absurd (fault (h .4 .going))
+
+  module _ (head : Headed) (head-is : head ≡ comparedFrom timetableHeader (reader .mark) (reader .head) 0 part) (clear : reader .line .fault ≡ 0) where
+    heading : (lent : Tables) → reader .head < length timetableHeader
+        → Headings (contents H timetableFile (draftRoom lent)) (drafted H lent) part (reader .mark) (reader .head) (reader .read) head
+    unfolding reach
+    heading lent h = header-law (contents H timetableFile (draftRoom lent)) refl part (reader .mark) (reader .head) (reader .read) head h head-is
 
     -- past the header nothing of the part is the header's
-    past-right : (lent : Tables) (n : ℕ) → n ≡ reader .read → length timetableHeader ≤ n → (head .next ≡ 0) × (head .right ≡ true)
-    past-right lent n e h = rw head-is (go part)
-      where
-        go : (s : List ℕ) → (headedFrom (reader .read) 0 s .next ≡ 0) × (headedFrom (reader .read) 0 s .right ≡ true)
-        go [] = (refl, refl)
-        go (b ∷ s) = rw (le-ltb (reader .read) (length timetableHeader) (omega arith)) (refl, refl)
+    past-right : length timetableHeader ≤ reader .head → head ≡ headed 0 (reader .head) (reader .mark) true
+    past-right h = head-is ∙ past-header timetableHeader part (reader .mark) (reader .head) 0 h
 
     -- the header differs
     pub fed-wrong : (line′ : Line) → head .right ≡ false → line′ .fault ≡ badHeader → line′ .place ≡ 0
-        → Fed H reader part (record { read = reader .read + length part; number = reader .number; line = line′ }) now now
+        → Fed H reader part (record { read = reader .read + length part; head = reader .head; mark = reader .mark; number = reader .number; line = line′ }) now now
     fed-wrong line′ e f p = record { fed-to = refl; feeds = λ lent reached h. go lent reached h }
       where
-        go : (lent : Tables) (reached : Progress Row Open) → Holds H lent (reader .read) (reader .number) (reader .line) now reached
-            → Holds H lent (reader .read + length part) (reader .number) line′ now (fold (drafted H lent) reached part)
-        go lent (inHeader k) h =
-            let q : fold (drafted H lent) (inHeader k) part ≡ stopped badHeader 0 =
-            ap (λ (x : Progress Row Open). fold (drafted H lent) x part) (sym (at-header lent k h))
-            ∙ wrong-header H lent part (reader .read) 0 (ap (λ (x : Headed). x .right) (sym head-is) ∙ e) in
-            rw q (f, p, omega arith)
+        go : (lent : Tables) (reached : Reached) → Stands H lent reader now reached
+            → Holds H lent (reader .read + length part) (reader .mark) (reader .head) (reader .number) line′ now (fold (drafted H lent) reached part)
+        go lent (inHeader k m) h =
+            let v : Faulty badHeader 0 (fold (drafted H lent) (inHeader k m) part) =
+            rw (h .0, h .1) (heading lent (h .2) .differs e) in
+            faulty-held H lent (fold (drafted H lent) (inHeader k m) part) (reader .read + length part) (reader .mark) (reader .head) (reader .number) line′ now v f p (omega arith)
+        go lent (broken k place) h = absurd (omega (arith, h .0, h .2))
         go lent (stopped k place) h = absurd (omega (arith, h .0, h .2))
-        go lent (inRow place n before o) h = absurd (false≢true (sym e ∙ past-right lent n (h .0) (h .3) .1))
+        go lent (inRow place n before m) h = absurd (false≢true (sym e ∙ ap (λ (x : Headed). x .right) (past-right (h .5))))
 
-    -- the header is right so far, and the rows are read
-    pub fed-ran : (reader′ : Reader) (now′ : Tables) → head .right ≡ true → Ran H (reader .line) (reader .number) (reader .read) part (head .next) reader′ now now′
-        → Fed H reader part reader′ now now′
-    fed-ran reader′ now′ e ran = record { fed-to = ran .ran-to; feeds = λ lent reached h. finish lent reached (go lent reached h) }
+    -- the part ends in the header
+    pub fed-header : head .right ≡ true → head .head < length timetableHeader
+        → Fed H reader part (record { read = reader .read + length part; head = head .head; mark = head .mark; number = reader .number; line = reader .line }) now now
+    fed-header e short = record { fed-to = refl; feeds = λ lent reached h. go lent reached h }
       where
-        go : (lent : Tables) (reached : Progress Row Open) → Holds H lent (reader .read) (reader .number) (reader .line) now reached
-            → (at : Progress Row Open) × Holds H lent (reader .read + head .next) (reader .number) (reader .line) now at
-            × (fold (drafted H lent) at (drop (head .next) part) ≡ fold (drafted H lent) reached part)
-        go lent (inHeader k) h =
-            let w = right-header H lent part (reader .read) 0 (omega (arith, h .0, h .1)) (ap (λ (x : Headed). x .right) (sym head-is) ∙ e) in
-            let n : head .next ≡ w .0 = ap (λ (x : Headed). x .next) head-is ∙ w .1 ∙ omega arith in
-            let holds : Holds H lent (reader .read + w .0) Empty firstLine lent (arrived H lent (reader .read + w .0)) = arrived-held H lent (reader .read + w .0) (w .2) (h .5) in (
-              arrived H lent (reader .read + w .0),
-              alike H lent (arrived H lent (reader .read + w .0)) (ap (λ (x : ℕ). reader .read + x) n) (h .2) (h .3) (h .4) holds,
-              ap (λ (x : ℕ). fold (drafted H lent) (arrived H lent (reader .read + w .0)) (drop x part)) n
-                  ∙ w .3
-                  ∙ ap (λ (x : Progress Row Open). fold (drafted H lent) x part) (at-header lent k h),
-            )
+        go : (lent : Tables) (reached : Reached) → Stands H lent reader now reached
+            → Holds H lent (reader .read + length part) (head .mark) (head .head) (reader .number) (reader .line) now (fold (drafted H lent) reached part)
+        go lent (inHeader k m) h =
+            let q : fold (drafted H lent) (inHeader k m) part ≡ inHeader (reader .read + length part) (marked (head .mark) (nameAt timetableNames (head .head))) =
+            rw (h .0, h .1) (heading lent (h .2) .goes-on e short) in
+            subst (λ (x : Reached). Holds H lent (reader .read + length part) (head .mark) (head .head) (reader .number) (reader .line) now x) (sym q)
+            (refl, refl, short, h .3, h .4, h .5, h .6)
+        go lent (broken k place) h = absurd (omega (arith, h .0, h .2))
         go lent (stopped k place) h = absurd (omega (arith, h .0, h .2))
-        go lent (inRow place n before o) h =
-            let z : head .next ≡ 0 = past-right lent n (h .0) (h .3) .0 in
-            let k : n ≡ reader .read + head .next = omega (arith, h .0) in
-            (inRow place n before o, (k, h .1, h .2, h .3), ap (λ (x : ℕ). fold (drafted H lent) (inRow place n before o) (drop x part)) z)
+        go lent (inRow place n before m) h = absurd (omega (arith, h .5, ap (λ (x : Headed). x .head) (past-right (h .5))))
 
-        finish : (lent : Tables) (reached : Progress Row Open)
-            → (at : Progress Row Open) × Holds H lent (reader .read + head .next) (reader .number) (reader .line) now at
+    -- the header is whole, and the rows are read
+    pub fed-ran : (first : Line) (at : ℕ) (reader′ : Reader) (now′ : Tables) → head .right ≡ true → length timetableHeader ≤ head .head → at ≡ reader .read + head .next
+        → first ≡ begunAt (reader .line) (reader .head) at → Lined H first (reader .number) (head .mark) (reader .read) part (head .next) reader′ now now′
+        → Fed H reader part reader′ now now′
+    fed-ran first at reader′ now′ e whole at-is first-is ran = record { fed-to = ran .ran-to; feeds = λ lent reached h. finish lent reached (go lent reached h) }
+      where
+        go : (lent : Tables) (reached : Reached) → Stands H lent reader now reached
+            → (at : Reached) × Holds H lent (reader .read + head .next) (head .mark) (length timetableHeader) (reader .number) first now at
             × (fold (drafted H lent) at (drop (head .next) part) ≡ fold (drafted H lent) reached part)
-            → Holds H lent (reader′ .read) (reader′ .number) (reader′ .line) now′ (fold (drafted H lent) reached part)
+        go lent (inHeader k m) h =
+            let line-is : first ≡ placedAt firstLine at =
+            first-is ∙ ap (λ (x : Line). begunAt x (reader .head) at) (h .4) ∙ (rw (lt-leb (length timetableHeader) (reader .head) (h .2))) in
+            let row : InLine H lent first now at [] [] [] [] =
+            subst (λ (t : Tables). InLine H lent first t at [] [] [] []) (sym (h .5))
+            (subst (λ (x : Line). InLine H lent x lent at [] [] [] []) (sym line-is) (first-row H lent at (h .6))) in (
+              inRow at at [] (marked (head .mark) start),
+              (start, at-is, refl, h .3, row, omega arith),
+              rw (at-is, h .0, h .1) (heading lent (h .2) .is-over e whole),
+            )
+        go lent (broken k place) h = absurd (omega (arith, h .0, h .2))
+        go lent (stopped k place) h = absurd (omega (arith, h .0, h .2))
+        go lent (inRow place n before m) h =
+            let past = past-right (h .5) in
+            let z : head .next ≡ 0 = ap (λ (x : Headed). x .next) past in
+            let k : n ≡ reader .read + head .next = omega (arith, h .1) in
+            let same-mark : head .mark ≡ reader .mark = ap (λ (x : Headed). x .mark) past in
+            let line-is : first ≡ reader .line = first-is ∙ (rw (le-leb (length timetableHeader) (reader .head) (h .5))) in (
+              inRow place n before m,
+              (h .0, k, h .2 ∙ ap (λ (x : Mark). marked x (h .0)) (sym same-mark), h .3, subst (λ (x : Line). InLine H lent x now place before (h .0 .closed) (h .0 .list) (h .0 .entry)) (sym line-is) (h .4), omega arith),
+              ap (λ (x : ℕ). fold (drafted H lent) (inRow place n before m) (drop x part)) z,
+            )
+
+        finish : (lent : Tables) (reached : Reached)
+            → (at : Reached) × Holds H lent (reader .read + head .next) (head .mark) (length timetableHeader) (reader .number) first now at
+            × (fold (drafted H lent) at (drop (head .next) part) ≡ fold (drafted H lent) reached part)
+            → Stands H lent reader′ now′ (fold (drafted H lent) reached part)
         finish lent reached a =
-            let b = ran .runs .leads lent (a .0) (a .1) in
+            let b = ran .lines .leads lent (a .0) (a .1) in
             let q : b .0 ≡ fold (drafted H lent) reached part = sym (ap (λ (s : List ℕ). fold (drafted H lent) (b .0) s) (drop-length part)) ∙ b .2 ∙ a .2 in
-            rw (ran .ran-to, ← q) (b .1)
+            rw (ran .ran-to, ran .head-whole, ← q) (b .1)
+
+begun-fault : (line : Line) (head at : ℕ) → begunAt line head at .fault ≡ line .fault
+begun-fault line head at = go (leb (length timetableHeader) head)
+  where
+    go : (t : Bool) → cond t line (placedAt line at) .fault ≡ line .fault
+    go true = refl
+    go false = refl
+
+pub placed-rows : (part : List ℕ) (read head : ℕ) (mark : Mark) (r : Headed) (line first : Line) (at : ℕ) → read + length part ≤ mostText → r ≡ comparedFrom timetableHeader mark head 0 part → line .fault ≡ 0
+    → first ≡ begunAt line head at → Placed read part (r .next) first
+placed-rows part read head mark r line first at h e c f =
+    record {
+      in-limit = h;
+      inside = header-inside timetableHeader part mark head r e;
+      no-fault = ap (λ (x : Line). x .fault) f ∙ begun-fault line head at ∙ c;
+    }
 
 -- ---- the end of a text
 
@@ -159,41 +189,45 @@ module _ (reader : Reader) where
   unfolding reachedEnd
   finish-fault fault = record { finishes = λ H lent now reached h. go H lent now reached h }
     where
-      go : (H : ℕ) (lent now : Tables) (reached : Progress Row Open) → Holds H lent (reader .read) (reader .number) (reader .line) now reached
+      go : (H : ℕ) (lent now : Tables) (reached : Reached) → Stands H lent reader now reached
           → Fault (reader .line .fault) (reader .line .place) ≡ answerOf (reachedEnd H timetableFile (draftRoom lent) reached)
-      go H lent now (inHeader k) h = absurd (fault (ap (λ (x : Line). x .fault) (h .3)))
+      go H lent now (inHeader k m) h = absurd (fault (ap (λ (x : Line). x .fault) (h .4)))
+      go H lent now (broken k place) h = rw (h .0, h .1)
       go H lent now (stopped k place) h = rw (h .0, h .1)
-      go H lent now (inRow place n before o) h = absurd (fault (h .2 .going))
+      go H lent now (inRow place n before m) h = absurd (fault (h .4 .going))
 
   module _ (clear : reader .line .fault ≡ 0) where
-    pub finish-header : reader .read < length timetableHeader → Finished reader (Fault badHeader 0)
+    pub finish-header : reader .head < length timetableHeader → Finished reader (Fault badHeader 0)
     unfolding reachedEnd
     finish-header short = record { finishes = λ H lent now reached h. go H lent now reached h }
       where
-        go : (H : ℕ) (lent now : Tables) (reached : Progress Row Open) → Holds H lent (reader .read) (reader .number) (reader .line) now reached
+        go : (H : ℕ) (lent now : Tables) (reached : Reached) → Stands H lent reader now reached
             → Fault badHeader 0 ≡ answerOf (reachedEnd H timetableFile (draftRoom lent) reached)
-        go H lent now (inHeader k) h = refl
+        go H lent now (inHeader k m) h = refl
+        go H lent now (broken k place) h = absurd (omega (arith, h .0, h .2))
         go H lent now (stopped k place) h = absurd (omega (arith, h .0, h .2))
-        go H lent now (inRow place n before o) h = absurd (omega (arith, h .0, h .3))
+        go H lent now (inRow place n before m) h = absurd (omega (arith, h .5))
 
-    module _ (whole : length timetableHeader ≤ reader .read) where
+    module _ (whole : length timetableHeader ≤ reader .head) where
       pub finish-row : (reader .line .place ≡ reader .read → ⊥) → Finished reader (Fault badRow (reader .line .place))
       unfolding reachedEnd
       finish-row apart = record { finishes = λ H lent now reached h. go H lent now reached h }
         where
-          go : (H : ℕ) (lent now : Tables) (reached : Progress Row Open) → Holds H lent (reader .read) (reader .number) (reader .line) now reached
+          go : (H : ℕ) (lent now : Tables) (reached : Reached) → Stands H lent reader now reached
               → Fault badRow (reader .line .place) ≡ answerOf (reachedEnd H timetableFile (draftRoom lent) reached)
-          go H lent now (inHeader k) h = absurd (omega (arith, h .0, h .1))
+          go H lent now (inHeader k m) h = absurd (omega (arith, h .2))
+          go H lent now (broken k place) h = absurd (omega (arith, h .0, h .2))
           go H lent now (stopped k place) h = absurd (omega (arith, h .0, h .2))
-          go H lent now (inRow place n before o) h = rw (ne-eqb place n (λ q. apart (h .2 .placed ∙ q ∙ h .0)), h .2 .placed)
+          go H lent now (inRow place n before m) h = rw (ne-eqb place n (λ q. apart (h .4 .placed ∙ q ∙ h .1)), h .4 .placed)
 
       pub finish-read : reader .line .place ≡ reader .read → Finished reader (Read (reader .line .rows) (reader .line .configurations))
       unfolding reachedEnd
       finish-read together = record { finishes = λ H lent now reached h. go H lent now reached h }
         where
-          go : (H : ℕ) (lent now : Tables) (reached : Progress Row Open) → Holds H lent (reader .read) (reader .number) (reader .line) now reached
+          go : (H : ℕ) (lent now : Tables) (reached : Reached) → Stands H lent reader now reached
               → Read (reader .line .rows) (reader .line .configurations) ≡ answerOf (reachedEnd H timetableFile (draftRoom lent) reached)
-          go H lent now (inHeader k) h = absurd (omega (arith, h .0, h .1))
+          go H lent now (inHeader k m) h = absurd (omega (arith, h .2))
+          go H lent now (broken k place) h = absurd (omega (arith, h .0, h .2))
           go H lent now (stopped k place) h = absurd (omega (arith, h .0, h .2))
-          go H lent now (inRow place n before o) h =
-              rw (eq-eqb place n (sym (h .2 .placed) ∙ together ∙ sym (h .0)), h .2 .rowed .rows-are, h .2 .rowed .configurations-are)
+          go H lent now (inRow place n before m) h =
+              rw (eq-eqb place n (sym (h .4 .placed) ∙ together ∙ sym (h .1)), h .4 .rowed .rows-are, h .4 .rowed .configurations-are)

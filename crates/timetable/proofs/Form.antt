@@ -1,50 +1,27 @@
 -- The machine of a row reads what the definition of a row's form says: number by number, configuration by configuration, field by field.
 -- Assumes nothing.
-use Prim.Native.Nat.{ℕ, _+_, _-_}
+use Prim.Native.Nat.{ℕ}
 use mathlib.Core.Path.{_≡_, refl, ap, sym, _∙_}
-use mathlib.Core.Bool.{Bool, true, false, cond}
+use mathlib.Core.Bool.{Bool, true, false}
 use mathlib.Core.List.{List, [], _∷_, _++_, append-assoc, append-nil}
 use mathlib.Core.Option.{Option, none, some}
 use native.Mathlib.Omega.{arith}
-use lib.Dec.{eqb, ltb}
+use lib.Dec.{ltb}
 use lib.ListN.{length, getD}
 use borrow.Author.Tests.{ne-eqb}
 use Rattle.rules.specs.Lists.{_>>=_, each}
-use Rattle.rules.specs.Bytes.{isDigit, wholeOf, comma, space, underscore, onto, splitOn, joined}
-use Rattle.rules.specs.Timetable.{Row, row, configuration, threeOf, configurationOf, listOf, sevenOf, formOf}
+use Rattle.rules.specs.Bytes.{isDigit, wholeOf, comma, space, underscore, splitOn, joined}
+use Rattle.rules.specs.Timetable.{Row, row, configuration, threeOf, configurationOf, listOf, sevenOf}
 use Rattle.rules.specs.Verdict.{All}
 use Rattle.rules.specs.declared.sizes.Configuration.{Configuration}
 use Rattle.rules.proofs.Pieces.{Free, split-cons, split-free, joined-split}
 use Rattle.csv_machine.specs.Fold.{run}
 use Rattle.csv_machine.specs.Number.{Number, empty, numberStep, numberEnd}
+use Rattle.csv_machine.proofs.Options.{then-none, then-same, then-then}
 use Rattle.csv_machine.proofs.Number.{no-step, number-is-whole}
+use Rattle.csv_machine.proofs.Marks.{split-within}
 use Rattle.timetable.specs.Open.{Open, partly, start, separate, openStep, closeLast, openEnd}
 use Rattle.timetable_row.specs.Slots.{separators}
-
--- ---- what may be missing
-
-then-none : {A B : Type 0} (x : Option A) → _>>=_ {B = B} x (λ a. none) ≡ none
-then-none none = refl
-then-none (some a) = refl
-
-then-same : {A B : Type 0} (x : Option A) (f g : A → Option B) → ((a : A) → f a ≡ g a) → (x >>= f) ≡ (x >>= g)
-then-same none f g h = refl
-then-same (some a) f g h = h a
-
-then-then : {A B C : Type 0} (x : Option A) (f : A → Option B) (g : B → Option C) → ((x >>= f) >>= g) ≡ (x >>= (λ a. f a >>= g))
-then-then none f g = refl
-then-then (some a) f g = refl
-
--- ---- pieces: what holds of every byte of a text holds of every byte of its pieces
-
-split-within : (P : ℕ → Type 0) (sep : ℕ) (s : List ℕ) → All P s → All (All P) (splitOn sep s)
-split-within P sep [] h = (tt, tt)
-split-within P sep (b ∷ s) h = go (eqb b sep) (split-cons sep s) (split-within P sep s (h .1))
-  where
-    go : (t : Bool) → (p : List ℕ) × (ps : List (List ℕ)) × (splitOn sep s ≡ p ∷ ps) → All (All P) (splitOn sep s)
-        → All (All P) (cond t ([] ∷ splitOn sep s) (onto b (splitOn sep s)))
-    go true c ih = (tt, ih)
-    go false c ih = rw (c .2) (let k : All (All P) (c .0 ∷ c .1) = rw (c .2) at ih in ((h .0, k .0), k .1))
 
 -- ---- a number
 
@@ -409,6 +386,6 @@ seven (a ∷ b ∷ c ∷ d ∷ e ∷ n ∷ l ∷ x ∷ more) f =
     ∙ none-of (configurationOf n) _ (λ n′. list-over a′ b′ c′ d′ e′ n′ l (joined comma (x ∷ more))))
     ∙ ids-none a b c d e
 
--- a line is a row exactly where the machine ends in that row
-pub form-run : (line : List ℕ) → formOf line ≡ (run openStep start line >>= openEnd)
-form-run line = sym (ap (rest start) (sym (joined-split comma line)) ∙ seven (splitOn comma line) (split-free comma line))
+-- contents joined by commas are a row exactly where the machine ends in that row
+pub contents-run : (f : List ℕ) (fs : List (List ℕ)) → All (Free comma) (f ∷ fs) → (run openStep start (joined comma (f ∷ fs)) >>= openEnd) ≡ sevenOf (f ∷ fs)
+contents-run f fs h = seven (f ∷ fs) h

@@ -1,11 +1,14 @@
 pub mod Form
+pub mod Fields
 pub mod Words
 pub mod Entry
 pub mod Close
 pub mod Judge
 pub mod Accept
 pub mod Ended
-pub mod Header
+pub mod Faults
+pub mod Lands
+pub mod Marking
 pub mod Turn
 pub mod Listing
 pub mod Run

@@ -1,14 +1,16 @@
 -- Whole entries at once lead where their bytes lead: three numbers, each closed by its byte. Assumes nothing.
 use Prim.Native.Nat.{ℕ, _+_, _-_, _≤_, _<_}
 use mathlib.Core.Path.{_≡_, refl, ap, sym, _∙_}
-use mathlib.Core.Bool.{false}
+use mathlib.Core.Bool.{true, false}
 use mathlib.Core.List.{List}
 use native.Mathlib.Omega.{arith}
 use lib.ListN.{length, getD, set}
 use Rattle.rules.specs.Bytes.{lineFeed, space, underscore}
-use Rattle.rules.specs.Timetable.{timetableHeader}
 use Rattle.timetable_row.specs.declared.line.Line.{Line}
 use Rattle.timetable_row.specs.declared.number.Number.the-variants.{Empty}
+use Rattle.csv_marks.specs.declared.Mark.{Mark}
+use Rattle.csv_marks.specs.Turns.{takes, plainUnder}
+use Rattle.csv_marks.proofs.Follow.{plain-other}
 use Rattle.timetable_entry.specs.declared.Spotted.{Spotted}
 use Rattle.timetable_entry.specs.declared.Spotted.the-variants.{Entry}
 use Rattle.timetable_entry.specs.Spots.{NumberAt, EntryAt, Spots, spotted}
@@ -39,27 +41,27 @@ entry-forward e =
 -- ---- a number of an entry, and its byte
 
 module _ {H read : ℕ} {part : List ℕ} {from : ℕ} {line₀ : Line} {legs₀ table₀ legs table : List ℕ} {i : ℕ} {line : Line}
-    (led : Leads H read part from Empty line₀ (tables legs₀ table₀) i Empty line (tables legs table)) (clear : line .fault ≡ 0) (past : length timetableHeader ≤ read + i) where
-  led-closed : {closes v next : ℕ} (line′ : Line) (table′ : List ℕ) → NumberAt part i closes v next → (closes ≡ lineFeed → ⊥) → Closed H line v closes line′ table table′
-      → Leads H read part from Empty line₀ (tables legs₀ table₀) next Empty line′ (tables legs table′)
-  led-closed {closes} {v} {next} line′ table′ n other closed =
+    {mark : Mark} (led : Leads H read part from mark Empty line₀ (tables legs₀ table₀) i mark Empty line (tables legs table)) (clear : line .fault ≡ 0) (open-mark : takes mark ≡ true) where
+  led-closed : {closes v next : ℕ} (line′ : Line) (table′ : List ℕ) → NumberAt part i closes v next → plainUnder mark closes ≡ true → (closes ≡ lineFeed → ⊥) → Closed H line v closes line′ table table′
+      → Leads H read part from mark Empty line₀ (tables legs₀ table₀) next mark Empty line′ (tables legs table′)
+  led-closed {closes} {v} {next} line′ table′ n plain other closed =
       let at : ℕ = read + n .number .next in
       let b : ℕ = getD part (n .number .next) 0 in
       let closed′ : Closed H line v b line′ table table′ = rw (n .byte) closed in
       let signed : Signed H line (n .number .number) b at line′ (tables legs table) (tables legs table′) =
       sign-close H line line′ (n .number .number) b at legs table table′ false v (sym (n .digits)) refl (n .value) (λ q. other (sym (n .byte) ∙ q)) closed′ in
       rw (n .behind)
-      (led-signed H read part from Empty line₀ (tables legs₀ table₀) i Empty line (tables legs table) led (n .number) at line′ (tables legs table′) clear
-      (omega (arith, taken-forward Empty part i (n .number) (n .number-is), n .inside)) past (n .number-is) (n .inside) refl signed)
+      (led-signed H read part from mark Empty line₀ (tables legs₀ table₀) i mark Empty line (tables legs table) led (n .number) at line′ (tables legs table′) open-mark clear
+      (omega (arith, taken-forward Empty part i (n .number) (n .number-is), n .inside)) (n .number-is) (n .inside) refl (ap (plainUnder mark) (n .byte) ∙ plain) signed)
 
 -- ---- the entry
 
 module _ {H read : ℕ} {part : List ℕ} {from : ℕ} {line₀ : Line} {legs₀ table₀ legs table : List ℕ} {i : ℕ} {line : Line}
-    (led : Leads H read part from Empty line₀ (tables legs₀ table₀) i Empty line (tables legs table)) (clear : line .fault ≡ 0) (past : length timetableHeader ≤ read + i)
+    {mark : Mark} (led : Leads H read part from mark Empty line₀ (tables legs₀ table₀) i mark Empty line (tables legs table)) (clear : line .fault ≡ 0) (open-mark : takes mark ≡ true)
     (slot : line .slot ≡ entrySlot) where
   led-entry : {d t p next : ℕ} (line′ : Line) (table′ : List ℕ) → EntryAt part i d t p next
       → Entered H (openEntry line d t) p line′ table table′
-      → Leads H read part from Empty line₀ (tables legs₀ table₀) next Empty line′ (tables legs table′)
+      → Leads H read part from mark Empty line₀ (tables legs₀ table₀) next mark Empty line′ (tables legs table′)
   led-entry {d} {t} {p} {next} line′ table′ e entered =
       let line₁ : Line = lineWith line (line .slot + 1) (set (line .numbers) (line .slot) d) (line .entries) (line .nominal) (line .wide) in
       let line₂ : Line = lineWith line₁ (line₁ .slot + 1) (set (line₁ .numbers) (line₁ .slot) t) (line .entries) (line .nominal) (line .wide) in
@@ -70,9 +72,10 @@ module _ {H read : ℕ} {part : List ℕ} {from : ℕ} {line₀ : Line} {legs₀
       close-slot H line₁ t underscore table underscore (ap (λ (s : ℕ). separatorOf (s + 1)) (sym slot)) refl (omega arith) in
       let third : Closed H line₂ p space line′ table table′ =
       close-entry H line₂ p space table space (ap (λ (s : ℕ). separatorOf (s + 1 + 1)) (sym slot)) refl line′ table′ (omega arith) (rw same entered) in
-      let led₁ = led-closed led clear past line₁ table (e .departure) (λ q. omega arith) first in
-      let led₂ = led-closed led₁ clear (omega (arith, number-forward (e .departure) .0)) line₂ table (e .travel) (λ q. omega arith) second in
-      led-closed led₂ clear (omega (arith, number-forward (e .departure) .0, number-forward (e .travel) .0)) line′ table′ (e .profile) (λ q. omega arith) third
+      let join : plainUnder mark underscore ≡ true = plain-other mark underscore open-mark refl refl refl refl in
+      let led₁ = led-closed led clear open-mark line₁ table (e .departure) join (λ q. omega arith) first in
+      let led₂ = led-closed led₁ clear open-mark line₂ table (e .travel) join (λ q. omega arith) second in
+      led-closed led₂ clear open-mark line′ table′ (e .profile) (plain-other mark space open-mark refl refl refl refl) (λ q. omega arith) third
 
 -- ---- entries
 
@@ -82,8 +85,8 @@ pub record Listing (H : ℕ) (part : List ℕ) (from : ℕ) (table₀ : List ℕ
   pub clear : line .fault ≡ 0
   pub at-entry : line .slot ≡ entrySlot
   pub long : length table ≡ length table₀
-  pub listed : (read : ℕ) (legs : List ℕ) → length timetableHeader ≤ read + from
-      → Leads H read part from Empty line₀ (tables legs table₀) i Empty line (tables legs table)
+  pub listed : (read : ℕ) (mark : Mark) (legs : List ℕ) → takes mark ≡ true
+      → Leads H read part from mark Empty line₀ (tables legs table₀) i mark Empty line (tables legs table)
 
 pub listing : (H : ℕ) (part : List ℕ) (from : ℕ) (table : List ℕ) (line : Line) → Begun part from line → line .slot ≡ entrySlot → Listing H part from table line table line from
 listing H part from table line b s =
@@ -93,7 +96,7 @@ listing H part from table line b s =
       clear = b .clear;
       at-entry = s;
       long = refl;
-      listed = λ read legs past. led-none H read part from Empty line (tables legs table);
+      listed = λ read mark legs open-mark. led-none H read part from mark Empty line (tables legs table);
     }
 
 module _ {H : ℕ} {part : List ℕ} {from : ℕ} {table₀ : List ℕ} {line₀ : Line} {table : List ℕ} {line : Line} {i : ℕ} (g : Listing H part from table₀ line₀ table line i) where
@@ -108,7 +111,7 @@ module _ {H : ℕ} {part : List ℕ} {from : ℕ} {table₀ : List ℕ} {line₀
         clear = entered .no-fault ∙ g .clear;
         at-entry = entered .next-entry;
         long = l ∙ g .long;
-        listed = λ read legs past. led-entry (g .listed read legs past) (g .clear) (omega (arith, g .forward)) (g .at-entry) line′ table′ x entered;
+        listed = λ read mark legs open-mark. led-entry (g .listed read mark legs open-mark) (g .clear) open-mark (g .at-entry) line′ table′ x entered;
       }
 
   pub listing-less : {r : Spotted} {d t p next : ℕ} → Spots part i r → r ≡ Entry d t p next → i < length part → length part - next < length part - i
@@ -123,7 +126,7 @@ lists-none H part from table line b =
       forward = omega arith;
       inside = b .within;
       clear = b .clear;
-      listed = λ read legs past. led-none H read part from Empty line (tables legs table);
+      listed = λ read mark legs open-mark. led-none H read part from mark Empty line (tables legs table);
     }
 
 pub begun : (part : List ℕ) (from : ℕ) (line : Line) → from ≤ length part → line .fault ≡ 0 → Begun part from line

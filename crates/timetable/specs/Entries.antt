@@ -1,11 +1,13 @@
 -- Whole entries of a list at once: what the reader holds after them.
-use Prim.Native.Nat.{ℕ, _+_, _≤_}
+use Prim.Native.Nat.{ℕ, _≤_}
 use mathlib.Core.Path.{_≡_}
+use mathlib.Core.Bool.{true}
 use mathlib.Core.List.{List}
 use lib.ListN.{length}
-use Rattle.rules.specs.Timetable.{timetableHeader}
 use Rattle.timetable_row.specs.declared.number.Number.the-variants.{Empty}
 use Rattle.timetable_row.specs.declared.line.Line.{Line}
+use Rattle.csv_marks.specs.declared.Mark.{Mark}
+use Rattle.csv_marks.specs.Turns.{takes}
 use Rattle.timetable.specs.declared.entries.Listed.{Listed}
 use Rattle.timetable.specs.Held.{tables}
 use Rattle.timetable.specs.Text.{Leads}
@@ -20,5 +22,5 @@ pub record Lists (H : ℕ) (line : Line) (part : List ℕ) (from : ℕ) (r : Lis
   pub forward : from ≤ r .next
   pub inside : r .next ≤ length part
   pub clear : r .line .fault ≡ 0
-  pub listed : (read : ℕ) (legs : List ℕ) → length timetableHeader ≤ read + from
-      → Leads H read part from Empty line (tables legs table) (r .next) Empty (r .line) (tables legs table′)
+  pub listed : (read : ℕ) (mark : Mark) (legs : List ℕ) → takes mark ≡ true
+      → Leads H read part from mark Empty line (tables legs table) (r .next) mark Empty (r .line) (tables legs table′)

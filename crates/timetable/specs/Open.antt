@@ -1,18 +1,21 @@
 -- A row of a timetable byte by byte: eight numbers up to the list, then configurations, three numbers each.
 use Prim.Native.Nat.{ℕ}
-use mathlib.Core.Bool.{Bool, cond}
+use mathlib.Core.Bool.{Bool, false, cond, _||_}
 use mathlib.Core.List.{List, [], _∷_, _++_}
 use mathlib.Core.Option.{Option, none, some}
-use lib.Dec.{ltb, eqb}
+use lib.Dec.{leb, ltb, eqb}
 use lib.ListN.{length, getD}
 use Rattle.rules.specs.Lists.{_>>=_}
 use Rattle.rules.specs.Answers.{Reading}
 use Rattle.rules.specs.Bytes.{isDigit, space, underscore}
-use Rattle.rules.specs.Timetable.{Row, row, configuration, timetableHeader, judgeForm}
+use Rattle.rules.specs.Timetable.{Row, row, configuration, timetableNames, judgeForm}
 use Rattle.rules.specs.declared.sizes.Configuration.{Configuration}
-use Rattle.csv_machine.specs.Number.{Number, empty, numberStep, numberEnd}
-use Rattle.csv_machine.specs.Machine.{Progress, progress, finished}
-use Rattle.timetable_row.specs.Slots.{separators}
+use Rattle.csv_machine.specs.Number.{Number, empty, zero, digits, numberStep, numberEnd}
+use Rattle.csv_machine.specs.Marks.{Marked}
+use Rattle.csv_machine.specs.Names.{Named}
+use Rattle.csv_machine.specs.Machine.{Machine, progress, finished}
+use Rattle.csv_machine.specs.Contents.{Contents, Reached as TextReached, machineOf}
+use Rattle.timetable_row.specs.Slots.{nominalSlot, entrySlot, separators}
 
 -- the numbers closed before the list; the configurations closed; the numbers closed of the one that is open; the open number
 pub record Open : Type 0 where
@@ -70,13 +73,30 @@ closeLast closed list (d ∷ t ∷ p ∷ more) n = none
 unfoldable pub openEnd : Open → Option Row
 openEnd o = numberEnd (o .number) >>= (λ n. closeLast (o .closed) (o .list) (o .entry) n)
 
+-- nothing of the open field is read: each of the first six fields, and the list
+abbrev pub opensField : List ℕ → List Configuration → List ℕ → Number → Bool
+opensField closed [] [] empty = leb (length closed) nominalSlot || eqb (length closed) entrySlot
+opensField closed [] [] zero = false
+opensField closed [] [] (digits n) = false
+opensField closed (c ∷ list) entry number = false
+opensField closed [] (n ∷ entry) number = false
+
+abbrev pub openBegins : Open → Bool
+openBegins o = opensField (o .closed) (o .list) (o .entry) (o .number)
+
 -- the whole text: how far it is read, byte by byte
+abbrev pub Reached : Type 0
+Reached = TextReached Row Open
+
 module _ (H file : ℕ) (fits : List Row → Row → Bool) where
-  abbrev pub Reached : Type 0
-  Reached = Progress Row Open
+  abbrev pub contents : Contents Row Open
+  contents = record { file = file; names = timetableNames; judge = judgeForm H fits; start = start; step = openStep; close = openEnd; begins = openBegins }
+
+  abbrev pub machine : Machine Row (Marked Named) (Marked Open)
+  machine = machineOf contents
 
   unfoldable pub reach : Reached → ℕ → Reached
-  reach = progress file timetableHeader (judgeForm H fits) start openStep openEnd
+  reach = progress machine
 
   unfoldable pub reachedEnd : Reached → Reading (List Row)
-  reachedEnd = finished file timetableHeader (judgeForm H fits) start openStep openEnd
+  reachedEnd = finished machine

@@ -6,9 +6,12 @@ ghost use Rattle.rules.specs.Limits.{mostText};
 ghost use Rattle.timetable_row.specs.declared.number.Number.the-variants.{Empty};
 ghost use Rattle.timetable.specs.Held.{tables};
 ghost use Rattle.timetable.specs.Promise.{ReadAs};
-ghost use Rattle.timetable.specs.Text.{firstLine, Placed, Ran, Fed, Finished};
+ghost use Rattle.csv_marks.specs.declared.Mark.the-variants.{Bare};
+ghost use Rattle.timetable.specs.Text.{firstLine, begunAt, Placed, Opens, Ran, Lined, Fed, Finished};
 use crate::entries;
+use crate::marked;
 use crate::row;
+use csv_marks::Mark;
 use rules::answers::Refusal;
 use rules::sizes::Leg;
 use rules::sizes::Text;
@@ -17,9 +20,18 @@ use timetable_row::line::Line;
 use timetable_row::number;
 use timetable_row::number::Number;
 
-// After so many bytes: the open number, and the rest of the state.
+// After so many bytes, so many of them the header's: the mark, the open number, and the rest of the state.
 pub struct Reader {
     pub read: usize,
+    pub head: usize,
+    pub mark: Mark,
+    pub number: Number,
+    pub line: Line,
+}
+
+// A row, and the place up to which a part is read.
+pub struct Run {
+    pub next: usize,
     pub number: Number,
     pub line: Line,
 }
@@ -35,7 +47,7 @@ pub fn first_line() -> Line
 {
     Line {
         fault: 0,
-        place: Leg::HEADER_LENGTH as u32,
+        place: 0,
         slot: 0,
         numbers: [0; line::LAST],
         entries: 0,
@@ -48,30 +60,32 @@ pub fn first_line() -> Line
 }
 
 pub fn start() -> Reader
-    ensures { λ r. ⌜ (r .read ≡ 0) × (r .number ≡ Empty) × (r .line ≡ firstLine) ⌝ }
+    ensures { λ r. ⌜ (r .read ≡ 0) × (r .head ≡ 0) × (r .mark ≡ Bare) × (r .number ≡ Empty) × (r .line ≡ firstLine) ⌝ }
 {
     Reader {
         read: 0,
+        head: 0,
+        mark: Mark::Bare,
         number: Number::Empty,
         line: first_line(),
     }
 }
 
-// The rows of a part, which follows `gone` bytes, from a place on: the digits of a number in one loop, the byte that closes it, and then the entries that follow whole.
-pub fn run_rows(
+// Plain bytes of a part, which follows `gone` bytes, from a place on: the digits of a number in one loop, the byte that closes it, and then the entries that follow whole.
+fn run_plain(
     before: Line,
     unclosed: Number,
+    mark: Mark,
     gone: usize,
     part: &[u8],
     from: usize,
     h: u32,
     legs: &mut [u32],
     configurations: &mut [u32],
-) -> Reader
-    requires { ⌜ Placed gone (now part) from before ⌝ }
-    ensures { λ r. ⌜ Ran h before unclosed gone (now (part .entry)) from r (tables (now (legs .entry)) (now (configurations .entry))) (tables (now (legs .exit)) (now (configurations .exit))) ⌝ }
+) -> Run
+    requires { ⌜ Opens gone (now part) from before mark ⌝ }
+    ensures { λ r. ⌜ Ran h before unclosed mark gone (now (part .entry)) from r (tables (now (legs .entry)) (now (configurations .entry))) (tables (now (legs .exit)) (now (configurations .exit))) ⌝ }
 {
-    let read = gone + part.len();
     let mut line = before;
     let mut number = unclosed;
     let mut i = from;
@@ -80,19 +94,142 @@ pub fn run_rows(
         let next = taken.next;
         number = taken.number;
         if part.len() <= next {
-            return Reader { read, number, line };
+            return Run {
+                next: part.len(),
+                number,
+                line,
+            };
         }
-        let at = (gone + next) as u32;
-        line = row::sign(line, number, part[next], at, h, legs, configurations);
-        number = Number::Empty;
-        if line.fault != 0 {
-            return Reader { read, number, line };
+        let b = part[next];
+        if csv_marks::plain(mark, b) {
+            let at = (gone + next) as u32;
+            line = row::sign(line, number, b, at, h, legs, configurations);
+            number = Number::Empty;
+            if line.fault != 0 {
+                return Run {
+                    next: part.len(),
+                    number,
+                    line,
+                };
+            }
+            let list = entries::run_list(line, part, next + 1, h, configurations);
+            line = list.line;
+            i = list.next;
+        } else {
+            return Run { next, number, line };
         }
-        let list = entries::run_list(line, part, next + 1, h, configurations);
-        line = list.line;
-        i = list.next;
     }
-    Reader { read, number, line }
+    Run {
+        next: i,
+        number,
+        line,
+    }
+}
+
+// The rows of a part up to a byte that is not plain.
+pub fn run_rows(
+    before: Line,
+    unclosed: Number,
+    mark: Mark,
+    gone: usize,
+    part: &[u8],
+    from: usize,
+    h: u32,
+    legs: &mut [u32],
+    configurations: &mut [u32],
+) -> Run
+    requires { ⌜ Placed gone (now part) from before ⌝ }
+    ensures { λ r. ⌜ Ran h before unclosed mark gone (now (part .entry)) from r (tables (now (legs .entry)) (now (configurations .entry))) (tables (now (legs .exit)) (now (configurations .exit))) ⌝ }
+{
+    if csv_marks::contents(mark) {
+        return run_plain(
+            before,
+            unclosed,
+            mark,
+            gone,
+            part,
+            from,
+            h,
+            legs,
+            configurations,
+        );
+    }
+    Run {
+        next: from,
+        number: unclosed,
+        line: before,
+    }
+}
+
+// The rows of a part: plain bytes, and then one that is not. Where that one goes to the contents, behind quotes or a CR, the mark alone moves and the plain bytes begin with it: so `row::sign` has one caller.
+pub fn run_lines(
+    before: Line,
+    unclosed: Number,
+    first: Mark,
+    gone: usize,
+    part: &[u8],
+    from: usize,
+    h: u32,
+    legs: &mut [u32],
+    configurations: &mut [u32],
+) -> Reader
+    requires { ⌜ Placed gone (now part) from before ⌝ }
+    ensures { λ r. ⌜ Lined h before unclosed first gone (now (part .entry)) from r (tables (now (legs .entry)) (now (configurations .entry))) (tables (now (legs .exit)) (now (configurations .exit))) ⌝ }
+{
+    let read = gone + part.len();
+    let head = Leg::HEADER_LENGTH;
+    let mut line = before;
+    let mut number = unclosed;
+    let mut mark = first;
+    let mut i = from;
+    while i < part.len() {
+        let ran = run_rows(line, number, mark, gone, part, i, h, legs, configurations);
+        let next = ran.next;
+        line = ran.line;
+        number = ran.number;
+        if part.len() <= next {
+            return Reader {
+                read,
+                head,
+                mark,
+                number,
+                line,
+            };
+        }
+        let moved = csv_marks::moved(mark, part[next], marked::begins(line, number));
+        if moved.right {
+            mark = moved.mark;
+            i = next + moved.step;
+        } else {
+            line = line::stopped(line, Refusal::ROW_FORM);
+            return Reader {
+                read,
+                head,
+                mark,
+                number,
+                line,
+            };
+        }
+    }
+    Reader {
+        read,
+        head,
+        mark,
+        number,
+        line,
+    }
+}
+
+// After the header the first row has its place.
+fn begun(line: Line, head: usize, at: u32) -> Line
+    ensures { λ r. ⌜ r ≡ begunAt line head at ⌝ }
+{
+    if Leg::HEADER_LENGTH <= head {
+        return line;
+    }
+    let mut out = line;
+    out.place = at;
+    out
 }
 
 // A part of a text, however it is cut.
@@ -107,26 +244,52 @@ pub fn feed(
     ensures { λ r. ⌜ Fed h reader (now (part .entry)) r (tables (now (legs .entry)) (now (configurations .entry))) (tables (now (legs .exit)) (now (configurations .exit))) ⌝ }
 {
     let read = reader.read;
+    let mark = reader.mark;
     let number = reader.number;
     let line = reader.line;
     let all = read + part.len();
     if line.fault != 0 {
         return Reader {
             read: all,
+            head: reader.head,
+            mark,
             number,
             line,
         };
     }
-    let head = timetable_header::header(part, read);
-    if head.right {
-        let next = head.next;
-        return run_rows(line, number, read, part, next, h, legs, configurations);
+    let headed = csv_header::header(part, reader.head, mark);
+    if headed.right {
+        let after = headed.mark;
+        if headed.head < Leg::HEADER_LENGTH {
+            return Reader {
+                read: all,
+                head: headed.head,
+                mark: after,
+                number,
+                line,
+            };
+        }
+        let next = headed.next;
+        let first = begun(line, reader.head, (read + next) as u32);
+        return run_lines(
+            first,
+            number,
+            after,
+            read,
+            part,
+            next,
+            h,
+            legs,
+            configurations,
+        );
     }
     let mut wrong = line;
     wrong.fault = Refusal::HEADER;
     wrong.place = 0;
     Reader {
         read: all,
+        head: reader.head,
+        mark,
         number,
         line: wrong,
     }
@@ -140,7 +303,7 @@ pub fn finish(reader: Reader) -> Rows
     if line.fault != 0 {
         return Rows::Fault(line.fault, line.place);
     }
-    if reader.read < Leg::HEADER_LENGTH {
+    if reader.head < Leg::HEADER_LENGTH {
         return Rows::Fault(Refusal::HEADER, 0);
     }
     if line.place as usize != reader.read {

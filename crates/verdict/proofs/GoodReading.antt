@@ -1,17 +1,14 @@
 -- What is read without refusal keeps the limits that the walk asks for, and has a choice for each row. Assumes nothing.
-use Prim.Native.Nat.{ℕ, suc, _/_, _≤_}
+use Prim.Native.Nat.{ℕ, _/_, _≤_}
 use native.Mathlib.Omega.{arith}
-use mathlib.Core.Path.{_≡_, refl, sym, ap, _∙_, subst}
-use mathlib.Core.Bool.{Bool, true, false, cond}
-use mathlib.Core.List.{List, [], _∷_}
-use mathlib.Core.Option.{none, some}
+use mathlib.Core.Path.{_≡_, sym, ap, _∙_, subst}
+use mathlib.Core.List.{List}
 use lib.ListN.{length, length-map}
 use Rattle.rules.specs.Limits.{mostLegs, constraintWidth, trackWidth}
 use Rattle.rules.specs.Answers.{good}
-use Rattle.rules.specs.Rows.{placeOfRow}
 use Rattle.rules.specs.Timetable.{Row, choicesOf}
 use Rattle.rules.specs.Constraints.{plainRules, ordered}
-use Rattle.rules.specs.Reading.{Rooms, Texts, Files, legIds, filesOf, sameLeg, differsFrom, choicesRead}
+use Rattle.rules.specs.Reading.{Rooms, Texts, Files, legIds, filesOf, choicesRead}
 use Rattle.rules.specs.Verdict.{All, verdict, answerOf}
 use Rattle.rules.specs.Entries.{Tables, writtenTables, writtenChoices, verdictOf}
 use Rattle.rules.specs.declared.sizes.Configuration.{Configuration}
@@ -20,24 +17,13 @@ use Rattle.rules_theorems.specs.LawfulDocument.{LawfulConstraint, LawfulDocumen
 use Rattle.rules_theorems.specs.WellFormed.{KeptRow}
 use Rattle.rules_theorems.proofs.All.{all-mapped}
 use Rattle.rules_theorems.proofs.Documents.{good-is-lawful}
-use Rattle.rules_theorems.proofs.GoodFiles.{files-good, GoodChoices, choices-good}
+use Rattle.rules_theorems.specs.Files.{GoodChoices}
+use Rattle.rules_theorems.proofs.GoodFiles.{files-good, columns-many, choices-good}
 use Rattle.rules_theorems.proofs.LawfulRows.{rows-kept, legs-most}
 use Rattle.rules_theorems.proofs.Ordered.{ordered-keeps, table-length}
 use Rattle.tables_views.specs.View.{offersIn, constraintsIn, configurationsIn}
 use Rattle.verdict.specs.Within.{Timely, Brief, Within}
 use Rattle.verdict.proofs.Written.{verdict-written, within-written}
-
--- rows that do not differ are as many
-same-many : (n : ℕ) (text : List ℕ) (draft solution : List Row) → differsFrom n text draft solution ≡ none → length solution ≡ length draft
-same-many n text [] [] e = refl
-same-many n text [] (b ∷ bs) e = let z : _≡_ {A = ℕ} 0 1 = cc in absurd (omega arith)
-same-many n text (a ∷ r) [] e = let z : _≡_ {A = ℕ} 0 1 = cc in absurd (omega arith)
-same-many n text (a ∷ r) (b ∷ bs) e = go (sameLeg a b) e (same-many (suc n) text r bs)
-  where
-    go : (t : Bool) → cond t (differsFrom (suc n) text r bs) (some (placeOfRow text n)) ≡ none
-        → (differsFrom (suc n) text r bs ≡ none → length bs ≡ length r) → suc (length bs) ≡ suc (length r)
-    go true e more = ap suc (more e)
-    go false e more = let z : _≡_ {A = ℕ} 0 1 = cc in absurd (omega arith)
 
 module _ (H : ℕ) (x : Texts) (room : Rooms) (files : Files) (read : filesOf H x room ≡ good files) where
   abbrev constraintRoom : ℕ
@@ -60,7 +46,7 @@ module _ (H : ℕ) (x : Texts) (room : Rooms) (files : Files) (read : filesOf H 
 
     -- a choice for each row of the draft
     pub choices-many : length s ≡ length (files .rows)
-    choices-many = many ∙ same-many 0 text (files .rows) (solution .rows) (solution .matches)
+    choices-many = many ∙ columns-many (files .rows) (solution .rows) (solution .columns)
 
     timely : All Timely (choicesOf (solution .rows))
     timely =

@@ -66,7 +66,7 @@ fn curves(table: &[i32], h: u32) -> Vec<&[i32]> {
     table.chunks_exact(h as usize).take_while(|curve| curve[0] != NO_POWER).collect()
 }
 
-/// The row at a refusal's file and place, a part of whichever text holds it, without its LF. None where no row starts there.
+/// The row at a refusal's file and place, a part of whichever text holds it, without its line end: LF, or CR LF. None where no row starts there.
 pub fn row_at<'a>(draft: &'a [u8], solution: &'a [u8], file: u8, place: u32) -> Result<Option<&'a [u8]>, Unknown> {
     let text = if file == File::Solution.number() { solution } else { draft };
     let (start, length) = answers::row(exports::row(draft, solution, file, place), text.len())?;

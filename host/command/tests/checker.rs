@@ -137,6 +137,8 @@ fn a_row_is_a_part_of_its_text() {
     assert_eq!(row_at(draft, other, 4, 0), Ok(None));
     assert_eq!(row_at(draft, other, 5, 145), Ok(None));
     assert_eq!(row_at(b"\n\nx", b"", 1, 1), Ok(Some(&b""[..])));
+    assert_eq!(row_at(b"\n\"x\"\r\ny\r", b"", 1, 1), Ok(Some(&b"\"x\""[..])));
+    assert_eq!(row_at(b"\n\"x\"\r\ny\r", b"", 1, 6), Ok(Some(&b"y\r"[..])));
 }
 
 /// No text, and no room at all.

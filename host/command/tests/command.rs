@@ -7,7 +7,7 @@ mod calls;
 #[path = "command/outputs.rs"]
 mod outputs;
 
-use common::{constraints, draft, dwell, solution, HEADER, PROFILES};
+use common::{constraints, draft, dwell, exported, solution, HEADER, PROFILES};
 use std::fs;
 use std::io::Write;
 use std::path::PathBuf;
@@ -494,6 +494,47 @@ fn any_bytes_are_shown_as_words() {
     let object = folder.told(&format!("row --json --file 1 --place {place} t a"), 0);
     let row = format!(r#""row_bytes": "\u00ff\u001b[2J\u000danswer: accepted\u007f", "length": {}, "#, row.len());
     assert!(object.contains(&row), "{object}");
+}
+
+/// A spreadsheet's export is read as the plain files are, and a merge of it is written plain.
+#[test]
+fn exported_files_are_read() {
+    let folder = Folder::new("exported");
+    let accepted = format!("{LABEL}{ACCEPTED}answer: accepted\n");
+    folder.put("t", &exported(&draft()));
+    assert_eq!(folder.told("check --horizon 100 t p c a", 0), accepted);
+    for (name, text) in [("p", PROFILES), ("a", &solution("15_4_7", "40_3_8")), ("b", &solution("10_4_7", "45_3_8"))] {
+        folder.put(name, &exported(text));
+    }
+    assert_eq!(folder.told("check --horizon 100 t p c a", 0), accepted);
+    folder.told("merge --horizon 100 t p c a b --earlier earlier --later later", 0);
+    assert_eq!((folder.get("earlier"), folder.get("later")), (Some(draft()), Some(solution("15_4_7", "45_3_8"))));
+}
+
+/// Quotes are shown as they stand, a CR that goes with its LF is not shown, and any other is seen.
+#[test]
+fn a_row_with_quotes_and_returns_is_shown() {
+    let folder = Folder::new("quoted-row");
+    for (row, shown) in [
+        ("\"1\",1\r\n", r#""1",1"#),
+        ("\"1\n", r#""1"#),
+        ("1\",1\r\r\n", r#"1",1\x0d"#),
+        ("1\r,1\n", r"1\x0d,1"),
+        ("1,1\r", r"1,1\x0d"),
+        ("\r\n", ""),
+        ("\r\r\n", r"\x0d"),
+    ] {
+        folder.put("t", &format!("{HEADER}{row}"));
+        let said = folder.told("check --horizon 100 t p c a", 2);
+        let refused = "refused 4: CSV row breaks its form\nfile: timetable (t), place: 114, line: 2\n";
+        assert_eq!(said, format!("{LABEL}{refused}row: {shown}\nanswer: refused\n"), "{row:?}");
+        for words in ["row --place 114 t", "row --file 1 --place 114 t a"] {
+            assert_eq!(folder.told(words, 0), format!("{LABEL}row: {shown}\n"), "{row:?}");
+        }
+    }
+    folder.put("t", &exported(&draft()).replacen("leg_id", "leg", 1));
+    let said = folder.told("check --horizon 100 t p c a", 2);
+    assert!(said.contains("\nfile: timetable (t), place: 0, line: 1\ntext: \"leg\",\"train_id\",") && !said.contains("\\x"), "{said}");
 }
 
 /// A row is no line of its own.

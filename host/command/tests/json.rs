@@ -4,7 +4,7 @@ mod common;
 
 use common::json::Json;
 use common::schema::Schema;
-use common::{constraints, draft, dwell, solution, HEADER, PROFILES};
+use common::{constraints, draft, dwell, exported, solution, HEADER, PROFILES};
 use std::ffi::OsStr;
 use std::fs;
 use std::os::unix::ffi::OsStrExt;
@@ -310,6 +310,32 @@ fn a_refusal_has_its_place_and_what_is_there() {
         r#"{{"number": 3, "file": {file}, "place": 0, "line": 1, "column": 1, "meaning": "header differs", "text": "leg_id", "text_from": 1, "length": 6}}"#
     );
     is(&object, "refusal", &refusal);
+}
+
+/// Places count every byte, quotes and CRs too; the row's text has its quotes, and a CR only where it is no part of the line's end.
+#[test]
+fn quotes_and_returns_are_in_the_text() {
+    let folder = Folder::new("quotes");
+    folder.put(b"t", exported(&draft()));
+    folder.put(b"a", exported(&draft()).replace("\"40_3_8\"", "\"40_3_8"));
+    let check = "check --json --horizon 100 t p c a";
+    let object = folder.object(check, 2);
+    is(&object, "refusal.number", "4");
+    is(&object, "refusal.place", "175");
+    is(&object, "refusal.line", "3");
+    is(&object, "refusal.row", r#""\"2\",\"1\",\"2\",\"2\",\"3\",\"40_3_8,\"40_3_8 45_3_8\"""#);
+    is(&object, "refusal.length", "43");
+    folder.put(b"a", format!("{HEADER}\"1\"\r\r\n"));
+    let object = folder.object(check, 2);
+    is(&object, "refusal.row", r#""\"1\"\u000d""#);
+    is(&object, "refusal.length", "4");
+    let object = folder.object("row --json --place 175 t", 0);
+    is(&object, "row", r#""\"2\",\"1\",\"2\",\"2\",\"3\",\"40_3_8\",\"40_3_8 45_3_8\"""#);
+    is(&object, "length", "44");
+    folder.put(b"a", exported(&draft()).replace("\"leg_id\"", "\"leg_id"));
+    let object = folder.object(check, 2);
+    is(&object, "refusal.number", "3");
+    assert!(object.at("refusal.text").text().ends_with("\"departure_configurations\""));
 }
 
 #[test]

@@ -1,8 +1,9 @@
-//! An independent program for document 01: it reads the four texts of a metro timetable and
+//! An independent program for document 01, with E1 of document 02: it reads the four texts of a metro timetable and
 //! answers accepted, the first violation, or a numbered refusal.
 //!
 //! It is written from document 01's sentences in their order, and shares no code and no table
-//! with the proved checker it is compared with. Comments quote the sentence they follow.
+//! with the proved checker it is compared with. Comments quote the sentence they follow; one of
+//! document 02 is named by its request.
 
 pub mod answers;
 pub mod constraints;

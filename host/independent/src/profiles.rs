@@ -2,7 +2,7 @@
 
 use crate::answers::{Refusal, Rooms};
 use crate::numbers::{id, Sample, Whole};
-use crate::rows::{parts, Row, Rows};
+use crate::rows::{fields, parts, Row, Rows};
 use std::collections::HashSet;
 
 /// The header of the profiles, without its LF.
@@ -77,7 +77,7 @@ fn row_form<'a>(row: &Row<'a>) -> Option<(Whole<'a>, Vec<Sample<'a>>)> {
     if !row.ended {
         return None;
     }
-    let columns = parts(row.bytes, b',');
+    let columns = fields(row.bytes)?;
     if columns.len() != 2 {
         return None;
     }

@@ -2,7 +2,7 @@
 
 use crate::answers::Refusal;
 use crate::numbers::{id, Whole};
-use crate::rows::{parts, Row, Rows};
+use crate::rows::{fields, parts, Row, Rows};
 use std::collections::HashSet;
 
 /// The header of a timetable file, without its LF.
@@ -124,7 +124,7 @@ fn row_form<'a>(row: &Row<'a>) -> Option<RowForm<'a>> {
     if !row.ended {
         return None;
     }
-    let columns = parts(row.bytes, b',');
+    let columns = fields(row.bytes)?;
     if columns.len() != 7 {
         return None;
     }

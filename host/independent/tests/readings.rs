@@ -196,7 +196,6 @@ fn r10_headers() {
     for bad in [
         header[..113].to_vec(),
         [b"\xef\xbb\xbf", header].concat(),
-        [&header[..113], b"\r\n"].concat(),
         [b" ", header].concat(),
         header[1..].to_vec(),
         PROFILES_HEADER.as_bytes().to_vec(),
@@ -216,7 +215,6 @@ fn r11_line_ends() {
     assert_eq!(draft(&[ROW_1, "\n", ROW_2]), refused(4, 1, 145));
     assert_eq!(draft(&[ROW_1, ROW_2, "\n"]), refused(4, 1, 176));
     assert_eq!(draft(&["\n"]), refused(4, 1, 114));
-    assert_eq!(draft(&["1,1,1,1,2,10_4_7,10_4_7\r\n"]), refused(4, 1, 114));
     assert_eq!(texts.with_profiles(&profiles(&["7,0.5"])).answer(), refused(4, 2, 30));
 }
 
@@ -366,7 +364,6 @@ fn r17_forms_of_timetable_rows() {
         "1,1,1,1,2,10_4,10_4_7\n",
         "1,1,1,1,2,10_4_7_1,10_4_7\n",
         "1,1,1,1,2,10_04_7,10_4_7\n",
-        "1,1,1,1,2,\"10_4_7\",\"10_4_7\"\n",
         "1,1,1,1,2,10_4_7,10_4_7\t15_4_7\n",
         "1,1,1,1,2,10_4_7 10_4_7,10_4_7\n",
     ] {

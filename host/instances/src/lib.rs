@@ -15,3 +15,4 @@ mod text;
 pub use aim::{Aim, Violated};
 pub use plan::{Choices, Leg, Offer, Plan, Record};
 pub use shape::{Ids, Shape, Style};
+pub use text::exported;

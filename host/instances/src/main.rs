@@ -1,19 +1,19 @@
 //! Writes an instance to a folder, with solutions and with one variant for each violation, and prints the answers to expect.
 
-use instances::{Aim, Choices, Ids, Plan, Shape, Style};
+use instances::{exported, Aim, Choices, Ids, Plan, Shape, Style};
 use std::fs;
 use std::path::Path;
 use std::process::ExitCode;
 
 const USAGE: &str = "\
-instances FOLDER [--style underground|railway] [--legs N] [--seed S] [--shuffled]
+instances FOLDER [--style underground|railway] [--legs N] [--seed S] [--shuffled] [--exported]
 
-Without --legs, the largest instance of the style.
+Without --legs, the largest instance of the style. With --exported, CSV files as a spreadsheet exports them: every field in quotes, CR LF at every line.
 ";
 
 fn main() -> ExitCode {
     let words: Vec<String> = std::env::args().skip(1).collect();
-    let ended = asked(&words).ok_or_else(|| String::from(USAGE)).and_then(|(folder, shape)| write(Path::new(folder), shape));
+    let ended = asked(&words).ok_or_else(|| String::from(USAGE)).and_then(|asked| write(&asked));
     match ended {
         Ok(expected) => {
             print!("{expected}");
@@ -26,9 +26,16 @@ fn main() -> ExitCode {
     }
 }
 
-fn asked(words: &[String]) -> Option<(&String, Shape)> {
+/// What the words ask for.
+struct Asked<'a> {
+    folder: &'a Path,
+    shape: Shape,
+    exported: bool,
+}
+
+fn asked(words: &[String]) -> Option<Asked<'_>> {
     let (folder, options) = words.split_first()?;
-    let (mut style, mut legs, mut seed, mut ids) = (Style::Underground, None, 1, Ids::InOrder);
+    let (mut style, mut legs, mut seed, mut ids, mut exported) = (Style::Underground, None, 1, Ids::InOrder, false);
     let mut options = options.iter();
     while let Some(option) = options.next() {
         match option.as_str() {
@@ -36,6 +43,7 @@ fn asked(words: &[String]) -> Option<(&String, Shape)> {
             "--legs" => legs = Some(options.next()?.parse().ok().filter(|legs| *legs > 1)?),
             "--seed" => seed = options.next()?.parse().ok()?,
             "--shuffled" => ids = Ids::Shuffled,
+            "--exported" => exported = true,
             _ => return None,
         }
     }
@@ -44,7 +52,7 @@ fn asked(words: &[String]) -> Option<(&String, Shape)> {
         (None, Style::Underground) => Shape::largest_underground(),
         (None, Style::Railway) => Shape::largest_railway(),
     };
-    Some((folder, shape.seeded(seed).with_ids(ids)))
+    Some(Asked { folder: Path::new(folder), shape: shape.seeded(seed).with_ids(ids), exported })
 }
 
 fn style(name: &str) -> Option<Style> {
@@ -55,25 +63,27 @@ fn style(name: &str) -> Option<Style> {
     }
 }
 
-fn write(folder: &Path, shape: Shape) -> Result<String, String> {
+fn write(asked: &Asked) -> Result<String, String> {
+    let Asked { folder, shape, .. } = *asked;
     let put = |name: &str, text: &str| fs::write(folder.join(name), text).map_err(|error| format!("{name}: {error}\n"));
+    let put_csv = |name: &str, text: &str| if asked.exported { put(name, &exported(text)) } else { put(name, text) };
     fs::create_dir_all(folder).map_err(|error| format!("{}: {error}\n", folder.display()))?;
     let plan = Plan::new(shape);
-    put("timetable.csv", &plan.timetable())?;
-    put("profiles.csv", &plan.profiles_text())?;
+    put_csv("timetable.csv", &plan.timetable())?;
+    put_csv("profiles.csv", &plan.profiles_text())?;
     put("constraints.json", &plan.constraints())?;
     let mut expected = format!("horizon {}\n", plan.horizon());
     for (name, choices) in
         [("moved", Choices::Moved(shape.seed)), ("also-moved", Choices::Moved(shape.seed + 1)), ("faster", Choices::Faster(shape.seed))]
     {
-        put(&format!("{name}.csv"), &plan.solution(&plan.choose(choices)))?;
+        put_csv(&format!("{name}.csv"), &plan.solution(&plan.choose(choices)))?;
         expected.push_str(&format!("constraints.json {name}.csv: accepted\n"));
     }
     for aim in Aim::ALL {
         if let Some(violated) = plan.violated(aim, shape.seed) {
             let name = format!("violated-{}-{}", aim.kind, aim.inequality);
             put(&format!("{name}.json"), &violated.constraints)?;
-            put(&format!("{name}.csv"), &violated.solution)?;
+            put_csv(&format!("{name}.csv"), &violated.solution)?;
             let (kind, inequality, position, shortfall) = (aim.kind, aim.inequality, violated.position, violated.shortfall);
             expected.push_str(&format!(
                 "{name}.json {name}.csv: violated, kind {kind}, position {position}, inequality {inequality}, shortfall {shortfall}\n"

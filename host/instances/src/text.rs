@@ -15,6 +15,20 @@ pub const LISTS: [&str; 5] = [
     "connection_constraints",
 ];
 
+/// A CSV text as a spreadsheet exports it: every field in quotes, CR LF at every line.
+pub fn exported(text: &str) -> String {
+    let mut written = String::with_capacity(text.len() + text.len() / 4);
+    for line in text.lines() {
+        for (place, field) in line.split(',').enumerate() {
+            written.push_str(if place > 0 { ",\"" } else { "\"" });
+            written.push_str(field);
+            written.push('"');
+        }
+        written.push_str("\r\n");
+    }
+    written
+}
+
 /// Writing to a string cannot fail.
 macro_rules! put {
     ($text:expr, $($what:tt)*) => {
@@ -127,6 +141,11 @@ fn megawatts(text: &mut String, kw: i32) {
 
 #[cfg(test)]
 mod tests {
+    #[test]
+    fn every_field_is_exported_in_quotes() {
+        assert_eq!(super::exported("a,b\n1,2 3\n"), "\"a\",\"b\"\r\n\"1\",\"2 3\"\r\n");
+    }
+
     #[test]
     fn samples_are_spelled_short() {
         let spelled: Vec<String> = [0, 5, -400, 1_000, 12_340, -20_000]

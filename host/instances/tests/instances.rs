@@ -1,7 +1,7 @@
 //! Every instance reads, its solutions are accepted, and each aimed violation is the one that is found: by the independent program.
 
 use independent::{check, energy, merge, Answer, Direction, Rooms};
-use instances::{Aim, Choices, Ids, Plan, Shape, Style};
+use instances::{exported, Aim, Choices, Ids, Plan, Shape, Style};
 
 struct Texts {
     h: u32,
@@ -45,6 +45,20 @@ fn solutions_are_accepted() {
         for choices in [Choices::Nominal, Choices::Moved(1), Choices::Moved(2), Choices::Faster(3)] {
             let solution = plan.solution(&plan.choose(choices));
             assert_eq!(texts.check(&texts.constraints, &solution), Answer::Accepted, "{shape:?} {choices:?}");
+        }
+    }
+}
+
+/// As a spreadsheet exports them, the files say the same.
+#[test]
+fn exported_solutions_are_accepted() {
+    for shape in shapes() {
+        let plan = Plan::new(shape);
+        let texts = Texts::of(&plan);
+        let solution = plan.solution(&plan.choose(Choices::Faster(3)));
+        let quoted = Texts { timetable: exported(&texts.timetable), profiles: exported(&texts.profiles), ..Texts::of(&plan) };
+        for solution in [exported(&solution), solution] {
+            assert_eq!(quoted.check(&texts.constraints, &solution), Answer::Accepted, "{shape:?}");
         }
     }
 }

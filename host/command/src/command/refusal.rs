@@ -61,7 +61,7 @@ fn row_shown(row: &[u8]) -> String {
     format!("row, the first {SHOWN} of its {} bytes: {}\n", row.len(), escaped(&row[..SHOWN]))
 }
 
-/// The line that holds a place; both counts from 1.
+/// The line that holds a place, without its line end, LF or CR LF; both counts from 1.
 struct Line<'a> {
     number: usize,
     byte: usize,
@@ -72,6 +72,7 @@ impl Line<'_> {
     fn at(text: &[u8], place: usize) -> Line<'_> {
         let start = text[..place].iter().rposition(|byte| *byte == b'\n').map_or(0, |feed| feed + 1);
         let end = text[place..].iter().position(|byte| *byte == b'\n').map_or(text.len(), |length| place + length);
+        let end = end - usize::from(end < text.len() && text[..end].ends_with(b"\r"));
         let number = 1 + text[..place].iter().filter(|byte| **byte == b'\n').count();
         Line { number, byte: place - start + 1, bytes: &text[start..end] }
     }
@@ -112,6 +113,17 @@ mod tests {
         assert_eq!(at(2), (1, 3, &b"ab"[..]));
         assert_eq!(at(3), (2, 1, &b""[..]));
         assert_eq!(at(5), (3, 2, &b"cde"[..]));
+    }
+
+    /// One CR goes with its LF; another, or one where the text ends, is seen.
+    #[test]
+    fn a_line_ends_before_its_return() {
+        let about = |text: &[u8], place| Line::at(text, place).about();
+        assert_eq!(about(b"ab\r\ncd", 0), "text: ab\n      ^\n");
+        assert_eq!(about(b"ab\r\r\ncd", 1), "text: ab\\x0d\n       ^\n");
+        assert_eq!(about(b"ab\r", 0), "text: ab\\x0d\n      ^\n");
+        assert_eq!(about(b"\r\ncd", 0), "text: \n      ^\n");
+        assert_eq!(Line::at(b"\"a\"\r\n", 0).object(Object::new()).close(), r#"{"text": "\"a\"", "text_from": 1, "length": 3}"#);
     }
 
     /// From where it is shown, how many bytes, and where the mark stands among them.

@@ -21,6 +21,11 @@ pub fn draft() -> String {
     solution("10_4_7", "40_3_8")
 }
 
+/// A text as a spreadsheet exports it: every field in quotes, CR LF at every line.
+pub fn exported(text: &str) -> String {
+    text.lines().map(|line| format!("\"{}\"\r\n", line.replace(',', "\",\""))).collect()
+}
+
 pub fn dwell(seconds: u32) -> String {
     let record = format!(r#"{{"first_leg_id": 1, "second_leg_id": 2, "min_dwell_time": {seconds}}}"#);
     constraints("dwell_time_constraints", &record)

@@ -44,7 +44,7 @@ pub fn draw(random: &mut Random, target: Target, merging: bool) -> Damage {
 }
 
 /// Every damage.
-const ANY: [Damage; 44] = [
+const ANY: [Damage; 46] = [
     P(unknown_profile),
     P(sample_count_changed),
     P(leg_id_repeated),
@@ -84,6 +84,8 @@ const ANY: [Damage; 44] = [
     T(line_duplicated),
     T(line_end_changed),
     T(header_changed),
+    T(mark_damaged),
+    T(put_within_quotes),
     T(white_space_changed),
     T(string_spoiled),
     T(digits_changed),
@@ -116,7 +118,7 @@ fn likely(target: Target) -> Vec<Damage> {
 fn likely_refused(number: u32, file: u32) -> Vec<Damage> {
     match number {
         1 => vec![T(horizon_changed)],
-        3 => vec![T(header_changed), T(truncated), T(emptied), T(line_end_changed)],
+        3 => vec![T(header_changed), T(truncated), T(emptied), T(line_end_changed), T(mark_damaged)],
         4 => vec![
             T(byte_deleted),
             T(byte_inserted),
@@ -124,6 +126,8 @@ fn likely_refused(number: u32, file: u32) -> Vec<Damage> {
             T(bytes_swapped),
             T(truncated),
             T(line_end_changed),
+            T(mark_damaged),
+            T(put_within_quotes),
             T(digits_changed),
             P(csv_number_changed),
         ],

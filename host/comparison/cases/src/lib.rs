@@ -6,8 +6,10 @@ pub mod draw;
 pub mod edges;
 pub mod examples;
 mod plan;
+pub mod quotes;
 pub mod random;
 mod rows;
+pub mod spelling;
 mod sweep;
 pub mod target;
 
@@ -112,7 +114,8 @@ mod tests {
 
     #[test]
     fn a_round_of_the_sweep_damages_each_byte() {
-        let bytes: usize = Plan::of_every_kind().case().texts.iter().map(Vec::len).sum();
+        let plain = Plan::of_every_kind().case();
+        let bytes: usize = plain.texts.iter().chain(&spelling::all_exported(plain.clone()).texts).map(Vec::len).sum();
         let turns = bytes * TURNS / SWEPT + TURNS;
         let names = calls(9, 0..turns, &[Entry::Check, Entry::Row]);
         let places = |named: &Named| named.name.split(' ').take(5).collect::<Vec<_>>().join(" ");
@@ -173,7 +176,7 @@ mod tests {
     #[test]
     fn seeded_peaks_lie_in_later_quarters_and_some_quarters_are_equal() {
         let (mut later, mut equal) = (0, 0);
-        for case in cases(15, 3_000).iter().filter(|case| (1_800..=2_700).contains(&case.h)) {
+        for case in cases(16, 3_000).iter().filter(|case| (1_800..=2_700).contains(&case.h)) {
             let report = case.energy();
             let curves = report.curves.unwrap_or_default();
             let drawn = |second: usize| -> i64 { curves.iter().skip(second).step_by(case.h as usize).map(|p| i64::from(*p).max(0)).sum() };

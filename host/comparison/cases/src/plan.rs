@@ -2,6 +2,7 @@
 //! be written, so that a damage may put anything there.
 
 use crate::random::Random;
+use crate::spelling::spell;
 use independent::{profiles, timetable, Case, Rooms};
 
 /// A row of a timetable file.
@@ -157,17 +158,19 @@ impl Plan {
         drawn_plan(random, scale)
     }
 
-    /// The case with everything written compactly and ample room.
+    /// The case with everything written compactly and plainly, and ample room.
     pub fn case(&self) -> Case {
         let mut plain = Random::seeded(0);
         self.written(&mut plain, 0, 1_000)
     }
 
-    /// The case in some style of white space and with room that is hardly more than enough.
+    /// The case in some style of white space, its CSV texts in some spelling, and with room that is hardly more than enough.
     pub fn case_with(&self, random: &mut Random) -> Case {
         let style = random.below(6);
         let more = if random.one_in(2) { 0 } else { random.below(20) };
-        self.written(random, style, more)
+        let mut case = self.written(random, style, more);
+        spell(&mut case, random);
+        case
     }
 
     fn written(&self, random: &mut Random, style: usize, more: usize) -> Case {

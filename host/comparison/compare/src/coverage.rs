@@ -1,5 +1,6 @@
 //! How often each answer was met, as tables; a cell that an input can reach must not be empty.
 
+use crate::marks;
 use cases::target::{is_merge, targets, Target, FILES, INEQUALITIES};
 use independent::{Answer, Call, Case, Entry, Said};
 use std::collections::BTreeMap;
@@ -63,10 +64,14 @@ pub struct Coverage {
     rooms: [usize; 10],
     shown: BTreeMap<Shown, usize>,
     peaks: BTreeMap<Peaked, usize>,
+    marks: BTreeMap<marks::Cell, usize>,
 }
 
 impl Coverage {
     pub fn count(&mut self, call: &Call, said: &Said) {
+        for cell in marks::met(call, said) {
+            *self.marks.entry(cell).or_default() += 1;
+        }
         match (said, said.answer()) {
             (_, Some(answer)) => {
                 *self.answers.entry((call.entry, Target::of(answer))).or_default() += 1;
@@ -151,6 +156,9 @@ impl Coverage {
         for (cell, count) in &other.peaks {
             *self.peaks.entry(*cell).or_default() += count;
         }
+        for (cell, count) in &other.marks {
+            *self.marks.entry(*cell).or_default() += count;
+        }
         for (room, count) in other.rooms.iter().enumerate() {
             self.rooms[room] += count;
         }
@@ -187,6 +195,7 @@ impl Coverage {
                 empty.push(format!("peaks: {name}"));
             }
         }
+        empty.extend(marks::cells(entries).into_iter().filter(|(cell, _)| !self.marks.contains_key(cell)).map(|(_, name)| name));
         empty
     }
 
@@ -229,6 +238,27 @@ impl Coverage {
                 write!(out, "{cell:>8}")?;
             }
             writeln!(out)?;
+        }
+        Ok(())
+    }
+
+    /// What quotes and CR LF did.
+    fn marks(&self, out: &mut fmt::Formatter) -> fmt::Result {
+        let count = |cell: marks::Cell| self.marks.get(&cell).copied().unwrap_or_default();
+        write!(out, "{:30}", "quotes and CR LF")?;
+        for file in marks::files() {
+            write!(out, "{:>8}", format!("file {file}"))?;
+        }
+        writeln!(out)?;
+        for (met, name) in marks::IN_FILE {
+            write!(out, "{name:30}")?;
+            for file in marks::files() {
+                write!(out, "{:>8}", count(marks::Cell::OfFile(met, file)))?;
+            }
+            writeln!(out)?;
+        }
+        for (met, name) in marks::IN_CALL {
+            writeln!(out, "{name:54}{:>8}", count(marks::Cell::OfCall(met)))?;
         }
         Ok(())
     }
@@ -318,6 +348,7 @@ impl fmt::Display for Coverage {
         }
         writeln!(out, "  * {LARGER}")?;
         self.violations(out)?;
+        self.marks(out)?;
         for (room, name) in ROOMS.iter().enumerate() {
             writeln!(out, "16 for want of room for {name:16}{:>6}", self.rooms[room])?;
         }

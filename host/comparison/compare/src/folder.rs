@@ -2,6 +2,7 @@
 //! checked and its energies reckoned; each is merged with the one before it.
 
 use crate::executor::{compared, Executor};
+use independent::rows::fields;
 use independent::{Call, Case, Direction, Entry, Rooms};
 use std::collections::HashMap;
 use std::path::{Path, PathBuf};
@@ -115,22 +116,31 @@ fn listed(folder: &Path) -> Result<Vec<PathBuf>, String> {
     Ok(paths)
 }
 
-/// The draft's rows with a solution's choices in them; none where the text is no solution with two columns, or not of every leg.
+/// The draft's rows, without quotes, with a solution's choices in them; none where the text is no solution with two columns, or not of every leg.
 fn put_into(draft: &[u8], solution: &[u8]) -> Option<Vec<u8>> {
-    let mut lines = std::str::from_utf8(solution).ok()?.lines();
-    if lines.next()? != CHOICES {
+    let mut rows = contents(solution)?.into_iter();
+    if rows.next()?.join(",") != CHOICES {
         return None;
     }
-    let chosen: HashMap<&str, &str> = lines.map(|line| line.split_once(',')).collect::<Option<_>>()?;
-    let mut rows = std::str::from_utf8(draft).ok()?.lines();
-    let mut text = format!("{}\n", rows.next()?);
-    for row in rows {
-        let mut columns: Vec<&str> = row.split(',').collect();
+    let chosen: HashMap<&str, &str> =
+        rows.map(|row| <[&str; 2]>::try_from(row).ok().map(|[leg, choice]| (leg, choice))).collect::<Option<_>>()?;
+    let mut rows = contents(draft)?.into_iter();
+    let mut text = format!("{}\n", rows.next()?.join(","));
+    for mut columns in rows {
         *columns.get_mut(NOMINAL)? = chosen.get(columns[0])?;
         text.push_str(&columns.join(","));
         text.push('\n');
     }
     Some(text.into_bytes())
+}
+
+/// The contents of each line's fields, the header's too.
+fn contents(text: &[u8]) -> Option<Vec<Vec<&str>>> {
+    std::str::from_utf8(text).ok()?.lines().map(line_contents).collect()
+}
+
+fn line_contents(line: &str) -> Option<Vec<&str>> {
+    fields(line.as_bytes())?.into_iter().map(|field| std::str::from_utf8(field).ok()).collect()
 }
 
 /// The call with just the room that it needs; where it is refused, a number of room for each byte, which is more than any text can fill.
@@ -164,12 +174,15 @@ fn text_length(case: &Case, direction: Direction) -> usize {
 #[cfg(test)]
 mod tests {
     use super::*;
+    use cases::spelling::exported;
 
     #[test]
     fn choices_are_put_into_the_draft() {
         let draft = b"head\n1,1,1,1,2,10_4_7,10_4_7 15_4_7\n2,1,2,2,3,40_3_8,40_3_8 45_3_8\n";
         let put = put_into(draft, b"leg_id,departure_configuration\n2,45_3_8\n1,15_4_7\n").unwrap();
         assert_eq!(put, b"head\n1,1,1,1,2,15_4_7,10_4_7 15_4_7\n2,1,2,2,3,45_3_8,40_3_8 45_3_8\n");
+        let exported = put_into(&exported(draft), b"\"leg_id\",\"departure_configuration\"\r\n\"2\",45_3_8\r\n1,\"15_4_7\"\r\n").unwrap();
+        assert_eq!(exported, put);
         assert_eq!(put_into(draft, b"leg_id,departure_configuration\n2,45_3_8\n"), None);
         assert_eq!(put_into(draft, draft), None);
     }

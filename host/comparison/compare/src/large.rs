@@ -2,6 +2,7 @@
 
 use crate::executor::{compared, Executor};
 use cases::examples::worked;
+use cases::spelling::exported;
 use independent::{Call, Case, Entry, Rooms};
 
 // Document 01, "Sizes".
@@ -14,6 +15,12 @@ const SAMPLED: usize = 3_600;
 const SAMPLES: usize = 1_048_576;
 const CONSTRAINTS: usize = 65_536;
 const TRACKS: usize = 4_096;
+const LONGEST_HORIZON: u32 = 176_400;
+
+/// The least numbers with as many digits as an id, a departure and a travel time may have.
+const LONG_ID: usize = 100_000_000;
+const LONG_DEPARTURE: usize = 100_000;
+const LONG_TRAVEL: usize = 1_000;
 
 /// The texts of a case by their places.
 const TIMETABLE: usize = 0;
@@ -59,6 +66,7 @@ fn edges() -> Vec<Edge> {
         edge("legs of a solution", |past| solved(Entry::Check, LEGS, LEGS + past)),
         edge("legs of a second solution", |past| solved(Entry::MergeEarlier, LEGS, LEGS + past)),
         edge("configurations", |past| listed(CONFIGURATIONS / LISTED, past)),
+        edge("legs and configurations in quotes", longest),
         edge("profiles", |past| example(Entry::Check, PROFILE_TEXT, profiles(&[1].repeat(PROFILES - 2 + past)))),
         edge("samples", |past| example(Entry::Check, PROFILE_TEXT, sampled(SAMPLES + past))),
         edge("constraints", |past| constrained(CONSTRAINTS + past)),
@@ -134,6 +142,22 @@ fn listed(legs: usize, more: usize) -> Call {
     solved_by(Entry::Check, &draft, &draft)
 }
 
+/// The longest legal timetable as its own solution: as many legs and configurations as there may be, in the longest numbers, as a spreadsheet exports it; and so
+/// many rows more.
+fn longest(more: usize) -> Call {
+    let configuration = format!("{LONG_DEPARTURE}_{LONG_TRAVEL}_{LONG_ID}");
+    let list = vec![configuration.as_str(); CONFIGURATIONS / LEGS].join(" ");
+    let row = |leg: usize| format!("{leg},{LONG_ID},{LONG_ID},{LONG_ID},{LONG_ID},{configuration},{list}\n");
+    let plain = (LONG_ID..LONG_ID + LEGS + more).map(row).fold(String::from(HEADER), |text, row| text + &row);
+    let mut call = example(Entry::Check, CONSTRAINT_TEXT, constraints("", &LONG_ID.to_string()));
+    call.case.h = LONGEST_HORIZON;
+    call.case.texts[TIMETABLE] = exported(plain.as_bytes());
+    call.case.texts[SOLUTION] = call.case.texts[TIMETABLE].clone();
+    call.case.texts[PROFILE_TEXT] =
+        format!("profile_id,power_consumptions\n{LONG_ID},{}\n", vec!["0.1"; LONG_TRAVEL].join(" ")).into_bytes();
+    call
+}
+
 /// The example's two profiles, and one more of so many samples for each length.
 fn profiles(lengths: &[usize]) -> Vec<u8> {
     let mut text = String::from("profile_id,power_consumptions\n7,0.5 1.0 0.25 -0.4\n8,0.3 0.0 -0.2\n");
@@ -176,6 +200,14 @@ mod tests {
     use super::*;
     use crate::expected::line;
     use independent::Answer;
+
+    /// In quotes a legal timetable is at most so long.
+    #[test]
+    fn the_longest_timetable_is_the_longest() {
+        let call = longest(0);
+        assert_eq!(call.case.texts[TIMETABLE].len(), 25_919_617);
+        assert_eq!(line(&call).0.answer(), Some(Answer::Accepted));
+    }
 
     /// Each edge is where it is said to be: one more is refused for the limit's own sake, and the most is not.
     #[test]

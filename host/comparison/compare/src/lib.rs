@@ -10,5 +10,6 @@ pub mod folder;
 pub mod input;
 pub mod large;
 pub mod lines;
+pub mod marks;
 pub mod saved;
 pub mod spread;

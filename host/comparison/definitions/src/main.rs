@@ -5,7 +5,9 @@
 //! `definitions SEED COUNT DIR` writes `DIR/Lib.antt` and a module for each ten cases.
 
 use cases::draw::for_target;
+use cases::quotes;
 use cases::random::Random;
+use cases::spelling::CSV;
 use cases::target::{targets, Target};
 use cases::Scale;
 use independent::{Call, Case, Entry, Lent, Said};
@@ -44,44 +46,69 @@ fn run(words: &[String]) -> Result<String, String> {
     };
     let seed = seed.parse().map_err(|_| format!("no seed: {seed}"))?;
     let count = count.parse().map_err(|_| format!("no count: {count}"))?;
-    let cases: Vec<(Entry, Case)> = (0..count).map(|number| drawn(seed, number)).collect();
+    let calls: Vec<Call> = (0..count).map(|number| drawn(seed, number)).collect();
     let mut statements = 0;
     let mut modules = String::new();
-    for (number, group) in cases.chunks(CASES_A_MODULE).enumerate() {
+    for (number, group) in calls.chunks(CASES_A_MODULE).enumerate() {
         let mut text = String::from(HEAD);
-        for (place, (entry, case)) in group.iter().enumerate() {
-            statements += state(*entry, case, number * CASES_A_MODULE + place, &mut text);
+        for (place, call) in group.iter().enumerate() {
+            statements += state(call, number * CASES_A_MODULE + place, &mut text);
         }
         write(dir, &format!("Cases{number}.antt"), &text)?;
         let _ = writeln!(modules, "pub mod Cases{number}");
     }
     write(dir, "Lib.antt", &modules)?;
-    Ok(format!("{statements} statements of {count} cases"))
+    let quoted = calls.iter().filter(|call| is_marked(&call.case)).count();
+    Ok(format!("{statements} statements of {count} cases, {quoted} of them with quotes or CR LF"))
+}
+
+/// Whether a CSV text of the case has a quote or a CR.
+fn is_marked(case: &Case) -> bool {
+    CSV.iter().any(|text| case.texts[*text].iter().any(|byte| matches!(byte, b'"' | b'\r')))
 }
 
 fn write(dir: &str, name: &str, text: &str) -> Result<(), String> {
     std::fs::write(Path::new(dir).join(name), text).map_err(|e| format!("{name}: {e}"))
 }
 
-/// The case of a number: of each ten one is a merge, with its energies too, and one an energy.
-fn drawn(seed: u64, number: usize) -> (Entry, Case) {
+/// The call of a number: of each ten one is a merge, with its energies too, one an energy, and two have quotes and CR LF at their edges.
+fn drawn(seed: u64, number: usize) -> Call {
+    let mut random = Random::of(seed, number as u64);
     let entry = match number % CASES_A_MODULE {
         9 => Entry::MergeEarlier,
         4 => Entry::Energy,
+        2 | 7 => return random.pick(&quotes::calls()).call.clone(),
         _ => Entry::Check,
     };
-    let mut random = Random::of(seed, number as u64);
     let targets = targets(entry);
     loop {
         let target = if entry == Entry::Energy { Target::Accepted } else { *random.pick(&targets) };
         if let Some(case) = for_target(&mut random, entry, target, Scale::Tiny) {
-            return (entry, case);
+            return Call::of(entry, case);
         }
     }
 }
 
-/// The statements of one case; how many there are. Each says the answer and every lent room, whole.
-fn state(entry: Entry, case: &Case, number: usize, text: &mut String) -> usize {
+/// The statements of one call; how many there are. Each says the answer and every lent room, whole, or the row that is shown.
+fn state(call: &Call, number: usize, text: &mut String) -> usize {
+    let Call { entry, case, file, place } = call;
+    let mut count = 0;
+    let mut claim = |name: &str, left: String, right: Vec<i64>| {
+        let right = spelled(&right);
+        let _ = write!(text, "{name}{number} : {left} ≡ {right}\nunfolding computed\n{name}{number} = refl\n\n");
+        count += 1;
+    };
+    if *entry == Entry::Row {
+        let left = format!("rowAt {} {} {file} {place}", bytes(&case.texts[0]), bytes(&case.texts[3]));
+        claim("row", left, call.row_bytes().iter().map(|byte| i64::from(*byte)).collect());
+    } else {
+        state_answers(*entry, case, &mut claim);
+    }
+    count
+}
+
+/// The same of an entry that judges.
+fn state_answers(entry: Entry, case: &Case, claim: &mut dyn FnMut(&str, String, Vec<i64>)) {
     let [timetable, profiles, constraints, solution, second] = &case.texts;
     let (solution, second) = (bytes(solution), bytes(second));
     let texts = format!("(texts {} {} {})", bytes(timetable), bytes(profiles), bytes(constraints));
@@ -89,12 +116,6 @@ fn state(entry: Entry, case: &Case, number: usize, text: &mut String) -> usize {
     let six: Vec<String> = rooms.numbers()[..6].iter().map(usize::to_string).collect();
     let input = format!("{} {texts} {solution}", case.h);
     let lent = format!("(lent {}) (nines {})", six.join(" "), rooms.choices);
-    let mut count = 0;
-    let mut claim = |name: &str, left: String, right: Vec<i64>| {
-        let right = spelled(&right);
-        let _ = write!(text, "{name}{number} : {left} ≡ {right}\nunfolding computed\n{name}{number} = refl\n\n");
-        count += 1;
-    };
     let (said, left) = answered(Entry::Check, case);
     claim("check", format!("checkSays (checked {input} {lent})"), [said, tables(&left)].concat());
     if entry != Entry::Check && case.h <= LONGEST_HORIZON {
@@ -115,7 +136,6 @@ fn state(entry: Entry, case: &Case, number: usize, text: &mut String) -> usize {
             claim(name, format!("mergeSays (merged {name} {input} {second} {lent} {rest})"), expected);
         }
     }
-    count
 }
 
 /// What the independent program answers, and what it leaves in rooms full of nines.
@@ -165,12 +185,13 @@ fn bytes(text: &[u8]) -> String {
 
 /// A list in the prover's words; a text that can be written as one is.
 fn spelled(list: &[i64]) -> String {
-    let text = list.len() > 9 && list.iter().all(|&b| b == 10 || (32..127).contains(&b));
+    let text = list.len() > 9 && list.iter().all(|&b| b == 10 || b == 13 || (32..127).contains(&b));
     if text {
         let mut quoted = String::new();
         for &b in list {
             match b as u8 {
                 b'\n' => quoted.push_str("\\n"),
+                b'\r' => quoted.push_str("\\r"),
                 b'"' => quoted.push_str("\\\""),
                 b'\\' => quoted.push_str("\\\\"),
                 plain => quoted.push(plain as char),

@@ -8,12 +8,15 @@ mod instance;
 mod proved;
 
 use instance::{Dice, Lists, H};
+use instances::exported;
 use std::time::Duration;
 use yardstick::{self as plain, clock, Said};
 
 const SEED: u64 = 1;
 const RUNS: usize = 25;
 const EDITS: u32 = 4_000;
+/// What is put in or changed to.
+const BYTES: &[u8] = b"0123456789_,.- \n\"\r";
 
 /// The tables of a reading, with all the room that a text may need.
 #[derive(Clone, PartialEq)]
@@ -80,7 +83,7 @@ fn same_refusals(name: &str, text: &[u8], plain: Reader, proved: Reader) {
     for _ in 0..EDITS {
         let mut edited = few.to_vec();
         let at = dice.below(few.len() as u32) as usize;
-        let byte = b"0123456789_,.- \n"[dice.below(16) as usize];
+        let byte = BYTES[dice.below(BYTES.len() as u32) as usize];
         match dice.below(3) {
             0 => edited[at] = byte,
             1 => edited.insert(at, byte),
@@ -149,10 +152,13 @@ fn main() {
     let regular = instance::timetables(SEED, Lists::Regular);
     let random = instance::timetables(SEED, Lists::Random);
     let profiles = instance::profiles(SEED);
-    let cases: [(&str, &[u8], Reader, Reader); 3] = [
+    let [quoted_timetable, quoted_profiles] = [&regular.draft, &profiles].map(|text| exported(text));
+    let cases: [(&str, &[u8], Reader, Reader); 5] = [
         ("timetable", regular.draft.as_bytes(), plain_timetable, proved_timetable),
         ("timetable, random lengths", random.draft.as_bytes(), plain_timetable, proved_timetable),
         ("profiles", profiles.as_bytes(), plain_profiles, proved_profiles),
+        ("timetable, quoted", quoted_timetable.as_bytes(), plain_timetable, proved_timetable),
+        ("profiles, quoted", quoted_profiles.as_bytes(), plain_profiles, proved_profiles),
     ];
     for (name, text, plain, proved) in cases {
         same_answers(name, text, plain, proved);
@@ -165,7 +171,7 @@ fn main() {
         measure(name, text, plain, proved, runs);
     }
     measure_plain_solution(regular.solution.as_bytes(), runs);
-    let [(_, timetable, _, timetable_reader), _, (_, profiles, _, profiles_reader)] = cases;
+    let [(_, timetable, _, timetable_reader), _, (_, profiles, _, profiles_reader), ..] = cases;
     let times = (refused(timetable, timetable_reader, runs), refused(profiles, profiles_reader, runs));
     println!("\nRefused in the first row, proved: timetable {:.3} ms, profiles {:.3} ms.", times.0, times.1);
 }

@@ -47,15 +47,66 @@ pub struct Bytes<'a> {
 }
 
 impl<'a> Bytes<'a> {
-    /// A text that is not too long, behind its header.
-    fn behind(text: &'a [u8], head: &[u8]) -> Result<Bytes<'a>, Said> {
+    /// A text that is not too long, behind its header, whose names may stand in quotes.
+    fn behind(text: &'a [u8], names: &str) -> Result<Bytes<'a>, Said> {
         if text.len() > MOST_TEXT {
             return Err(Said::Refused(TOO_LONG, 0));
         }
-        if !text.starts_with(head) {
-            return Err(Said::Refused(HEADER, 0));
+        let mut bytes = Bytes { text, at: 0 };
+        bytes.header(names).ok_or(Said::Refused(HEADER, 0))?;
+        Ok(bytes)
+    }
+
+    fn header(&mut self, names: &str) -> Option<()> {
+        let mut byte = b',';
+        for name in names.split(',') {
+            if byte != b',' {
+                return None;
+            }
+            let quoted = self.quote();
+            self.at += self.text[self.at..].starts_with(name.as_bytes()).then_some(name.len())?;
+            byte = self.behind_field(quoted)?;
         }
-        Ok(Bytes { text, at: head.len() })
+        self.ends(byte).then_some(())
+    }
+
+    /// Whether a quote stands here; it is passed.
+    #[inline(always)]
+    fn quote(&mut self) -> bool {
+        let is_there = self.text.get(self.at) == Some(&b'"');
+        self.at += usize::from(is_there);
+        is_there
+    }
+
+    /// The byte behind a field, or behind its closing quote.
+    #[inline(always)]
+    fn behind_field(&mut self, quoted: bool) -> Option<u8> {
+        let byte = self.next()?;
+        self.behind_quote(byte, quoted)
+    }
+
+    /// The same where that byte has been read, which is the quote of a quoted field.
+    #[inline(always)]
+    fn behind_quote(&mut self, byte: u8, quoted: bool) -> Option<u8> {
+        match (quoted, byte) {
+            (false, byte) => Some(byte),
+            (true, b'"') => self.next(),
+            _ => None,
+        }
+    }
+
+    /// Whether the line ends with this byte, LF or a CR before it.
+    #[inline(always)]
+    fn ends(&mut self, byte: u8) -> bool {
+        byte == b'\n' || byte == b'\r' && self.next() == Some(b'\n')
+    }
+
+    /// A field that is a whole number, and the comma behind it.
+    #[inline(always)]
+    fn number_field(&mut self) -> Option<u32> {
+        let quoted = self.quote();
+        let value = self.whole()?;
+        (self.behind_field(quoted)? == b',').then_some(value)
     }
 
     #[inline(always)]

@@ -3,7 +3,7 @@
 use super::*;
 use crate::ids::Seen;
 
-const HEAD: &[u8] = b"profile_id,power_consumptions\n";
+const NAMES: &str = "profile_id,power_consumptions";
 const MOST_ROWS: u32 = 16_384;
 const MOST_LIST: u32 = 3_600;
 const MOST_SAMPLES: u32 = 1_048_576;
@@ -33,7 +33,7 @@ impl Bytes<'_> {
 }
 
 pub fn read(text: &[u8], profiles: &mut [u32], samples: &mut [i32]) -> Said {
-    let mut bytes = match Bytes::behind(text, HEAD) {
+    let mut bytes = match Bytes::behind(text, NAMES) {
         Ok(bytes) => bytes,
         Err(refused) => return refused,
     };
@@ -41,12 +41,13 @@ pub fn read(text: &[u8], profiles: &mut [u32], samples: &mut [i32]) -> Said {
     while bytes.at < text.len() {
         let place = bytes.at as u32;
         let refused = |number| Said::Refused(number, place);
-        let id = match bytes.closed(b',') {
+        let id = match bytes.number_field() {
             Some(id) => id,
             None => return refused(FORM),
         };
         let mut in_range = id <= MOST_ID;
         let mut count = 0;
+        let quoted = bytes.quote();
         loop {
             let (negative, kw, byte) = match bytes.sample() {
                 Some(sample) => sample,
@@ -60,10 +61,11 @@ pub fn read(text: &[u8], profiles: &mut [u32], samples: &mut [i32]) -> Said {
                 in_range = false;
             }
             count += 1;
-            match byte {
-                b' ' => {}
-                b'\n' => break,
-                _ => return refused(FORM),
+            if byte != b' ' {
+                match bytes.behind_quote(byte, quoted) {
+                    Some(last) if bytes.ends(last) => break,
+                    _ => return refused(FORM),
+                }
             }
         }
         if !in_range {

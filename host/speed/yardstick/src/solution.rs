@@ -1,6 +1,6 @@
 //! A solution by hand: 3 numbers a row, its nominal. Its list is tested and not kept.
 
-use super::timetable::HEAD;
+use super::timetable::NAMES;
 use super::*;
 use crate::ids::Seen;
 
@@ -9,7 +9,7 @@ pub const IDS: usize = 5;
 
 /// The counts are those of its rows and of its entries. `ids` gets the first five columns of each row.
 pub fn read(text: &[u8], h: u32, choices: &mut [u32], ids: &mut Vec<u32>) -> Said {
-    let mut bytes = match Bytes::behind(text, HEAD) {
+    let mut bytes = match Bytes::behind(text, NAMES) {
         Ok(bytes) => bytes,
         Err(refused) => return refused,
     };

@@ -3,8 +3,7 @@
 use super::*;
 use crate::ids::Seen;
 
-pub const HEAD: &[u8] =
-    b"leg_id,train_id,track_id,start_station_id,end_station_id,nominal_departure_configuration,departure_configurations\n";
+pub const NAMES: &str = "leg_id,train_id,track_id,start_station_id,end_station_id,nominal_departure_configuration,departure_configurations";
 const MOST_ROWS: u32 = 32_768;
 const MOST_LIST: u32 = 64;
 const MOST_ENTRIES: u32 = 1_048_576;
@@ -51,9 +50,14 @@ impl Bytes<'_> {
     pub fn row(&mut self, h: u32, mut keep: impl FnMut(u32, Entry)) -> Option<Row> {
         let mut ids = [0; 5];
         for id in &mut ids {
-            *id = self.closed(b',')?;
+            *id = self.number_field()?;
         }
-        let nominal = (self.closed(b'_')?, self.closed(b'_')?, self.closed(b',')?);
+        let quoted = self.quote();
+        let nominal = (self.closed(b'_')?, self.closed(b'_')?, self.whole()?);
+        if self.behind_field(quoted)? != b',' {
+            return None;
+        }
+        let quoted = self.quote();
         let mut entries = 0;
         let mut before = None;
         let mut in_range = fits(h, nominal) && ids.iter().all(|id| *id <= MOST_ID);
@@ -68,17 +72,16 @@ impl Bytes<'_> {
             }
             keep(entries, entry);
             entries += 1;
-            match byte {
-                b' ' => {}
-                b'\n' => return Some(Row { ids, nominal, entries, before: before.unwrap_or(entries), in_range }),
-                _ => return None,
+            if byte != b' ' {
+                let last = self.behind_quote(byte, quoted)?;
+                return self.ends(last).then_some(Row { ids, nominal, entries, before: before.unwrap_or(entries), in_range });
             }
         }
     }
 }
 
 pub fn read(text: &[u8], h: u32, legs: &mut [u32], configurations: &mut [u32]) -> Said {
-    let mut bytes = match Bytes::behind(text, HEAD) {
+    let mut bytes = match Bytes::behind(text, NAMES) {
         Ok(bytes) => bytes,
         Err(refused) => return refused,
     };

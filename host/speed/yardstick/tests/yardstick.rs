@@ -1,7 +1,7 @@
 //! A yardstick that measures something else is none: it gives the independent program's tables, verdicts and figures.
 
 use independent::{check, energy, Answer, Rooms};
-use instances::{Aim, Choices, Ids, Plan, Shape, Style};
+use instances::{exported, Aim, Choices, Ids, Plan, Shape, Style};
 use yardstick::energy::Figures;
 use yardstick::verdict::Violation;
 use yardstick::whole::{Stopped, Tables, Texts};
@@ -22,12 +22,15 @@ fn shapes() -> Vec<Shape> {
     shapes
 }
 
+/// The CSV files as they are, and as a spreadsheet exports them.
+const SPELLINGS: [fn(String) -> String; 2] = [|text| text, |text| exported(&text)];
+
 #[test]
 fn good_files() {
-    for shape in shapes() {
+    for (shape, spelled) in shapes().into_iter().flat_map(|shape| SPELLINGS.map(|spelled| (shape, spelled))) {
         let plan = Plan::new(shape);
-        let (timetable, profiles, constraints) = (plan.timetable(), plan.profiles_text(), plan.constraints());
-        let solution = plan.solution(&plan.choose(Choices::Faster(7)));
+        let (timetable, profiles, constraints) = (spelled(plan.timetable()), spelled(plan.profiles_text()), plan.constraints());
+        let solution = spelled(plan.solution(&plan.choose(Choices::Faster(7))));
         let (timetable, profiles, constraints, solution) =
             (timetable.as_bytes(), profiles.as_bytes(), constraints.as_bytes(), solution.as_bytes());
         let mut tables = tables();
@@ -80,31 +83,43 @@ fn violations() {
 
 /// About how many bytes of each text are changed.
 const PLACES: usize = 100;
+/// Each of them into these. The constraints' reader is for good files, and looks for no sign that stands elsewhere.
+const CSV_BYTES: &[u8] = b"_\"\r,";
+const JSON_BYTES: &[u8] = b"_";
+const JSON: usize = 2;
 
 /// It stops where the independent program refuses, and at the same file: each text in turn with one byte changed.
 #[test]
 fn files_that_are_not_good() {
     let plan = Plan::new(Shape::of(Style::Underground, 12));
-    let good = [plan.timetable(), plan.profiles_text(), plan.constraints(), plan.timetable()].map(String::into_bytes);
     let mut tables = tables();
     let mut stopped = 0;
-    for file in 0..good.len() {
-        for at in (0..good[file].len()).step_by(good[file].len() / PLACES) {
-            let mut texts = good.clone();
-            texts[file][at] = b'_';
-            let [timetable, profiles, constraints, solution] = &texts;
-            let said = tables.check(plan.horizon(), &Texts { timetable, profiles, constraints, solution });
-            let its = check(plan.horizon(), timetable, profiles, constraints, solution, &Rooms::all(67_108_864)).answer;
-            let expected = match its {
-                Answer::Accepted => Ok(None),
-                Answer::Violated { kind, position, inequality, shortfall, .. } => {
-                    Ok(Some(Violation { kind, position, inequality, shortfall: shortfall as u32 }))
-                }
-                Answer::Refused { file, .. } => Err(Stopped(file as u8)),
-            };
-            assert_eq!(said, expected, "file {file}, byte {at}");
-            stopped += usize::from(said.is_err());
+    for spelled in SPELLINGS {
+        let [timetable, profiles] = [plan.timetable(), plan.profiles_text()].map(|text| spelled(text).into_bytes());
+        let good = [timetable.clone(), profiles, plan.constraints().into_bytes(), timetable];
+        for (file, text) in good.iter().enumerate() {
+            let places = (0..text.len()).step_by(text.len() / PLACES).chain(0..PLACES.min(text.len()));
+            let bytes = if file == JSON { JSON_BYTES } else { CSV_BYTES };
+            for (at, byte) in places.flat_map(|at| bytes.iter().map(move |byte| (at, *byte))) {
+                let mut texts = good.clone();
+                texts[file][at] = byte;
+                stopped += usize::from(is_stopped(&mut tables, plan.horizon(), &texts, &format!("file {file}, byte {at}")));
+            }
         }
     }
-    assert!(stopped > 100, "{stopped}");
+    assert!(stopped > 800, "{stopped}");
+}
+
+/// Whether a check stops, which it does just where the independent program refuses.
+fn is_stopped(tables: &mut Tables, h: u32, [timetable, profiles, constraints, solution]: &[Vec<u8>; 4], what: &str) -> bool {
+    let said = tables.check(h, &Texts { timetable, profiles, constraints, solution });
+    let expected = match check(h, timetable, profiles, constraints, solution, &Rooms::all(67_108_864)).answer {
+        Answer::Accepted => Ok(None),
+        Answer::Violated { kind, position, inequality, shortfall, .. } => {
+            Ok(Some(Violation { kind, position, inequality, shortfall: shortfall as u32 }))
+        }
+        Answer::Refused { file, .. } => Err(Stopped(file as u8)),
+    };
+    assert_eq!(said, expected, "{what}");
+    said.is_err()
 }

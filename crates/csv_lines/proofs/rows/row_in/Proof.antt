@@ -1,14 +1,14 @@
 -- `csv_lines::rows::row_in` meets its contract: by whether a row starts there. Assumes nothing.
 use borrow.Author.Needs.{needs}
-use Rattle.csv_lines.proofs.Shown.{row-within, row-here, row-none}
+use Rattle.csv_lines.proofs.Shown.{row-room, row-within, row-here, row-none}
 use Rattle.csv_lines.proofs.rows.row_in.Statement.{statement}
 use Rattle.csv_lines.proofs.rows.row_in.Tie as tie
 
 starts-row-requires : tie.Need-starts-row-requires
 starts-row-requires c κs = search needs
 
-line-end-requires : tie.Need-line-end-requires
-line-end-requires c κs = search needs
+shown-end-requires : tie.Need-shown-end-requires
+shown-end-requires c κs = search (row-room, needs)
 
 sub-result : tie.Need-sub-result
 sub-result c = search needs
@@ -39,7 +39,7 @@ row-in-spec =
     tie.close
     (tie.spec
     starts-row-requires
-    line-end-requires
+    shown-end-requires
     sub-result
     part-result-start
     part-result-end

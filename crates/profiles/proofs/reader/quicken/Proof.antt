@@ -1,4 +1,4 @@
--- `profiles::reader::quicken` meets its contract: whole samples where a sample begins, and nothing elsewhere. Assumes nothing.
+-- `profiles::reader::quicken` meets its contract: whole samples where a sample begins and contents may follow, and nothing elsewhere. Assumes nothing.
 use Rattle.profiles.proofs.Feed.{feeding}
 use borrow.Author.Needs.{needs}
 use Rattle.profiles.proofs.reader.quicken.Statement.{statement}
@@ -22,6 +22,9 @@ returns-2 c = search (feeding, needs)
 returns-3 : tie.Need-returns-3
 returns-3 c = search (feeding, needs)
 
+contents-requires : tie.Need-contents-requires
+contents-requires c κs = search needs
+
 samples-run-requires : tie.Need-samples-run-requires
 samples-run-requires c κs = search (feeding, needs)
 
@@ -30,6 +33,9 @@ same-length c = search needs
 
 returns-4 : tie.Need-returns-4
 returns-4 c = search (feeding, needs)
+
+returns-5 : tie.Need-returns-5
+returns-5 c = search (feeding, needs)
 
 pub quicken-spec : {M : Type 1} → statement M
 quicken-spec =
@@ -41,6 +47,8 @@ quicken-spec =
     enum-told
     returns-2
     returns-3
+    contents-requires
     samples-run-requires
     same-length
-    returns-4)
+    returns-4
+    returns-5)

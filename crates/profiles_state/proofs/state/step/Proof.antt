@@ -4,12 +4,6 @@ use borrow.Author.Needs.{needs}
 use Rattle.profiles_state.proofs.state.step.Statement.{statement}
 use Rattle.profiles_state.proofs.state.step.Tie as tie
 
-enum-told : tie.Need-enum-told
-enum-told c = search needs
-
-header-step-requires : tie.Need-header-step-requires
-header-step-requires c κs = search needs
-
 enum-known-state : tie.Need-enum-known-state
 enum-known-state c = search needs
 
@@ -37,27 +31,22 @@ returns c = search (fractions, needs)
 returns-2 : tie.Need-returns-2
 returns-2 c = search (fractions, needs)
 
-returns-3 : tie.Need-returns-3
-returns-3 c = search (fractions, needs)
-
 same-length : tie.Need-same-length
 same-length c = search needs
 
 same-length-2 : tie.Need-same-length-2
 same-length-2 c = search needs
 
+returns-3 : tie.Need-returns-3
+returns-3 c = search (fractions, needs)
+
 returns-4 : tie.Need-returns-4
 returns-4 c = search (fractions, needs)
-
-returns-5 : tie.Need-returns-5
-returns-5 c = search (fractions, needs)
 
 pub step-spec : {M : Type 1} → statement M
 step-spec =
     tie.close
     (tie.spec
-    enum-told
-    header-step-requires
     enum-known-state
     id-step-requires
     enum-known-state-2
@@ -67,8 +56,7 @@ step-spec =
     enum-known-state-4
     returns
     returns-2
-    returns-3
     same-length
     same-length-2
-    returns-4
-    returns-5)
+    returns-3
+    returns-4)

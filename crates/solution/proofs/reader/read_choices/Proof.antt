@@ -7,11 +7,11 @@ use Rattle.solution.proofs.reader.read_choices.Tie as tie
 returns : tie.Need-returns
 returns c = search (read-long, needs)
 
-slice-aggregate-starts-with : tie.Need-slice-aggregate-starts-with
-slice-aggregate-starts-with c = search needs
+head-end-requires : tie.Need-head-end-requires
+head-end-requires c κs = search needs
 
-starts-with-requires : tie.Need-starts-with-requires
-starts-with-requires c κs = search needs
+returns-2 : tie.Need-returns-2
+returns-2 c = search (read-headless, needs)
 
 read-rows-requires : tie.Need-read-rows-requires
 read-rows-requires c κs = search (headed, needs)
@@ -25,8 +25,8 @@ enum-told c = search needs
 same-length : tie.Need-same-length
 same-length c = search needs
 
-returns-2 : tie.Need-returns-2
-returns-2 c = search (read-fault, needs)
+returns-3 : tie.Need-returns-3
+returns-3 c = search (read-fault, needs)
 
 cast-unpack : tie.Need-cast-unpack
 cast-unpack c = search needs
@@ -37,26 +37,22 @@ unpack-requires c κs = search (unpack-room, needs)
 same-length-2 : tie.Need-same-length-2
 same-length-2 c = search needs
 
-returns-3 : tie.Need-returns-3
-returns-3 c = search (read-right, needs)
-
 returns-4 : tie.Need-returns-4
-returns-4 c = search (read-headless, needs)
+returns-4 c = search (read-right, needs)
 
 pub read-choices-spec : {M : Type 1} → statement M
 read-choices-spec =
     tie.close
     (tie.spec
     returns
-    slice-aggregate-starts-with
-    starts-with-requires
+    head-end-requires
+    returns-2
     read-rows-requires
     enum-known-read
     enum-told
     same-length
-    returns-2
+    returns-3
     cast-unpack
     unpack-requires
     same-length-2
-    returns-3
     returns-4)

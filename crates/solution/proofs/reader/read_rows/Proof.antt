@@ -8,10 +8,10 @@ use Rattle.solution.proofs.reader.read_rows.Statement.{statement}
 use Rattle.solution.proofs.reader.read_rows.Tie as tie
 
 abbrev Inv-loop : tie.InvT-loop
-Inv-loop text h legs n choices₀ line₀ compared₀ i₀ choices line compared i = Going h text legs n choices₀ line compared choices i
+Inv-loop text from h legs n choices₀ line₀ compared₀ i₀ choices line compared i = Going h text legs n from choices₀ line compared choices i
 
 abbrev μ-loop : tie.MeasureT-loop
-μ-loop text h legs n choices₀ line₀ compared₀ i₀ choices line compared i = length text - i
+μ-loop text from h legs n choices₀ line₀ compared₀ i₀ choices line compared i = length text - i
 
 first-line-requires : tie.Need-first-line-requires Inv-loop μ-loop
 first-line-requires c κs = search needs

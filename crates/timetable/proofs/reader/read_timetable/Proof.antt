@@ -1,4 +1,4 @@
--- A whole text is too long, or one part. Assumes nothing.
+-- A text that is too long, or one part from the start to the end. Assumes nothing.
 use borrow.Author.Needs.{needs}
 use Rattle.timetable.proofs.Whole.{read-long, read-fed}
 use Rattle.timetable.proofs.reader.read_timetable.Statement.{statement}

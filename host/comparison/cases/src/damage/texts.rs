@@ -1,12 +1,17 @@
 //! Changes of the texts, the room or H.
 
 use crate::random::Random;
+use crate::spelling::CSV;
 use independent::Case;
 
 /// One of the five texts.
 fn some_text<'a>(case: &'a mut Case, random: &mut Random) -> &'a mut Vec<u8> {
     let place = *random.pick(&[0, 1, 2, 2, 3, 4]);
     &mut case.texts[place]
+}
+
+fn some_csv<'a>(case: &'a mut Case, random: &mut Random) -> &'a mut Vec<u8> {
+    &mut case.texts[*random.pick(&CSV)]
 }
 
 /// A place in a text, mostly below its header.
@@ -106,8 +111,7 @@ pub fn line_end_changed(case: &mut Case, random: &mut Random) {
 }
 
 pub fn header_changed(case: &mut Case, random: &mut Random) {
-    let place = *random.pick(&[0, 1, 3, 4]);
-    let text = &mut case.texts[place];
+    let text = some_csv(case, random);
     if text.is_empty() {
         return;
     }
@@ -122,6 +126,41 @@ pub fn header_changed(case: &mut Case, random: &mut Random) {
         3 => text.splice(0..0, *b"\xef\xbb\xbf").for_each(drop),
         _ => text.truncate(random.below(end + 1)),
     }
+}
+
+/// A quote or a CR moved, doubled or dropped; in a text that has none, one put anywhere.
+pub fn mark_damaged(case: &mut Case, random: &mut Random) {
+    let text = some_csv(case, random);
+    let marks: Vec<usize> = (0..text.len()).filter(|place| matches!(text[*place], b'"' | b'\r')).collect();
+    if marks.is_empty() {
+        text.insert(random.below(text.len() + 1), *random.pick(b"\"\r"));
+        return;
+    }
+    let place = *random.pick(&marks);
+    let mark = text[place];
+    match random.below(4) {
+        0 => text.insert(place, mark),
+        1 => {
+            text.remove(place);
+        }
+        2 if place + 1 < text.len() => text.swap(place, place + 1),
+        _ => {
+            text.remove(place);
+            text.insert(random.below(text.len() + 1), mark);
+        }
+    }
+}
+
+/// A comma or an LF between two quotes.
+pub fn put_within_quotes(case: &mut Case, random: &mut Random) {
+    let text = some_csv(case, random);
+    let quotes: Vec<usize> = (0..text.len()).filter(|place| text[*place] == b'"').collect();
+    let pairs: Vec<&[usize]> = quotes.chunks_exact(2).collect();
+    if pairs.is_empty() {
+        return;
+    }
+    let pair = *random.pick(&pairs);
+    text.insert(random.between(pair[0] + 1, pair[1]), *random.pick(b",\n"));
 }
 
 pub fn white_space_changed(case: &mut Case, random: &mut Random) {
@@ -175,8 +214,6 @@ pub fn digits_changed(case: &mut Case, random: &mut Random) {
 }
 
 pub fn room_smaller(case: &mut Case, random: &mut Random) {
-    let [t, ..] = &case.texts;
-    let text_room = t.len();
     let rooms = &mut case.rooms;
     let less = random.between(1, 9);
     let room = match random.below(12) {
@@ -190,7 +227,7 @@ pub fn room_smaller(case: &mut Case, random: &mut Random) {
         7 | 8 => &mut rooms.second_choices,
         9 => &mut rooms.curves,
         _ => {
-            rooms.text = text_room.saturating_sub(random.below(4));
+            rooms.text = rooms.text.saturating_sub(random.below(4));
             return;
         }
     };

@@ -1,0 +1,4 @@
+pub mod Heading
+pub mod Byte
+pub mod Part
+pub mod FirstLine

@@ -8,7 +8,7 @@ use Rattle.text_read.specs.Places.{upTo}
 
 -- so many bytes are looked at together
 abbrev pub together : ℕ
-together = 8
+together = 16
 
 -- they stand from a place on, and the line ends where it ends from behind them
 pub record Clear (text : List ℕ) (at : ℕ) : Type 0 where

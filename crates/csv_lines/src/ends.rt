@@ -1,6 +1,7 @@
 // Where a line ends: lines are long, so some bytes are looked at together.
 ghost use mathlib.Core.Path.{_≡_};
-ghost use mathlib.Core.Bool.{true};
+ghost use mathlib.Core.Bool.{true, false, cond};
+ghost use lib.Dec.{eqb};
 ghost use Prim.Native.Nat.{_+_};
 ghost use lib.ListN.{drop};
 ghost use Rattle.rules.specs.Bytes.{lineFeed};
@@ -9,7 +10,17 @@ ghost use Rattle.csv_lines.specs.Clear.{Clear};
 use crate::LINE_FEED;
 use text_read::pieces;
 
-const TOGETHER: usize = 8;
+const TOGETHER: usize = 16;
+
+// Whether no LF is among bytes, with one byte more.
+fn clear_with(clear: bool, b: u8) -> bool
+    ensures { λ r. ⌜ r ≡ cond (eqb b lineFeed) false clear ⌝ }
+{
+    if b == LINE_FEED {
+        return false;
+    }
+    clear
+}
 
 // Whether so many bytes stand from a place on, and no LF is among them.
 fn clear_at(text: &[u8], at: usize) -> bool
@@ -21,14 +32,13 @@ fn clear_at(text: &[u8], at: usize) -> bool
     if text.len() - TOGETHER < at {
         return false;
     }
+    let mut clear = true;
     let mut k = 0;
     while k < TOGETHER {
-        if text[at + k] == LINE_FEED {
-            return false;
-        }
+        clear = clear_with(clear, text[at + k]);
         k += 1;
     }
-    true
+    clear
 }
 
 // The place of the first LF from a place on, or the length where there is none.

@@ -1,5 +1,5 @@
 -- What a look at several bytes finds: a number and its byte, an entry and its space.
-use Prim.Native.Nat.{ℕ, _+_, _<_}
+use Prim.Native.Nat.{ℕ, _+_, _<_, _≤_}
 use mathlib.Core.Path.{_≡_}
 use mathlib.Core.Bool.{false}
 use mathlib.Core.List.{List}
@@ -13,6 +13,14 @@ use Rattle.timetable_entry.specs.declared.Cut.the-variants.{At, Miss}
 use Rattle.timetable_entry.specs.declared.Spotted.{Spotted}
 use Rattle.timetable_entry.specs.declared.Spotted.the-variants.{Entry, Miss as NoEntry}
 
+-- a number of more digits is missed
+abbrev pub mostDigits : ℕ
+mostDigits = 8
+
+-- its digits and the byte that closes them, at most
+abbrev pub numberBytes : ℕ
+numberBytes = mostDigits + 1
+
 -- the number that begins at a place, the byte that closes it, and the place behind that
 pub record NumberAt (part : List ℕ) (from closes v next : ℕ) : Type 0 where
   pub number : Taken
@@ -22,6 +30,7 @@ pub record NumberAt (part : List ℕ) (from closes v next : ℕ) : Type 0 where
   pub digits : isEmpty (number .number) ≡ false
   pub value : v ≡ valueOf (number .number)
   pub behind : next ≡ number .next + 1
+  pub near : next ≤ from + numberBytes
 
 pub data Cuts (part : List ℕ) (from closes : ℕ) : Cut → Type 0 where
   missed : Cuts part from closes Miss

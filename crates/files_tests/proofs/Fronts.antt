@@ -11,10 +11,12 @@ use Rattle.rules.specs.Energy.{tabulate}
 use Rattle.rules.specs.Timetable.{Row, legOf, legsFrom, legsOf, legNumbers}
 use Rattle.rules.specs.Reading.{legIds}
 use Rattle.rules.specs.declared.sizes.Leg.{Leg}
-use Rattle.tables_ids.specs.Column.{Records, column}
+use Rattle.rules_theorems.specs.Lists.{Distinct}
+use Rattle.tables_ids.specs.Column.{Records, Apart, column}
 use Rattle.tables_ids.proofs.Written.{column-written}
 use Rattle.files_tests.specs.Subnets.{legTracks}
 use Rattle.files_tests.proofs.Holding.{front-records}
+use Rattle.files_tests.proofs.Apart.{distinct-apart}
 use Rattle.tables_views.specs.View.{legAt}
 use Rattle.tables_views.proofs.Tabulated.{tabulate-map}
 use Rattle.tables_views.proofs.Offers.{legs-length, legs-seen}
@@ -43,6 +45,14 @@ module _ (legs : List ℕ) (n : ℕ) (rows : List Row) (many : n ≡ length rows
       ap₂ (column legWidth) legs-many hold
       ∙ column-written legNumbers legWidth (omega arith) (λ l. refl) (legsOf rows) (drop (length (flat legNumbers (legsOf rows))) legs)
       ∙ legs-map (λ l. l .id) (λ r. r .leg) (λ first r. refl) 0 rows
+
+  -- no two are the same where the rows' are distinct
+  pub legs-apart : Distinct (λ r. r .leg) rows → Apart legWidth n legs
+  legs-apart distinct =
+      record {
+        records = legs-records;
+        apart = λ i k h l e. distinct-apart (λ (r : Row). r .leg) rows distinct i k h (rw many at l) (rw legs-ids at e);
+      }
 
   -- their tracks
   pub legs-tracks : legTracks n legs ≡ map (λ r. r .track) rows

@@ -1,4 +1,5 @@
 pub mod Counts
 pub mod Holding
 pub mod Fifteen
+pub mod Apart
 pub mod Fronts

@@ -1,22 +1,24 @@
 -- 14: the first row that differs from the draft's is found row by row, from the leg table. Assumes nothing.
 use Prim.Native.Nat.{ℕ, zero, suc, _+_, _*_, _≤_, _<_}
-use mathlib.Core.Path.{_≡_, refl, ap, sym, _∙_}
+use mathlib.Core.Path.{_≡_, refl, ap, ap₂, sym, _∙_}
 use mathlib.Core.Bool.{Bool, true, false, cond, _&&_}
-use mathlib.Core.List.{List, [], _∷_, _++_, append-assoc, append-nil}
+use mathlib.Core.List.{List, [], _∷_, _++_, map, append-assoc, append-nil, map-append}
 use mathlib.Core.Option.{Option, none, some}
 use native.Mathlib.Omega.{arith}
 use native.Mathlib.Numerals.{add-one}
 use lib.Dec.{ltb, eqb}
-use lib.ListN.{length, take, drop, length-drop, take-append-drop}
-use lib.Seq.{drop-drop}
-use borrow.Author.Tests.{lt-ltb, le-ltb}
+use lib.ListN.{length, getD, take, drop, length-drop, take-append-drop}
+use lib.Seq.{drop-cons, drop-drop}
+use borrow.Author.Tests.{lt-ltb, le-ltb, ltb-true, eqb-true}
 use Rattle.rules.specs.Limits.{legWidth}
 use Rattle.rules.specs.Lists.{flat, over}
 use Rattle.rules.specs.Answers.{differs, good, _>>=_}
 use Rattle.rules.specs.Rows.{placeOfRow}
 use Rattle.rules.specs.Timetable.{Row, idsOf, legsFrom, legsOf, legNumbers, choicesOf}
 use Rattle.rules.specs.Reading.{sameLeg, differsFrom, matched}
-use Rattle.rules.proofs.Truth.{and-true}
+use Rattle.rules.proofs.Truth.{and-true, and-first}
+use Rattle.tables_ids.specs.Column.{column}
+use Rattle.tables_ids.proofs.Column.{column-more}
 use Rattle.timetable_row.specs.Slots.{heldIds}
 use Rattle.timetable.proofs.Words.{length-snoc}
 use Rattle.solution_row.specs.declared.draft.Compared.{Compared}
@@ -123,3 +125,33 @@ module _ {legs : List ℕ} {n : ℕ} {draft : List Row} (holds : HoldsRows legs 
       go true u = refl
       go false true = refl
       go false false = ap Read (sym (choices-length rows))
+
+-- ---- the ids: while no row differs, those of the rows before are the draft's first
+
+abbrev pub Follows : (legs : List ℕ) → List Row → Compared → Type 0
+Follows legs before c = c .differs ≡ false → column legWidth (length before) legs ≡ map (λ r. r .leg) before
+
+module _ (legs : List ℕ) (n : ℕ) (whole : n * legWidth ≤ length legs) where
+  -- a row whose ids are the table's has its leg's id
+  leg-there : (k : ℕ) (r : Row) (numbers : List ℕ) → k < n → heldIds numbers ≡ idsOf r → sameAt numbers legs k ≡ true → getD legs (k * legWidth) 0 ≡ r .leg
+  leg-there k r numbers h ids same =
+      let inside : k * legWidth < length legs = omega arith in
+      let all = rw (ids, drop-cons legs (k * legWidth) 0 inside) at same in
+      eqb-true (getD legs (k * legWidth) 0) (r .leg) (and-first (eqb (getD legs (k * legWidth) 0) (r .leg)) _ all)
+
+  pub follows-on : (before : List Row) (c : Compared) (r : Row) (numbers : List ℕ) (place : ℕ) → Follows legs before c → heldIds numbers ≡ idsOf r
+      → Follows legs (before ++ r ∷ []) (comparedWith c numbers legs n (length before) place)
+  follows-on before c r numbers place h ids = go (c .differs) (ltb (length before) n) (sameAt numbers legs (length before)) refl refl refl
+    where
+      k : ℕ
+      k = length before
+
+      go : (t u v : Bool) → c .differs ≡ t → ltb k n ≡ u → sameAt numbers legs k ≡ v → cond t c (cond (u && v) c (differsAt place)) .differs ≡ false
+          → column legWidth (length (before ++ r ∷ [])) legs ≡ map (λ r. r .leg) (before ++ r ∷ [])
+      go true u v e l s q = let z : _≡_ {A = Bool} true false = cc in let y : _≡_ {A = ℕ} 0 1 = cc in absurd (omega arith)
+      go false false v e l s q = let z : _≡_ {A = ℕ} 0 1 = cc in absurd (omega arith)
+      go false true false e l s q = let z : _≡_ {A = ℕ} 0 1 = cc in absurd (omega arith)
+      go false true true e l s q =
+          rw (length-snoc before r, map-append (λ (r : Row). r .leg) before (r ∷ []))
+          (column-more legWidth k legs
+          ∙ ap₂ (λ (ids : List ℕ) (id : ℕ). ids ++ id ∷ []) (h e) (leg-there k r numbers (ltb-true k n l) ids s))

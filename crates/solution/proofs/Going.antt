@@ -1,10 +1,13 @@
 -- The loop over a solution's lines: its invariant, kept by each turn, and what it gives at each return. Assumes nothing.
 use Prim.Native.Nat.{ℕ, suc, _+_, _*_, _-_, _/_, _≤_, _<_}
 use mathlib.Core.Path.{_≡_, refl, ap, sym, _∙_}
+use mathlib.Core.Bool.{Bool, true, false, cond}
 use mathlib.Core.List.{List, [], _∷_, _++_}
 use native.Mathlib.Omega.{arith}
-use lib.ListN.{length, take, drop, drop-of-length-le, length-drop, length-take}
+use lib.Dec.{ltb}
+use lib.ListN.{length, getD, take, drop, drop-of-length-le, length-drop, length-take}
 use lib.Seq.{drop-cons}
+use borrow.Author.Tests.{ltb-true, eqb-true}
 use Rattle.rules.specs.Limits.{legWidth, configurationWidth}
 use Rattle.rules.specs.Lists.{flat, over}
 use Rattle.rules.specs.Answers.{refusal, badRow, Reading, refused, good, Judged, wrong, right}
@@ -13,6 +16,8 @@ use Rattle.rules.specs.Rows.{onRow, rowsFrom}
 use Rattle.rules.specs.Timetable.{Row, rowOf, solutionFits}
 use Rattle.rules.proofs.Pieces.{split-not-empty, split-free}
 use Rattle.rules.proofs.Lists.{over-length}
+use Rattle.tables_ids.specs.Column.{column, isNew}
+use Rattle.tables_ids.proofs.Lone.{lone-new}
 use Rattle.text_read.specs.Places.{upTo}
 use Rattle.text_read.proofs.Laws.{pieces-next, pieces-last}
 use Rattle.timetable_row.specs.declared.line.Line.{Line}
@@ -21,14 +26,16 @@ use Rattle.timetable.proofs.Words.{length-snoc}
 use Rattle.solution_row.specs.declared.draft.Compared.{Compared}
 use Rattle.solution_row.specs.declared.draft.Choices.{Choices}
 use Rattle.solution_row.specs.declared.draft.Choices.the-variants.{Fault}
-use Rattle.solution_row.specs.Tests.{Roomy}
-use Rattle.solution_row.specs.Against.{noneDiffers, comparedWith, comparedAnswer}
+use Rattle.solution_row.specs.declared.draft.Fresh.{Fresh}
+use Rattle.solution_row.specs.declared.draft.Fresh.the-variants.{Id, Unknown}
+use Rattle.solution_row.specs.Tests.{Earlier}
+use Rattle.solution_row.specs.Against.{noneDiffers, nextId, isKnown, comparedWith, comparedAnswer}
 use Rattle.solution.specs.Said.{Alone}
 use Rattle.solution.specs.Before.{packedRow, Counted, AfterRow, Turned}
 use Rattle.solution.specs.Promise.{HoldsRows}
 use Rattle.solution.specs.Whole.{Headed, rowsAfter, RowsRead}
-use Rattle.solution.proofs.Judging.{packed-length}
-use Rattle.solution.proofs.Differing.{Compares, compares-on, compared-right, read-all}
+use Rattle.solution.proofs.Judging.{packed-length, ids-written}
+use Rattle.solution.proofs.Differing.{Compares, compares-on, compared-right, Follows, follows-on, read-all}
 
 -- ---- the invariant
 
@@ -51,6 +58,7 @@ pub record Going (H : ℕ) (text legs : List ℕ) (n from : ℕ) (lent : List �
   pub left : (file : ℕ) → rowsFrom file (judgeOf H lent) i before (splitOn lineFeed (drop i text)) ≡ rowsAfter H file from lent text
   pub places : (k : ℕ) → startOf (suc (length before + k)) (splitOn lineFeed text) ≡ i + startOf k (splitOn lineFeed (drop i text))
   pub compares : (draft : List Row) → HoldsRows legs n draft → Compares text draft before compared
+  pub follows : Follows legs before compared
 
 -- before the first row
 none-counted : (H : ℕ) (lent : List ℕ) → Counted H lent firstLine lent []
@@ -70,6 +78,7 @@ none-counted H lent =
 
 pub going-first : (H : ℕ) (text legs : List ℕ) (n from : ℕ) (lent : List ℕ) (line : Line) (compared : Compared) → Headed H text legs n from → line ≡ firstLine → compared ≡ noneDiffers
     → Going H text legs n from lent line compared lent from
+unfolding column
 going-first H text legs n from lent line compared h e d =
     record {
       headed = h;
@@ -84,15 +93,32 @@ going-first H text legs n from lent line compared h e d =
           ∙ ap (λ (ps : List (List ℕ)). startOf (suc k) ps) (h .first-is)
           ∙ ap (λ (x : ℕ). x + startOf k (splitOn lineFeed (drop from text))) (sym (h .from-is));
       compares = λ draft holds rest. rw d;
+      follows = λ e. refl;
     }
 
 module _ {H : ℕ} {text legs : List ℕ} {n from : ℕ} {lent : List ℕ} {line : Line} {compared : Compared} {choices : List ℕ} {i : ℕ}
     (g : Going H text legs n from lent line compared choices i) where
   pub whole : n * legWidth ≤ length legs
-  whole = g .headed .able .whole
+  whole = g .headed .able .legs-there .records .whole
 
-  pub roomy : Roomy line choices
-  roomy = omega (arith, g .counted .rows-are, g .counted .fits, g .long)
+  -- the draft's next id is not among those of the rows before
+  pub earlier : {fresh : Fresh} → fresh ≡ nextId compared legs n (line .rows) → Earlier (line .rows) fresh choices
+  earlier {fresh} f =
+      record {
+        held = omega (arith, g .counted .rows-are, g .counted .fits, g .long);
+        lacks = λ id q. go id (compared .differs) (ltb (line .rows) n) refl refl (sym (ap (λ (x : Fresh). isKnown x id) f) ∙ q);
+      }
+    where
+      ids-are : compared .differs ≡ false → column configurationWidth (line .rows) choices ≡ column legWidth (line .rows) legs
+      ids-are e = rw (g .counted .rows-are) (ids-written (g .counted) ∙ sym (g .follows e))
+
+      go : (id : ℕ) (t u : Bool) → compared .differs ≡ t → ltb (line .rows) n ≡ u → isKnown (cond t Unknown (cond u (Id (getD legs (line .rows * legWidth) 0)) Unknown)) id ≡ true
+          → isNew id (column configurationWidth (line .rows) choices) ≡ true
+      go id true u e l q = let z : _≡_ {A = ℕ} 0 1 = cc in absurd (omega arith)
+      go id false false e l q = let z : _≡_ {A = ℕ} 0 1 = cc in absurd (omega arith)
+      go id false true e l q =
+          let same : id ≡ getD legs (line .rows * legWidth) 0 = sym (eqb-true (getD legs (line .rows * legWidth) 0) id q) in
+          rw (ids-are e, same) (lone-new legWidth n legs (g .headed .able .legs-there) (line .rows) (ltb-true (line .rows) n l))
 
   -- the text is over
   pub gone-over : (answer : Choices) → length text ≤ i → answer ≡ comparedAnswer compared (line .rows) n (length text) → RowsRead H text legs n from lent answer choices
@@ -186,6 +212,7 @@ module _ {H : ℕ} {text legs : List ℕ} {n from : ℕ} {lent : List ℕ} {line
                   places = next-place r;
                   compares = λ draft holds.
                       rw (d, g .counted .rows-are) (compares-on holds text (g .before) compared r (line′ .numbers) i (g .compares draft holds) (a .1) here);
+                  follows = rw (d, g .counted .rows-are) (follows-on legs n whole (g .before) compared r (line′ .numbers) i (g .follows) (a .1));
                 }
 
         -- the first fault

@@ -28,7 +28,8 @@ use Rattle.timetable_row.specs.Slots.{nominalOf, heldIds}
 use Rattle.timetable.proofs.Words.{length-snoc, stored-fits}
 use Rattle.timetable.proofs.Judge.{outcome, judge-lowest, lowest-zero, any-below}
 use Rattle.timetable.proofs.Accept.{listed-more, above-grows}
-use Rattle.solution_row.specs.Tests.{newAfter, choiceTests, Roomy}
+use Rattle.solution_row.specs.declared.draft.Fresh.{Fresh}
+use Rattle.solution_row.specs.Tests.{newAfter, choiceTests, Earlier}
 use Rattle.solution.specs.Said.{Alone, rangeOf, Said, SaidOf}
 use Rattle.solution.specs.Before.{travels, packed, packedRow, countedAs, Counted, AfterRow, Turned}
 
@@ -48,8 +49,8 @@ said-counted H r line before s =
       nominal-is = s .nominal-is;
     }
 
-pub counted-roomy : (alone before line : Line) (choices : List ℕ) → line ≡ countedAs alone before → Roomy before choices → Roomy line choices
-counted-roomy alone before line choices e h = rw e h
+pub counted-earlier : (alone before line : Line) (fresh : Fresh) (choices : List ℕ) → line ≡ countedAs alone before → Earlier (before .rows) fresh choices → Earlier (line .rows) fresh choices
+counted-earlier alone before line fresh choices e h = rw e h
 
 counted-line : (H : ℕ) (lent : List ℕ) (line before : Line) (choices : List ℕ) (rows : List Row) → line .fault ≡ 0 → Counted H lent before choices rows → Counted H lent (countedAs line before) choices rows
 counted-line H lent line before choices rows f c =
@@ -64,6 +65,13 @@ counted-line H lent line before choices rows f c =
       fits = c .fits;
       choices-are = c .choices-are;
     }
+
+-- the ids of the rows before stand in the table
+pub ids-written : {H : ℕ} {lent : List ℕ} {line : Line} {choices : List ℕ} {before : List Row} → Counted H lent line choices before
+    → column configurationWidth (length before) choices ≡ map (λ x. x .leg) before
+unfolding over
+ids-written {lent = lent} {before = before} c =
+    rw (c .choices-are) (column-written packedRow configurationWidth (omega arith) (λ x. refl) before (drop (length (flat packedRow before)) lent))
 
 -- ---- the tests
 
@@ -97,17 +105,13 @@ module _ (H : ℕ) (lent : List ℕ) (line : Line) (choices : List ℕ) (before 
   leg-is : rangeOf H r ≡ true → getD (line .numbers) 0 0 ≡ r .leg
   leg-is a = ap (λ (l : List ℕ). getD l 0 0) (s .ids-are a)
 
-  ids-written : column configurationWidth (length before) choices ≡ map (λ x. getD (packedRow x) 0 0) before
-  unfolding over
-  ids-written = rw (c .choices-are) (column-written packedRow configurationWidth (omega arith) (λ x. refl) before (drop (length (flat packedRow before)) lent))
-
   new-same : rangeOf H r ≡ true → newAfter (line .rows) (line .above) (getD (line .numbers) 0 0) choices ≡ not (any (λ b. eqb (b .leg) (r .leg)) before)
   new-same a = rw (leg-is a, c .rows-are) (go (leb (line .above) (r .leg)) refl)
     where
       go : (t : Bool) → leb (line .above) (r .leg) ≡ t
           → cond t true (isNew (r .leg) (column configurationWidth (length before) choices)) ≡ not (any (λ b. eqb (b .leg) (r .leg)) before)
       go true e = rw (any-below (line .above) (r .leg) (leb-true (line .above) (r .leg) e) before (c .below))
-      go false e = rw ids-written (new-among (λ (x : Row). x .leg) (r .leg) before)
+      go false e = rw (ids-written c) (new-among (λ (x : Row). x .leg) (r .leg) before)
 
   room-same : ltb (line .rows) (length choices / configurationWidth) ≡ solutionFits (length lent / configurationWidth) before r
   room-same = rw (c .rows-are, long)

@@ -1,5 +1,5 @@
 -- What is promised of a solution that is read against a draft's leg table: the answer always, and the choices where it is good.
-use Prim.Native.Nat.{ℕ, _*_, _≤_}
+use Prim.Native.Nat.{ℕ, _≤_}
 use mathlib.Core.Path.{_≡_}
 use mathlib.Core.List.{List}
 use lib.ListN.{length}
@@ -9,13 +9,14 @@ use Rattle.rules.specs.Answers.{Reading, refused, good}
 use Rattle.rules.specs.Timetable.{Row, legsOf, legNumbers, configurationNumbers}
 use Rattle.rules.specs.Reading.{Files, choicesRead}
 use Rattle.rules.specs.declared.sizes.Configuration.{Configuration}
+use Rattle.tables_ids.specs.Column.{Apart}
 use Rattle.solution_row.specs.declared.draft.Choices.{Choices}
 use Rattle.solution_row.specs.declared.draft.Choices.the-variants.{Fault, Read}
 
--- a horizon that is not too long, and a table of so many legs
+-- a horizon that is not too long, and a table of so many legs, no two of the same id
 pub record Able (H : ℕ) (legs : List ℕ) (n : ℕ) : Type 0 where
   pub horizon : H ≤ mostHorizon
-  pub whole : n * legWidth ≤ length legs
+  pub legs-there : Apart legWidth n legs
 
 -- the leg table holds these rows at its front
 pub record HoldsRows (legs : List ℕ) (n : ℕ) (rows : List Row) : Type 0 where

@@ -1,11 +1,12 @@
 // A row after those before it: what is counted, and its place in the table.
 ghost use mathlib.Core.Path.{_≡_};
-ghost use Rattle.solution_row.specs.Tests.{Roomy};
+ghost use Rattle.solution_row.specs.Tests.{Earlier};
 ghost use Rattle.solution.specs.Said.{Alone};
 ghost use Rattle.solution.specs.Before.{countedAs, Turned};
 use crate::row;
 use rules::sizes::Configuration;
 use rules::sizes::Leg;
+use solution_row::draft::Fresh;
 use solution_row::faults;
 use timetable_row::line;
 use timetable_row::line::Line;
@@ -26,9 +27,9 @@ fn counted_as(line: Line, before: Line) -> Line
     out
 }
 
-// A line after the rows before: the first fault's number, or the counts with this row among them.
-pub fn turn(bytes: &[u8], h: u32, before: Line, choices: &mut [u32]) -> Line
-    requires { ⌜ Alone h (now bytes) × Roomy before (now choices) ⌝ }
+// A line after the rows before, none of which has a fresh id: the first fault's number, or the counts with this row among them.
+pub fn turn(bytes: &[u8], h: u32, before: Line, fresh: Fresh, choices: &mut [u32]) -> Line
+    requires { ⌜ Alone h (now bytes) × Earlier (before .rows) fresh (now choices) ⌝ }
     ensures { λ r. ⌜ Turned h (now (bytes .entry)) before (now (choices .entry)) r (now (choices .exit)) ⌝ }
 {
     let alone = row::read_row(bytes, h);
@@ -36,7 +37,7 @@ pub fn turn(bytes: &[u8], h: u32, before: Line, choices: &mut [u32]) -> Line
         return alone;
     }
     let line = counted_as(alone, before);
-    let number = faults::fault(line, h, choices);
+    let number = faults::fault(line, h, fresh, choices);
     if number != 0 {
         return line::stopped(line, number);
     }

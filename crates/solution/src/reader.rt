@@ -55,7 +55,8 @@ fn read_rows(
             return Choices::Fault(Refusal::ROW_FORM, place);
         }
         let row = line.rows as usize;
-        line = after::turn(&text[i..e], h, line, choices);
+        let fresh = draft::next_id(compared, legs, n, row);
+        line = after::turn(&text[i..e], h, line, fresh, choices);
         if line.fault != 0 {
             return Choices::Fault(line.fault, place);
         }

@@ -4,6 +4,7 @@ use mathlib.Core.Path.{_≡_, sym, _∙_}
 use mathlib.Core.Bool.{Bool, true, false}
 use mathlib.Core.List.{List}
 use native.Mathlib.Omega.{arith}
+use lib.Dec.{eqb}
 use lib.ListN.{length, getD, drop, length-drop}
 use lib.Seq.{getD-drop}
 use borrow.Author.Tests.{lt-ltb, le-ltb}
@@ -14,8 +15,10 @@ use Rattle.rules.proofs.Lists.{tabulate-at}
 use Rattle.text_read.proofs.Names.{start-same, start-other, start-all}
 use Rattle.timetable_row.specs.Slots.{heldIds}
 use Rattle.solution_row.specs.declared.draft.Compared.{Compared}
+use Rattle.solution_row.specs.declared.draft.Fresh.{Fresh}
+use Rattle.solution_row.specs.declared.draft.Fresh.the-variants.{Id, Unknown}
 use Rattle.solution_row.specs.declared.draft.Choices.the-variants.{Fault, Read}
-use Rattle.solution_row.specs.Against.{InTable, sameAt, differsAt, comparedWith, comparedAnswer}
+use Rattle.solution_row.specs.Against.{InTable, sameAt, differsAt, nextId, isKnown, comparedWith, comparedAnswer}
 
 -- ---- the ids of a row, one after the other: those that are left say what all say
 
@@ -37,6 +40,18 @@ module _ (numbers legs : List ℕ) (row : ℕ) where
 
     pub all-same : length (heldIds numbers) ≤ k → true ≡ sameAt numbers legs row
     all-same h = start-all (heldIds numbers) (drop (row * legWidth) legs) k _ left h
+
+-- ---- the draft's next id
+
+module _ (c : Compared) (legs : List ℕ) (n row : ℕ) where
+  pub next-known : c .differs ≡ false → row < n → Id (getD legs (row * legWidth) 0) ≡ nextId c legs n row
+  next-known e h = rw (e, lt-ltb row n h)
+
+  pub next-past : c .differs ≡ false → n ≤ row → Unknown ≡ nextId c legs n row
+  next-past e h = rw (e, le-ltb row n h)
+
+pub known-is : {fresh : Fresh} {known : ℕ} (id : ℕ) → fresh ≡ Id known → eqb known id ≡ isKnown fresh id
+known-is id e = rw e
 
 -- ---- one row more
 

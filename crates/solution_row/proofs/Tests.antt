@@ -1,11 +1,10 @@
 -- Whether an id is new, and the lowest number that a row is at fault by: a law for each return. Assumes nothing.
-use Prim.Native.Nat.{ℕ, _*_, _≤_, _<_}
+use Prim.Native.Nat.{ℕ, _≤_, _<_}
 use mathlib.Core.Path.{_≡_, sym, _∙_}
 use mathlib.Core.Bool.{Bool, true, false, not}
 use mathlib.Core.List.{List, [], _∷_}
 use native.Mathlib.Omega.{arith}
 use lib.Dec.{ltb}
-use lib.ListN.{length}
 use borrow.Author.Tests.{le-leb, lt-leb, lt-ltb, le-ltb, not-false}
 use Rattle.rules.specs.Limits.{configurationWidth}
 use Rattle.rules.specs.Answers.{outOfRange, tooMany, alreadySeen, nominalNotListed, noRoom, _needs_, Test}
@@ -14,13 +13,19 @@ use Rattle.tables_ids.specs.declared.Found.the-variants.{At, Nothing}
 use Rattle.tables_ids.specs.Column.{Records, column, placeOf}
 use Rattle.tables_ids.proofs.Places.{some-there, none-there}
 use Rattle.timetable_row.specs.RowOver.{lowest}
-use Rattle.solution_row.specs.Tests.{newAfter}
+use Rattle.solution_row.specs.declared.draft.Fresh.{Fresh}
+use Rattle.solution_row.specs.Against.{isKnown}
+use Rattle.solution_row.specs.Tests.{newAfter, Earlier}
 
 -- ---- whether an id is new
 
 module _ (rows above id : ℕ) (choices : List ℕ) where
   pub new-above : above ≤ id → true ≡ newAfter rows above id choices
   new-above h = rw (le-leb above id h)
+
+  -- what is said to be fresh is
+  pub new-known : (fresh : Fresh) (t : Bool) → id < above → Earlier rows fresh choices → t ≡ isKnown fresh id → t ≡ true → true ≡ newAfter rows above id choices
+  new-known fresh t h before e is = rw (lt-leb above id h, before .lacks id (sym e ∙ is))
 
   module _ (f : Found) (h : id < above) (e : f ≡ placeOf id (column configurationWidth rows choices)) where
     pub new-found : (i : ℕ) → f ≡ At i → false ≡ newAfter rows above id choices
@@ -29,8 +34,8 @@ module _ (rows above id : ℕ) (choices : List ℕ) where
     pub new-nothing : f ≡ Nothing → true ≡ newAfter rows above id choices
     new-nothing q = rw (lt-leb above id h, none-there id (column configurationWidth rows choices) f e q)
 
-pub three-wide : (n : ℕ) (table : List ℕ) → n * configurationWidth ≤ length table → Records configurationWidth n table
-three-wide n table h = record { one = omega arith; whole = h }
+pub three-wide : {rows : ℕ} {fresh : Fresh} {choices : List ℕ} → Earlier rows fresh choices → Records configurationWidth rows choices
+three-wide before = record { one = omega arith; whole = before .held }
 
 -- ---- the lowest number
 

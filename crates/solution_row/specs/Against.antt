@@ -2,13 +2,15 @@
 use Prim.Native.Nat.{ℕ, _+_, _*_, _≤_}
 use mathlib.Core.Bool.{Bool, true, false, cond, _&&_}
 use mathlib.Core.List.{List}
-use lib.Dec.{ltb}
-use lib.ListN.{length, drop}
+use lib.Dec.{ltb, eqb}
+use lib.ListN.{length, getD, drop}
 use Rattle.rules.specs.Limits.{legWidth}
 use Rattle.rules.specs.Lists.{startsWith}
 use Rattle.rules.specs.Answers.{differs}
 use Rattle.timetable_row.specs.Slots.{heldIds}
 use Rattle.solution_row.specs.declared.draft.Compared.{Compared}
+use Rattle.solution_row.specs.declared.draft.Fresh.{Fresh}
+use Rattle.solution_row.specs.declared.draft.Fresh.the-variants.{Id, Unknown}
 use Rattle.solution_row.specs.declared.draft.Choices.{Choices}
 use Rattle.solution_row.specs.declared.draft.Choices.the-variants.{Fault, Read}
 
@@ -25,6 +27,14 @@ noneDiffers = record { differs = false; place = 0 }
 
 abbrev pub differsAt : (place : ℕ) → Compared
 differsAt place = record { differs = true; place = place }
+
+-- the draft's id where the next row stands, while no row differs
+abbrev pub nextId : Compared → (legs : List ℕ) (n row : ℕ) → Fresh
+nextId c legs n row = cond (c .differs) Unknown (cond (ltb row n) (Id (getD legs (row * legWidth) 0)) Unknown)
+
+abbrev pub isKnown : Fresh → (id : ℕ) → Bool
+isKnown (Id known) id = eqb known id
+isKnown Unknown id = false
 
 -- with one row more: the first that differs is kept
 abbrev pub comparedWith : Compared → (numbers legs : List ℕ) (n row place : ℕ) → Compared

@@ -1,5 +1,6 @@
 -- A row's tests after the rows before, whose ids stand in the choices.
 use Prim.Native.Nat.{ℕ, _*_, _/_, _≤_}
+use mathlib.Core.Path.{_≡_}
 use mathlib.Core.Bool.{Bool, true, cond}
 use mathlib.Core.List.{List, [], _∷_}
 use lib.Dec.{leb, ltb}
@@ -9,6 +10,8 @@ use Rattle.rules.specs.Answers.{outOfRange, tooMany, alreadySeen, nominalNotLis
 use Rattle.tables_ids.specs.Column.{column, isNew}
 use Rattle.timetable_row.specs.declared.line.Line.{Line}
 use Rattle.timetable_row.specs.RowOver.{rangeHolds, countsHold}
+use Rattle.solution_row.specs.declared.draft.Fresh.{Fresh}
+use Rattle.solution_row.specs.Against.{isKnown}
 
 -- an id above all others is new without a search
 abbrev pub newAfter : (rows above id : ℕ) → (choices : List ℕ) → Bool
@@ -23,6 +26,7 @@ choiceTests H line choices =
     ∷ noRoom needs ltb (line .rows) (length choices / configurationWidth)
     ∷ []
 
--- the table has the rows before, so that an id can be looked for
-abbrev pub Roomy : Line → (choices : List ℕ) → Type 0
-Roomy line choices = line .rows * configurationWidth ≤ length choices
+-- the rows before: the table has them, so that an id can be looked for, and none of them has an id that is said to be fresh
+pub record Earlier (rows : ℕ) (fresh : Fresh) (choices : List ℕ) : Type 0 where
+  pub held : rows * configurationWidth ≤ length choices
+  pub lacks : (id : ℕ) → isKnown fresh id ≡ true → isNew id (column configurationWidth rows choices) ≡ true

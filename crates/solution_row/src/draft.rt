@@ -3,7 +3,7 @@ ghost use mathlib.Core.Path.{_≡_};
 ghost use Prim.Native.Nat.{_*_, _≤_};
 ghost use lib.ListN.{length};
 ghost use Rattle.rules.specs.Limits.{legWidth, mostText};
-ghost use Rattle.solution_row.specs.Against.{sameAt, InTable, noneDiffers, comparedWith, comparedAnswer};
+ghost use Rattle.solution_row.specs.Against.{sameAt, InTable, noneDiffers, nextId, isKnown, comparedWith, comparedAnswer};
 use rules::answers::Refusal;
 use rules::sizes::Leg;
 use timetable_row::line::LAST;
@@ -12,6 +12,12 @@ use timetable_row::line::LAST;
 pub struct Compared {
     pub differs: bool,
     pub place: u32,
+}
+
+// An id that no row before has, where one is known.
+pub enum Fresh {
+    Id(u32),
+    Unknown,
 }
 
 // The first fault's number and place, or how many choices there are.
@@ -27,6 +33,29 @@ pub fn none_differs() -> Compared
         differs: false,
         place: 0,
     }
+}
+
+// While no row differs the rows before have the draft's ids. No two of those are the same, so the draft's next id is new.
+pub fn next_id(before: Compared, legs: &[u32], n: usize, row: usize) -> Fresh
+    requires { ⌜ n * legWidth ≤ length (now legs) ⌝ }
+    ensures { λ r. ⌜ r ≡ nextId before (now (legs .entry)) n row ⌝ }
+{
+    if before.differs {
+        return Fresh::Unknown;
+    }
+    if row < n {
+        return Fresh::Id(legs[row * Leg::WIDTH]);
+    }
+    Fresh::Unknown
+}
+
+pub fn is_known(fresh: Fresh, id: u32) -> bool
+    ensures { λ r. ⌜ r ≡ isKnown fresh id ⌝ }
+{
+    let Fresh::Id(known) = fresh else {
+        return false;
+    };
+    known == id
 }
 
 // A row's five ids are those of a row of the leg table.

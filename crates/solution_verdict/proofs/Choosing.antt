@@ -13,12 +13,13 @@ use Rattle.rules.specs.declared.sizes.Configuration.{Configuration}
 use Rattle.rules.specs.declared.answers.Refusal.{Refusal}
 use Rattle.rules_theorems.proofs.FileRefusals.{Refuses, refuses, choices-refuse}
 use Rattle.rules_theorems.proofs.GoodFiles.{files-good}
+use Rattle.rules_theorems.proofs.LawfulRows.{legs-distinct}
 use Rattle.solution_row.specs.declared.draft.Choices.{Choices}
 use Rattle.solution_row.specs.declared.draft.Choices.the-variants.{Fault, Read}
 use Rattle.solution.specs.Promise.{Able, HoldsRows, choicesAnswer, ChoicesRead}
 use Rattle.tables_lent.specs.declared.Counts.{Counts}
 use Rattle.tables_lent.proofs.Filing.{same-refusal}
-use Rattle.files_tests.proofs.Fronts.{front-held, legs-records}
+use Rattle.files_tests.proofs.Fronts.{front-held, legs-apart}
 use Rattle.solution_verdict.specs.declared.Chosen.the-variants.{Whole, Refused}
 use Rattle.solution_verdict.specs.Left.{Choosable, Chooses, chosenOf}
 
@@ -32,9 +33,11 @@ module _ {H : ℕ} {counts : Counts} {legs : List ℕ} (k : Choosable H counts l
 
   pub choose-able : Able H legs (counts .legs)
   choose-able =
+      let rows = k .left .files .rows in
+      let was-good = files-good H (k .left .texts) (roomsOf (k .left .lent)) (k .left .files) (k .left .read) in
       record {
-        horizon = files-good H (k .left .texts) (roomsOf (k .left .lent)) (k .left .files) (k .left .read) .horizon .1;
-        whole = legs-records legs (counts .legs) (k .left .files .rows) (held .many) (held .front) .whole;
+        horizon = was-good .horizon .1;
+        legs-there = legs-apart legs (counts .legs) rows (held .many) (held .front) (legs-distinct H rows (was-good .timetable .lawful));
       }
 
 -- a solution's refusals lie in its file

@@ -1,12 +1,12 @@
 -- A flat table's ids by their places: how many, each of them, the first so many. Assumes nothing.
-use Prim.Native.Nat.{ℕ, _*_, _≤_, _<_}
+use Prim.Native.Nat.{ℕ, suc, _*_, _≤_, _<_}
 use mathlib.Core.Path.{_≡_, sym, _∙_}
-use mathlib.Core.List.{List}
+use mathlib.Core.List.{List, [], _∷_, _++_}
 use native.Mathlib.Omega.{arith}
 use native.Mathlib.Nat.{mul-le-mul-right, suc-mul}
 use lib.ListN.{length, getD, take}
 use lib.Seq.{getD-take, length-take-le, ext-getD}
-use Rattle.rules.proofs.Lists.{tabulate-length, tabulate-at}
+use Rattle.rules.proofs.Lists.{tabulate-length, tabulate-at, tabulate-more}
 use Rattle.tables_ids.specs.Column.{Records, column}
 
 module _ (width n : ℕ) (table : List ℕ) where
@@ -17,6 +17,11 @@ module _ (width n : ℕ) (table : List ℕ) where
   pub column-at : (i : ℕ) → i < n → getD (column width n table) i 0 ≡ getD table (i * width) 0
   unfolding column
   column-at i h = tabulate-at n (λ j. getD table (j * width) 0) 0 i h
+
+  -- one record more
+  pub column-more : column width (suc n) table ≡ column width n table ++ getD table (n * width) 0 ∷ []
+  unfolding column
+  column-more = tabulate-more n (λ i. getD table (i * width) 0)
 
   -- an id stands in the table
   pub in-table : Records width n table → (i : ℕ) → i < n → i * width < length table

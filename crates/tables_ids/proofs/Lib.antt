@@ -5,4 +5,5 @@ pub mod Places
 pub mod Onward
 pub mod Halves
 pub mod Parts
+pub mod Lone
 pub mod Rises

@@ -22,6 +22,11 @@ pub record Records (width n : ℕ) (table : List ℕ) : Type 0 where
 unfoldable pub column : (width n : ℕ) → List ℕ → List ℕ
 column width n table = tabulate n (λ i. getD table (i * width) 0)
 
+-- n records of which no two have the same id
+pub record Apart (width n : ℕ) (table : List ℕ) : Type 0 where
+  pub records : Records width n table
+  pub apart : (i k : ℕ) → i < k → k < n → getD (column width n table) i 0 ≡ getD (column width n table) k 0 → ⊥
+
 -- the ids of records
 abbrev pub curveIdsOf : List Curve → List ℕ
 curveIdsOf = map (λ c. c .id)

@@ -1,6 +1,6 @@
 -- A line after the rows before: its form, then its tests, and then its id and choice are kept. Assumes nothing.
 use borrow.Author.Needs.{needs}
-use Rattle.solution.proofs.Judging.{counted-roomy, turned-broken, turned-fault, turned-right, row-bounds, product-fits, packed-fits}
+use Rattle.solution.proofs.Judging.{counted-earlier, turned-broken, turned-fault, turned-right, row-bounds, product-fits, packed-fits}
 use Rattle.solution.proofs.after.turn.Statement.{statement}
 use Rattle.solution.proofs.after.turn.Tie as tie
 
@@ -14,7 +14,7 @@ counted-as-requires : tie.Need-counted-as-requires
 counted-as-requires c κs = search needs
 
 fault-requires : tie.Need-fault-requires
-fault-requires c κs = search (counted-roomy, needs)
+fault-requires c κs = search (counted-earlier, needs)
 
 stopped-requires : tie.Need-stopped-requires
 stopped-requires c κs = search needs

@@ -3,7 +3,7 @@ use Prim.Native.Nat.{_-_}
 use lib.ListN.{length}
 use borrow.Author.Needs.{needs}
 use Rattle.text_read.proofs.Laws.{found-from, found-within}
-use Rattle.solution.proofs.Going.{Going, going-first, whole, alone, roomy, goes-on, gone-short, gone-fault, gone-over}
+use Rattle.solution.proofs.Going.{Going, going-first, whole, alone, earlier, goes-on, gone-short, gone-fault, gone-over}
 use Rattle.solution.proofs.reader.read_rows.Statement.{statement}
 use Rattle.solution.proofs.reader.read_rows.Tie as tie
 
@@ -37,6 +37,9 @@ returns c = search (gone-short, needs)
 cast-row : tie.Need-cast-row Inv-loop μ-loop
 cast-row c = search needs
 
+next-id-requires : tie.Need-next-id-requires Inv-loop μ-loop
+next-id-requires c κs = search (whole, needs)
+
 sub-turn : tie.Need-sub-turn Inv-loop μ-loop
 sub-turn c = search (found-from, found-within, needs)
 
@@ -47,25 +50,28 @@ part-turn-end : tie.Need-part-turn-end Inv-loop μ-loop
 part-turn-end c = search needs
 
 turn-requires : tie.Need-turn-requires Inv-loop μ-loop
-turn-requires c κs = (search (alone, needs), search (roomy, needs))
+turn-requires c κs = (search (alone, needs), search (earlier, needs))
 
 same-length-2 : tie.Need-same-length-2 Inv-loop μ-loop
 same-length-2 c = search needs
 
 returns-2 : tie.Need-returns-2 Inv-loop μ-loop
-returns-2 c = let g = c .before .before .before .before .before .before .before .before .before .before .before .loop .inv in search (gone-fault, needs)
+returns-2 c = let g = c .before .before .before .before .before .before .before .before .before .before .before .before .loop .inv in search (gone-fault, needs)
 
 compared-with-requires : tie.Need-compared-with-requires Inv-loop μ-loop
-compared-with-requires c κs = let g = c .before .before .before .before .before .before .before .before .before .before .before .before .loop .inv in search (whole, needs)
+compared-with-requires c κs = let g = c .before .before .before .before .before .before .before .before .before .before .before .before .before .loop .inv in search (whole, needs)
 
 add-i : tie.Need-add-i Inv-loop μ-loop
-add-i c = let inside = c .before .before .before .before .before .before .before .before .before .before .if1 .left in search needs
+add-i c =
+    let inside = c .before .before .before .before .before .before .before .before .before .before .before .if1 .left in
+    let short = c .before .before .before .before .before .before .before .before .before .before .before .before .before .before .loop .inv .headed .short in
+    search needs
 
 loop-less : tie.Need-loop-less Inv-loop μ-loop
 loop-less c = search (found-from, needs)
 
 loop-again : tie.Need-loop-again Inv-loop μ-loop
-loop-again c = let g = c .before .before .before .before .before .before .before .before .before .before .before .before .before .loop .inv in search (goes-on, needs)
+loop-again c = let g = c .before .before .before .before .before .before .before .before .before .before .before .before .before .before .loop .inv in search (goes-on, needs)
 
 compared-answer-requires : tie.Need-compared-answer-requires Inv-loop μ-loop
 compared-answer-requires c κs = search needs
@@ -90,6 +96,7 @@ read-rows-spec =
     same-length
     returns
     cast-row
+    next-id-requires
     sub-turn
     part-turn-start
     part-turn-end

@@ -41,5 +41,5 @@ fn once(call: &[&str], folder: &Path, h: u32) -> Result<Ms, String> {
     called.args(call).arg("--horizon").arg(h.to_string()).args(FILES.map(|name| folder.join(name)));
     let status = called.stdout(Stdio::null()).status().map_err(|error| format!("{}: {error}", command.display()))?;
     let took = clock::of_children() - before;
-    status.success().then(|| took.as_secs_f64() * 1e3).ok_or_else(|| format!("{}: {status}", command.display()))
+    status.success().then_some(took.as_secs_f64() * 1e3).ok_or_else(|| format!("{}: {status}", command.display()))
 }

@@ -20,7 +20,7 @@ use Rattle.rules_theorems.specs.LawfulDocument.{LawfulConstraint, LawfulDocumen
 use Rattle.rules_theorems.proofs.All.{all-at}
 use Rattle.rules_theorems.proofs.Ordered.{OfKind, ordered-length}
 use Rattle.rules_theorems.proofs.Documents.{good-is-lawful}
-use Rattle.tables_ids.specs.Column.{Records, column}
+use Rattle.tables_ids.specs.Column.{Records, Apart, Rising, column}
 use Rattle.constraints_states.specs.declared.Counts.{Counts}
 use Rattle.rules.proofs.Lists.{flat-length, over-length}
 use Rattle.constraints.specs.declared.walks.Walked.{Walked}
@@ -200,21 +200,21 @@ module _ (text legs : List ℕ) (n : ℕ) (c t : List ℕ) where
 low : (places : List ℕ) → All (λ n. n ≤ mostConstraints) places → (k : ℕ) → getD places k 0 ≤ mostConstraints
 low places h k = all-at (λ n. n ≤ mostConstraints) places 0 h (omega arith) k
 
-pub able-first : (text legs : List ℕ) (n : ℕ) → length text ≤ mostText → Records legWidth n legs → n ≤ mostLegs → Able text legs n none
-able-first text legs n short there few =
+pub able-first : (text legs : List ℕ) (n rising : ℕ) → length text ≤ mostText → Apart legWidth n legs → n ≤ mostLegs → Rising legWidth n rising legs → Able text legs n rising none
+able-first text legs n rising short there few rises =
     record {
       short = short;
-      legs-there = there;
+      legs-there = record { apart = there; rises = rises };
       few-legs = few;
       low = low none (omega arith, (omega arith, (omega arith, (omega arith, (omega arith, (omega arith, tt))))));
     }
 
-pub able-second : (text legs : List ℕ) (n : ℕ) (counts starts : List ℕ) → length text ≤ mostText → Records legWidth n legs → n ≤ mostLegs
-    → beforeLast counts ≤ mostConstraints → starts ≡ startsOf counts → Able text legs n starts
-able-second text legs n counts starts short there few h e =
+pub able-second : (text legs : List ℕ) (n rising : ℕ) (counts starts : List ℕ) → length text ≤ mostText → Apart legWidth n legs → n ≤ mostLegs → Rising legWidth n rising legs
+    → beforeLast counts ≤ mostConstraints → starts ≡ startsOf counts → Able text legs n rising starts
+able-second text legs n rising counts starts short there few rises h e =
     record {
       short = short;
-      legs-there = there;
+      legs-there = record { apart = there; rises = rises };
       few-legs = few;
       low = λ k. rw e (low (startsOf counts) (omega arith, (omega arith, (omega arith, (omega arith, (omega arith, (omega arith, tt)))))) k);
     }

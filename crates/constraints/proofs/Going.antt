@@ -228,7 +228,7 @@ module _ (text legs : List ℕ) (n : ℕ) (c₀ t₀ s₀ : List ℕ) (sorts : B
           ids-held = rw (g .counted) (ids-held (g .d .ids) ids (omega (arith, g .ids-long, few-ids Legs C T st (g .d) (g .keeps))) (g .ids-there));
         }
 
-    pub ready : (tk : Found) → Able text legs n s₀ → Seen text at tk → Ready text legs n t ids seen tk
+    pub ready : {rising : ℕ} (tk : Found) → Able text legs n rising s₀ → Seen text at tk → Ready text legs n rising t ids seen tk
     ready tk able s =
         record {
           legs-there = able .legs-there;
@@ -240,7 +240,7 @@ module _ (text legs : List ℕ) (n : ℕ) (c₀ t₀ s₀ : List ℕ) (sorts : B
           starts = s .starts;
         }
 
-    pub able-at : Able text legs n s₀ → Within text at
+    pub able-at : {rising : ℕ} → Able text legs n rising s₀ → Within text at
     able-at able = record { short = able .short; inside = g .inside }
 
     few-constraints : length (g .d .constraints) ≤ mostConstraints
@@ -255,7 +255,7 @@ module _ (text legs : List ℕ) (n : ℕ) (c₀ t₀ s₀ : List ℕ) (sorts : B
           ids = rw (g .counted) (few-ids Legs C T st (g .d) (g .keeps));
         }
 
-    pub next-low : Able text legs n s₀ → (k : ℕ) → getD next k 0 ≤ mostConstraints + mostConstraints
+    pub next-low : {rising : ℕ} → Able text legs n rising s₀ → (k : ℕ) → getD next k 0 ≤ mostConstraints + mostConstraints
     next-low able k = rw (g .places) (omega (arith, nexts-low s₀ (g .d .constraints) k, able .low k, few-constraints))
 
     -- ---- a step from a token that was found; rc and rt are the room that the code has worked out

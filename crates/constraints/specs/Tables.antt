@@ -9,7 +9,7 @@ use Rattle.rules.specs.Lists.{flat, over}
 use Rattle.rules.specs.Answers.{Reading, refused, good}
 use Rattle.rules.specs.Tokens.{tokensOf}
 use Rattle.rules.specs.Constraints.{Document, empty, start, plainRules, run, constraintsOf, ordered, constraintNumbers, trackNumbers}
-use Rattle.tables_ids.specs.Column.{Records, column}
+use Rattle.tables_ids.specs.Column.{Sought, column}
 use Rattle.constraints_states.specs.Steps.{countsOf}
 use Rattle.constraints_tables.specs.Places.{nexts, written}
 use Rattle.constraints.specs.declared.walks.Walked.{Walked}
@@ -36,9 +36,9 @@ Walks starts sorts (refused x) c t r next c′ t′ = r ≡ Refused (x .number) 
 Walks starts sorts (good d) c t r next c′ t′ = Filled starts sorts d c t r next c′ t′
 
 -- what a walk needs: a text that is not too long, the legs that are said to be there, places that are not past all limits
-pub record Able (text legs : List ℕ) (n : ℕ) (starts : List ℕ) : Type 0 where
+pub record Able (text legs : List ℕ) (n rising : ℕ) (starts : List ℕ) : Type 0 where
   pub short : length text ≤ mostText
-  pub legs-there : Records legWidth n legs
+  pub legs-there : Sought legWidth n rising legs
   pub few-legs : n ≤ mostLegs
   pub low : (k : ℕ) → getD starts k 0 ≤ mostConstraints
 

@@ -1,13 +1,15 @@
 // constraints.json read into its two tables, in one walk over its tokens, or two where its lists are not in the table's order. `files` reads it.
 ghost use Prim.Native.Nat.{_≤_};
 ghost use Rattle.rules.specs.Limits.{legWidth, mostLegs};
-ghost use Rattle.tables_ids.specs.Column.{Records};
+ghost use Rattle.tables_ids.specs.Column.{Apart};
 ghost use Rattle.constraints.specs.Tables.{reading, Reads};
 use constraints_tables::PLACES;
 use constraints_tables::in_order;
 use constraints_tables::starts_of;
 use rules::answers::Refusal;
+use rules::sizes::Leg;
 use rules::sizes::Text;
+use tables_ids::rising_of;
 use walks::Walked;
 use walks::walk;
 
@@ -31,14 +33,24 @@ pub fn read_constraints(
     constraints: &mut [u32],
     tracks: &mut [u32],
 ) -> Read
-    requires { ⌜ Records legWidth n (now legs) × (n ≤ mostLegs) ⌝ }
+    requires { ⌜ Apart legWidth n (now legs) × (n ≤ mostLegs) ⌝ }
     ensures { λ r. ⌜ Reads (reading (now (text .entry)) (now (legs .entry)) n (now (constraints .entry)) (now (tracks .entry))) (now (constraints .entry)) (now (tracks .entry)) r (now (constraints .exit)) (now (tracks .exit)) ⌝ }
 {
     if Text::MOST < text.len() {
         return Read::Refused(Refusal::TOO_LONG, 0);
     }
+    let rising = rising_of(legs, Leg::WIDTH, n);
     let mut counts = [0usize; PLACES];
-    match walk(text, legs, n, constraints, tracks, &mut counts, false) {
+    match walk(
+        text,
+        legs,
+        n,
+        rising,
+        constraints,
+        tracks,
+        &mut counts,
+        false,
+    ) {
         Walked::Refused(number, place) => Read::Refused(number, place),
         Walked::Good(seen) => {
             let read = seen.constraints;
@@ -46,7 +58,7 @@ pub fn read_constraints(
                 return Read::Whole(read, seen.tracks, seen.subnets);
             }
             let mut next = starts_of(counts);
-            walk(text, legs, n, constraints, tracks, &mut next, true);
+            walk(text, legs, n, rising, constraints, tracks, &mut next, true);
             Read::Whole(seen.constraints, seen.tracks, seen.subnets)
         }
     }

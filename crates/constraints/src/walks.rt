@@ -22,12 +22,13 @@ pub fn walk(
     text: &[u8],
     legs: &[u32],
     n: usize,
+    rising: usize,
     constraints: &mut [u32],
     tracks: &mut [u32],
     next: &mut [usize],
     sorts: bool,
 ) -> Walked
-    requires { ⌜ Able (now text) (now legs) n (now next) ⌝ }
+    requires { ⌜ Able (now text) (now legs) n rising (now next) ⌝ }
     ensures { λ r. ⌜ Walks (now (next .entry)) sorts (outcome (now (text .entry)) (now (legs .entry)) n (now (constraints .entry)) (now (tracks .entry)))
         (now (constraints .entry)) (now (tracks .entry)) r (now (next .exit)) (now (constraints .exit)) (now (tracks .exit)) ⌝ }
 {
@@ -38,7 +39,18 @@ pub fn walk(
     let mut at: usize = 0;
     loop {
         let t = token_at(text, at);
-        let step = turn(text, legs, n, &tracks[..], &ids[..], seen, room, st, t);
+        let step = turn(
+            text,
+            legs,
+            n,
+            rising,
+            &tracks[..],
+            &ids[..],
+            seen,
+            room,
+            st,
+            t,
+        );
         at = t.next as usize;
         match step {
             Step::On(after) => st = after,

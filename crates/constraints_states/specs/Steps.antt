@@ -10,7 +10,7 @@ use Rattle.rules.specs.Constraints.{Document, withConstraint, withSubnet, withI
 use Rattle.text_read.specs.Held.{wholeHeld}
 use Rattle.text_read.specs.declared.numbers.Whole.{Whole}
 use Rattle.constraints_tokens.specs.declared.Token.{Token as Found}
-use Rattle.tables_ids.specs.Column.{Records, column, trackIdsOf}
+use Rattle.tables_ids.specs.Column.{Records, Sought, column, trackIdsOf}
 use Rattle.constraints_states.specs.declared.Step.{Step}
 use Rattle.constraints_states.specs.declared.Step.the-variants.{On, Emit, Opened, Named, Listed, Finish, Fault}
 use Rattle.constraints_states.specs.declared.Counts.{Counts}
@@ -56,9 +56,9 @@ pub record Tied (c : Counts) (tracks ids : List ℕ) (d : Document) : Type 0 whe
   pub tracks-held : column trackWidth (c .tracks) tracks ≡ trackIdsOf (d .tracks)
   pub ids-held : column idWidth (c .ids) ids ≡ d .ids
 
--- the tables are long enough for what is said to be in them, and the token lies in the text
-pub record Ready (text legs : List ℕ) (n : ℕ) (tracks ids : List ℕ) (c : Counts) (t : Found) : Type 0 where
-  pub legs-there : Records legWidth n legs
+-- the tables are long enough for what is said to be in them, the legs can be looked up, and the token lies in the text
+pub record Ready (text legs : List ℕ) (n rising : ℕ) (tracks ids : List ℕ) (c : Counts) (t : Found) : Type 0 where
+  pub legs-there : Sought legWidth n rising legs
   pub few-legs : n ≤ mostLegs
   pub tracks-there : Records trackWidth (c .tracks) tracks
   pub ids-there : Records idWidth (c .ids) ids

@@ -7,7 +7,7 @@ ghost use Rattle.rules.specs.Kinds.{typeNamed};
 ghost use Rattle.rules.specs.Constraints as law;
 ghost use Rattle.rules.specs.Constraints.{Document};
 ghost use Rattle.rules.specs.Tokens.{Token};
-ghost use Rattle.tables_ids.specs.Column.{Records, column};
+ghost use Rattle.tables_ids.specs.Column.{Records, Sought, column};
 ghost use Rattle.constraints_states.specs.Steps.{turned, Always, Says, idWidth};
 use crate::Step;
 use crate::states::given;
@@ -50,14 +50,21 @@ pub fn string_cut(st: State, place: u32, next: u32) -> Step
 }
 
 // The row of a leg.
-pub fn leg_value(legs: &[u32], n: usize, number: Whole, st: State, place: u32) -> Step
-    requires { ⌜ Records legWidth n (now legs) × (n ≤ mostLegs) ⌝ }
+pub fn leg_value(
+    legs: &[u32],
+    n: usize,
+    rising: usize,
+    number: Whole,
+    st: State,
+    place: u32,
+) -> Step
+    requires { ⌜ Sought legWidth n rising (now legs) × (n ≤ mostLegs) ⌝ }
     ensures { λ r. ⌜ ((constraints tracks : ℕ) (d : Document) (t : Token) → Says t place number → turned r d ≡ law.legValue (column legWidth n (now (legs .entry))) constraints tracks st d t) ⌝ }
 {
     match number {
         Whole::Malformed => Step::Fault(Refusal::JSON_FORM, place),
         Whole::Beyond => Step::Fault(Refusal::RANGE, place),
-        Whole::Number(id) => match tables_ids::row_of(legs, Leg::WIDTH, n, id) {
+        Whole::Number(id) => match tables_ids::numbered(legs, Leg::WIDTH, n, rising, id) {
             Found::At(row) => Step::On(given(row as u32, st)),
             Found::Nothing => Step::Fault(Refusal::NOT_THERE, place),
         },
@@ -102,13 +109,14 @@ pub fn seconds_value(number: Whole, st: State, place: u32) -> Step
 pub fn number_value(
     legs: &[u32],
     n: usize,
+    rising: usize,
     ids: &[u32],
     named: usize,
     number: Whole,
     st: State,
     place: u32,
 ) -> Step
-    requires { ⌜ Records legWidth n (now legs) × ((n ≤ mostLegs) × Records idWidth named (now ids)) ⌝ }
+    requires { ⌜ Sought legWidth n rising (now legs) × ((n ≤ mostLegs) × Records idWidth named (now ids)) ⌝ }
     ensures { λ r. ⌜ ((constraints tracks : ℕ) (d : Document) (t : Token)
         → Says t place number → column idWidth named (now (ids .entry)) ≡ d .ids → turned r d ≡ law.numberValue (column legWidth n (now (legs .entry))) constraints tracks st d t) ⌝ }
 {
@@ -119,10 +127,10 @@ pub fn number_value(
         return Step::Fault(Refusal::JSON_FORM, place);
     }
     if st.key == Key::FIRST_LEG {
-        return leg_value(legs, n, number, st, place);
+        return leg_value(legs, n, rising, number, st, place);
     }
     if st.key == Key::SECOND_LEG {
-        return leg_value(legs, n, number, st, place);
+        return leg_value(legs, n, rising, number, st, place);
     }
     if st.key == Key::SUBNET_ID {
         return subnet_value(ids, named, number, st, place);

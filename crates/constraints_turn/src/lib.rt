@@ -28,11 +28,12 @@ use text_read::numbers::read_whole;
 
 pub mod records; // names and braces
 
-// A token of the text, by the state and by what has been read: `tracks` holds the tracks so far, `ids` the ids of subnets.
+// A token of the text, by the state and by what has been read: `tracks` holds the tracks so far, `ids` the ids of subnets. Of the n legs' ids the first `rising` rise.
 pub fn turn(
     text: &[u8],
     legs: &[u32],
     n: usize,
+    rising: usize,
     tracks: &[u32],
     ids: &[u32],
     seen: Counts,
@@ -40,7 +41,7 @@ pub fn turn(
     st: State,
     t: Token,
 ) -> Step
-    requires { ⌜ Ready (now text) (now legs) n (now tracks) (now ids) seen t ⌝ }
+    requires { ⌜ Ready (now text) (now legs) n rising (now tracks) (now ids) seen t ⌝ }
     ensures { λ r. ⌜ ((d : Document) → Tied seen (now (tracks .entry)) (now (ids .entry)) d → turned r d ≡ turnOf (column legWidth n (now (legs .entry))) (room .constraints) (room .tracks) st d (found (now (text .entry)) t)) ⌝ }
 {
     let phase = st.phase;
@@ -60,7 +61,9 @@ pub fn turn(
         Action::RecordEnds => record_ends(st, at),
         Action::StringValue => string_value(word, st, at),
         Action::StringCut => string_cut(st, at, t.next),
-        Action::NumberValue => { number_value(legs, n, ids, seen.ids, read_whole(word), st, at) }
+        Action::NumberValue => {
+            number_value(legs, n, rising, ids, seen.ids, read_whole(word), st, at)
+        }
         Action::TracksOpen => tracks_open(st, at),
         Action::TrackNumber => {
             track_number(tracks, seen.tracks, room.tracks, read_whole(word), st, at)

@@ -16,7 +16,7 @@ use Rattle.rules.specs.declared.answers.Refusal.{Refusal}
 use Rattle.rules_theorems.proofs.GoodText.{never-good}
 use Rattle.rules_theorems.proofs.GoodRows.{timetable-good}
 use Rattle.rules_theorems.proofs.GoodFiles.{good-first}
-use Rattle.rules_theorems.proofs.LawfulRows.{legs-most}
+use Rattle.rules_theorems.proofs.LawfulRows.{legs-most, legs-distinct}
 use Rattle.files_tests.proofs.Fronts.{front-held}
 use Rattle.tables_lent.specs.declared.Counts.{Counts}
 use Rattle.tables_lent.specs.declared.Filed.{Filed}
@@ -84,6 +84,7 @@ module _ (H : ℕ) (timetable profiles constraints legs configurations profileTa
             short = written .short;
             many = many;
             few = rw many (legs-most H rows (written .lawful));
+            apart = legs-distinct H rows (written .lawful);
             legs-hold = front-held (flat legNumbers (legsOf rows)) legs (got .there .0);
           }
 

@@ -15,14 +15,14 @@ use Rattle.rules.specs.declared.answers.Refusal.{Refusal}
 use Rattle.rules_theorems.proofs.FileRefusals.{Refuses, refuses, constraints-refuse}
 use Rattle.tables_ids.specs.declared.Found.{Found}
 use Rattle.tables_ids.specs.declared.Found.the-variants.{At, Nothing}
-use Rattle.tables_ids.specs.Column.{Records, column}
+use Rattle.tables_ids.specs.Column.{Records, Apart, column}
 use Rattle.constraints.specs.declared.Read.{Read}
 use Rattle.constraints.specs.declared.Read.the-variants.{Whole as WholeText, Refused as NotRead}
 use Rattle.constraints.specs.Tables.{readOf, reading, Reads}
 use Rattle.files_tests.specs.Subnets.{faultAt, Fifteen}
 use Rattle.constraints.proofs.Filling.{tracks-held}
 use Rattle.files_tests.proofs.Holding.{front-records}
-use Rattle.files_tests.proofs.Fronts.{legs-records, legs-ids, legs-tracks}
+use Rattle.files_tests.proofs.Fronts.{legs-apart, legs-ids, legs-tracks}
 use Rattle.tables_lent.specs.declared.Counts.{Counts}
 use Rattle.tables_lent.specs.declared.Filed.the-variants.{Whole, Refused}
 use Rattle.tables_lent.proofs.Filing.{same-refusal}
@@ -35,8 +35,8 @@ own-file (refused r) (refuses f) number place e = same-refusal r (cc) f (cc)
 own-file (good d) q number place e = let z : _≡_ {A = ℕ} 0 1 = cc in absurd (omega arith)
 
 -- what the constraints are read over
-pub rules-able : {timetable legs : List ℕ} {n : ℕ} → Drafted timetable legs n → Records legWidth n legs × (n ≤ mostLegs)
-rules-able {legs = legs} {n = n} d = (legs-records legs n (d .rows) (d .draft .many) (d .draft .legs-hold), d .draft .few)
+pub rules-able : {timetable legs : List ℕ} {n : ℕ} → Drafted timetable legs n → Apart legWidth n legs × (n ≤ mostLegs)
+rules-able {legs = legs} {n = n} d = (legs-apart legs n (d .rows) (d .draft .many) (d .draft .legs-hold) (d .draft .apart), d .draft .few)
 
 module _ (counts : Counts) (timetable text legs constraints tracks constraints′ tracks′ : List ℕ)
     {answer : Read} (read : Reads (reading text legs (counts .legs) constraints tracks) constraints tracks answer constraints′ tracks′) where
@@ -71,7 +71,7 @@ module _ (counts : Counts) (timetable text legs constraints tracks constraints�
     -- what 15 is tested over
     pub fifteen-able : Drafted timetable legs (counts .legs) → Records legWidth (counts .legs) legs × Records trackWidth m tracks′
     fifteen-able d =
-        (rules-able d .0, front-records trackNumbers trackWidth (omega arith) (λ t. refl) (got .what .tracks) tracks tracks-many track-table)
+        (rules-able d .0 .records, front-records trackNumbers trackWidth (omega arith) (λ t. refl) (got .what .tracks) tracks tracks-many track-table)
 
     module _ (found : Found) (f : Fifteen legs (counts .legs) tracks′ m found) where
       fault : (rows : List Row) → Draft timetable legs (counts .legs) rows → faultAt found ≡ firstFault 0 (subnetFault (got .what .tracks)) rows

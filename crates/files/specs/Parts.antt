@@ -12,6 +12,7 @@ use Rattle.rules.specs.Timetable.{Row, listed, legsOf, legNumbers, configuratio
 use Rattle.rules.specs.Profiles.{Curve, sampled, profilesOf, profileFault, profilesFrom, profileNumbers, sampleTable}
 use Rattle.rules.specs.Constraints.{Document, plainRules, constraintsOf, subnetFault, ordered, constraintNumbers, trackNumbers}
 use Rattle.rules.specs.Reading.{horizonOf, legIds}
+use Rattle.rules_theorems.specs.Lists.{Distinct}
 use Rattle.tables_lent.specs.declared.Counts.{Counts}
 use Rattle.tables_lent.specs.declared.Filed.{Filed}
 use Rattle.tables_lent.specs.Filing.{filedBy}
@@ -70,11 +71,12 @@ withDocument c document =
 
 -- ---- what the later parts need of a draft that was read
 
--- its text is not too long, and its legs stand at the front of their table
+-- its text is not too long, no two legs have the same id, and they stand at the front of their table
 pub record Draft (text legs : List ℕ) (n : ℕ) (rows : List Row) : Type 0 where
   pub short : length text ≤ mostText
   pub many : n ≡ length rows
   pub few : n ≤ mostLegs
+  pub apart : Distinct (λ r. r .leg) rows
   pub legs-hold : legs ≡ over (flat legNumbers (legsOf rows)) legs
 
 -- and so do its configurations

@@ -60,6 +60,11 @@ pub record Rising (width n rising : ℕ) (table : List ℕ) : Type 0 where
   pub within : rising ≤ n
   pub ascending : Ascending (take rising (column width n table))
 
+-- n records of which no two have the same id, and the first so many have rising ids
+pub record Sought (width n rising : ℕ) (table : List ℕ) : Type 0 where
+  pub apart : Apart width n table
+  pub rises : Rising width n rising table
+
 -- a place that parts ids: those before it are below an id, and those from it on are not
 pub record Parted (ids : List ℕ) (id at : ℕ) : Type 0 where
   pub within : at ≤ length ids

@@ -5,7 +5,7 @@ ghost use Prim.Native.Nat.{_≤_};
 ghost use lib.Dec.{eqb};
 ghost use lib.ListN.{take, drop};
 ghost use Rattle.rules.specs.Lists.{placeFrom};
-ghost use Rattle.tables_ids.specs.Column.{Records, Rising, Ascending, Last, Parted, column, foundOf, placeOf, isNew};
+ghost use Rattle.tables_ids.specs.Column.{Records, Rising, Sought, Ascending, Last, Parted, column, foundOf, placeOf, isNew};
 
 // The place of a record, or none.
 pub enum Found {
@@ -104,6 +104,22 @@ pub fn find(table: &[u32], width: usize, n: usize, rising: usize, id: u32) -> Fo
         Found::At(i) => Found::At(i),
         Found::Nothing => walk(table, width, rising, n, id),
     }
+}
+
+// `find`, where no two records have the same id. Records are mostly numbered from 1: the one that then has the id is looked at first.
+pub fn numbered(table: &[u32], width: usize, n: usize, rising: usize, id: u32) -> Found
+    requires { ⌜ Sought width n rising (now table) ⌝ }
+    ensures { λ r. ⌜ r ≡ placeOf id (column width n (now (table .entry))) ⌝ }
+{
+    if 0 < id {
+        let place = (id - 1) as usize;
+        if place < n {
+            if table[place * width] == id {
+                return Found::At(place);
+            }
+        }
+    }
+    find(table, width, n, rising, id)
 }
 
 // How many of n ids rise, from the first on.

@@ -4,6 +4,8 @@
 //! How it is made so that the answers are known: trains of a line follow one pattern of departures, and every record between two trains leaves room for
 //! moving each of them by the reach of the offers, and for a shorter travel time. So any train may move as a whole, and any leg may run faster, and the
 //! solution stays accepted.
+//!
+//! There is also the worst file that document 01 allows, in no published shape, whose solutions are accepted for the same reason.
 
 mod aim;
 mod dice;
@@ -11,8 +13,10 @@ mod make;
 mod plan;
 mod shape;
 mod text;
+mod worst;
 
 pub use aim::{Aim, Violated};
 pub use plan::{Choices, Leg, Offer, Plan, Record};
 pub use shape::{Ids, Shape, Style};
-pub use text::exported;
+pub use text::{exported, indented};
+pub use worst::Worst;

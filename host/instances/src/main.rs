@@ -1,14 +1,15 @@
 //! Writes an instance to a folder, with solutions and with one variant for each violation, and prints the answers to expect.
 
-use instances::{exported, Aim, Choices, Ids, Plan, Shape, Style};
+use instances::{exported, indented, Aim, Choices, Ids, Plan, Shape, Style, Worst};
 use std::fs;
 use std::path::Path;
 use std::process::ExitCode;
 
 const USAGE: &str = "\
-instances FOLDER [--style underground|railway] [--legs N] [--seed S] [--shuffled] [--exported]
+instances FOLDER [--style underground|railway] [--legs N] [--worst] [--seed S] [--shuffled] [--exported] [--indented]
 
-Without --legs, the largest instance of the style. With --exported, CSV files as a spreadsheet exports them: every field in quotes, CR LF at every line.
+Without --legs, the largest instance of the style. With --worst, the worst file that document 01 allows, of no style, without violations. With --exported, CSV files
+as a spreadsheet exports them: every field in quotes, CR LF at every line. With --indented, constraints with each member on a line of its own.
 ";
 
 fn main() -> ExitCode {
@@ -29,30 +30,54 @@ fn main() -> ExitCode {
 /// What the words ask for.
 struct Asked<'a> {
     folder: &'a Path,
-    shape: Shape,
+    style: Style,
+    legs: Option<usize>,
+    worst: bool,
+    seed: u64,
+    ids: Ids,
     exported: bool,
+    indented: bool,
 }
 
 fn asked(words: &[String]) -> Option<Asked<'_>> {
     let (folder, options) = words.split_first()?;
-    let (mut style, mut legs, mut seed, mut ids, mut exported) = (Style::Underground, None, 1, Ids::InOrder, false);
+    let (folder, style, ids) = (Path::new(folder), Style::Underground, Ids::InOrder);
+    let mut asked = Asked { folder, style, legs: None, worst: false, seed: 1, ids, exported: false, indented: false };
     let mut options = options.iter();
     while let Some(option) = options.next() {
         match option.as_str() {
-            "--style" => style = self::style(options.next()?)?,
-            "--legs" => legs = Some(options.next()?.parse().ok().filter(|legs| *legs > 1)?),
-            "--seed" => seed = options.next()?.parse().ok()?,
-            "--shuffled" => ids = Ids::Shuffled,
-            "--exported" => exported = true,
+            "--style" => asked.style = self::style(options.next()?)?,
+            "--legs" => asked.legs = Some(options.next()?.parse().ok().filter(|legs| *legs > 1)?),
+            "--worst" => asked.worst = true,
+            "--seed" => asked.seed = options.next()?.parse().ok()?,
+            "--shuffled" => asked.ids = Ids::Shuffled,
+            "--exported" => asked.exported = true,
+            "--indented" => asked.indented = true,
             _ => return None,
         }
     }
-    let shape = match (legs, style) {
-        (Some(legs), _) => Shape::of(style, legs),
-        (None, Style::Underground) => Shape::largest_underground(),
-        (None, Style::Railway) => Shape::largest_railway(),
-    };
-    Some(Asked { folder: Path::new(folder), shape: shape.seeded(seed).with_ids(ids), exported })
+    Some(asked)
+}
+
+impl Asked<'_> {
+    fn plan(&self) -> Plan {
+        if self.worst {
+            return Plan::worst(Worst::at_the_limits().seeded(self.seed).with_ids(self.ids));
+        }
+        let shape = match (self.legs, self.style) {
+            (Some(legs), style) => Shape::of(style, legs),
+            (None, Style::Underground) => Shape::largest_underground(),
+            (None, Style::Railway) => Shape::largest_railway(),
+        };
+        Plan::new(shape.seeded(self.seed).with_ids(self.ids))
+    }
+
+    /// A CSV file or constraints, spelled as is asked for.
+    fn put(&self, name: &str, text: &str) -> Result<(), String> {
+        let csv = name.ends_with(".csv");
+        let spelled = if csv { self.exported.then(|| exported(text)) } else { self.indented.then(|| indented(text)) };
+        fs::write(self.folder.join(name), spelled.as_deref().unwrap_or(text)).map_err(|error| format!("{name}: {error}\n"))
+    }
 }
 
 fn style(name: &str) -> Option<Style> {
@@ -64,31 +89,40 @@ fn style(name: &str) -> Option<Style> {
 }
 
 fn write(asked: &Asked) -> Result<String, String> {
-    let Asked { folder, shape, .. } = *asked;
-    let put = |name: &str, text: &str| fs::write(folder.join(name), text).map_err(|error| format!("{name}: {error}\n"));
-    let put_csv = |name: &str, text: &str| if asked.exported { put(name, &exported(text)) } else { put(name, text) };
-    fs::create_dir_all(folder).map_err(|error| format!("{}: {error}\n", folder.display()))?;
-    let plan = Plan::new(shape);
-    put_csv("timetable.csv", &plan.timetable())?;
-    put_csv("profiles.csv", &plan.profiles_text())?;
-    put("constraints.json", &plan.constraints())?;
+    fs::create_dir_all(asked.folder).map_err(|error| format!("{}: {error}\n", asked.folder.display()))?;
+    let plan = asked.plan();
+    asked.put("timetable.csv", &plan.timetable())?;
+    asked.put("profiles.csv", &plan.profiles_text())?;
+    asked.put("constraints.json", &plan.constraints())?;
     let mut expected = format!("horizon {}\n", plan.horizon());
-    for (name, choices) in
-        [("moved", Choices::Moved(shape.seed)), ("also-moved", Choices::Moved(shape.seed + 1)), ("faster", Choices::Faster(shape.seed))]
-    {
-        put_csv(&format!("{name}.csv"), &plan.solution(&plan.choose(choices)))?;
+    let faster = plan.choose(Choices::Faster(asked.seed));
+    for (name, solution) in [
+        ("moved", plan.solution(&plan.choose(Choices::Moved(asked.seed)))),
+        ("also-moved", plan.solution(&plan.choose(Choices::Moved(asked.seed + 1)))),
+        ("faster", plan.solution(&faster)),
+        ("faster-alone", plan.solution_of_choices(&faster)),
+    ] {
+        asked.put(&format!("{name}.csv"), &solution)?;
         expected.push_str(&format!("constraints.json {name}.csv: accepted\n"));
     }
-    for aim in Aim::ALL {
-        if let Some(violated) = plan.violated(aim, shape.seed) {
-            let name = format!("violated-{}-{}", aim.kind, aim.inequality);
-            put(&format!("{name}.json"), &violated.constraints)?;
-            put_csv(&format!("{name}.csv"), &violated.solution)?;
-            let (kind, inequality, position, shortfall) = (aim.kind, aim.inequality, violated.position, violated.shortfall);
-            expected.push_str(&format!(
-                "{name}.json {name}.csv: violated, kind {kind}, position {position}, inequality {inequality}, shortfall {shortfall}\n"
-            ));
-        }
+    // At the limits there is no room for a choice more in a list, nor for more seconds in a record.
+    let aims = if asked.worst { &[][..] } else { &Aim::ALL[..] };
+    for aim in aims {
+        expected.push_str(&write_violated(asked, &plan, *aim)?);
     }
     Ok(expected)
+}
+
+/// Its line of what to expect; none where the plan has no record that can fail so.
+fn write_violated(asked: &Asked, plan: &Plan, aim: Aim) -> Result<String, String> {
+    let violated = match plan.violated(aim, asked.seed) {
+        Some(violated) => violated,
+        None => return Ok(String::new()),
+    };
+    let (kind, inequality, position, shortfall) = (aim.kind, aim.inequality, violated.position, violated.shortfall);
+    let name = format!("violated-{kind}-{inequality}");
+    asked.put(&format!("{name}.json"), &violated.constraints)?;
+    asked.put(&format!("{name}.csv"), &violated.solution)?;
+    let found = format!("kind {kind}, position {position}, inequality {inequality}, shortfall {shortfall}");
+    Ok(format!("{name}.json {name}.csv: violated, {found}\n"))
 }

@@ -2,7 +2,7 @@
 
 use crate::dice::Dice;
 use crate::plan::{Leg, Offer, Plan, Record};
-use crate::shape::{Ids, Shape, Style};
+use crate::shape::{Shape, Style};
 
 /// A run of one train over the stations of a line, in one of its two directions.
 struct Run {
@@ -86,6 +86,7 @@ impl Plan {
 
 struct Maker {
     dice: Dice,
+    shape: Shape,
     measures: Measures,
     /// For each line and direction, its sections.
     sections: Vec<[Vec<Section>; 2]>,
@@ -95,9 +96,8 @@ struct Maker {
 impl Maker {
     fn new(shape: Shape) -> Maker {
         let measures = Measures::of(shape.style);
-        let plan =
-            Plan { shape, legs: Vec::with_capacity(shape.legs), records: Default::default(), profiles: Vec::new(), subnets: Vec::new() };
-        let mut maker = Maker { dice: Dice::new(shape.seed), measures, sections: Vec::new(), plan };
+        let plan = Plan::empty(shape.style, shape.style.horizon());
+        let mut maker = Maker { dice: Dice::new(shape.seed), shape, measures, sections: Vec::new(), plan };
         let starts = (maker.measures.day.1 - maker.measures.day.0) / maker.measures.spacing;
         let lines = shape.trains / (2 * starts as usize) + 1;
         let longest = (shape.legs + shape.trains - 1) / shape.trains;
@@ -140,11 +140,7 @@ impl Maker {
 
     fn profile_ids(&mut self, sections: usize) -> Vec<u32> {
         let most = sections * self.measures.types * 4;
-        let mut ids: Vec<u32> = (1..=most as u32).collect();
-        if self.plan.shape.ids == Ids::Shuffled {
-            self.dice.shuffle(&mut ids);
-        }
-        ids
+        self.shape.ids.laid((1..=most as u32).collect(), &mut self.dice)
     }
 
     /// A section's travel times for each train type, with a profile for each.
@@ -152,7 +148,7 @@ impl Maker {
         let quickest = self.dice.between(self.measures.travel.0, self.measures.travel.1);
         let mut types = Vec::new();
         for kind in 0..self.measures.types {
-            let times: Vec<u32> = match self.plan.shape.style {
+            let times: Vec<u32> = match self.shape.style {
                 Style::Underground => (0..4).map(|slower| quickest + slower * SLOWER).collect(),
                 Style::Railway => vec![quickest + kind as u32 * RANGE],
             };
@@ -188,7 +184,7 @@ impl Maker {
 
     /// The runs of all trains, line by line and direction by direction, and their legs.
     fn runs(&mut self) -> Vec<Run> {
-        let shape = self.plan.shape;
+        let shape = self.shape;
         let ways = 2 * self.sections.len();
         let mut runs = Vec::new();
         for way in 0..ways {
@@ -224,16 +220,13 @@ impl Maker {
                 start: section.start,
                 end: section.end,
                 nominal: Offer { departure, travel, profile },
-                offers: offers(self.plan.shape.style, departure, ways),
+                offers: offers(self.shape.style, departure, ways),
             });
         }
     }
 
     fn rename_legs(&mut self) {
-        let mut ids: Vec<u32> = (1..=self.plan.legs.len() as u32).collect();
-        if self.plan.shape.ids == Ids::Shuffled {
-            self.dice.shuffle(&mut ids);
-        }
+        let ids = self.shape.ids.laid((1..=self.plan.legs.len() as u32).collect(), &mut self.dice);
         for (leg, id) in self.plan.legs.iter_mut().zip(ids) {
             leg.id = id;
         }
@@ -244,7 +237,7 @@ impl Maker {
         for run in runs {
             for row in run.first + 1..run.first + run.legs {
                 let there_is = self.plan.legs[row].nominal.departure - self.plan.legs[row - 1].nominal.arrival();
-                let low = match self.plan.shape.style {
+                let low = match self.shape.style {
                     Style::Underground => self.dice.between(DWELL, there_is),
                     Style::Railway => there_is,
                 };
@@ -255,7 +248,7 @@ impl Maker {
 
     /// Between two trains on one section, one after the other; when those are used up, over one or more trains between.
     fn headways(&mut self, runs: &[Run]) {
-        let wanted = self.plan.shape.headways;
+        let wanted = self.shape.headways;
         let mut between = 1;
         while self.plan.records[0].len() < wanted && between < runs.len() {
             for (place, run) in runs.iter().enumerate() {
@@ -282,14 +275,14 @@ impl Maker {
 
     /// How far the two ends of a gap may come nearer to each other.
     fn slack(&self) -> u32 {
-        2 * self.plan.shape.style.reach() + RANGE
+        2 * self.shape.style.reach() + RANGE
     }
 
     /// A train leaves the last section of a line, and one of the other direction enters it.
     fn single_tracks(&mut self, runs: &[Run]) {
         let longest = self.sections[0][0].len();
         for run in runs.iter().filter(|run| run.direction == 0 && run.legs == longest) {
-            if self.plan.records[1].len() < self.plan.shape.single_tracks {
+            if self.plan.records[1].len() < self.shape.single_tracks {
                 let last = run.first + run.legs - 1;
                 let free = self.plan.legs[last].nominal.arrival() + self.slack();
                 if let Some(other) = self.next_start(runs, run.line, 1, free) {
@@ -308,9 +301,9 @@ impl Maker {
     /// A train ends and goes back as another one; when those are used up, with a longer wait.
     fn turnarounds(&mut self, runs: &[Run]) {
         let mut wait = 60 + self.slack();
-        while self.plan.records[3].len() < self.plan.shape.turnarounds && wait < self.plan.horizon() {
+        while self.plan.records[3].len() < self.shape.turnarounds && wait < self.plan.horizon() {
             for run in runs {
-                if self.plan.records[3].len() < self.plan.shape.turnarounds {
+                if self.plan.records[3].len() < self.shape.turnarounds {
                     let last = run.first + run.legs - 1;
                     let arrival = self.plan.legs[last].nominal.arrival();
                     if let Some(other) = self.next_start(runs, run.line, 1 - run.direction, arrival + wait) {
@@ -331,9 +324,9 @@ impl Maker {
         let mut arriving: Vec<usize> = (0..self.plan.legs.len()).collect();
         self.dice.shuffle(&mut arriving);
         let mut wait = self.slack();
-        while self.plan.records[4].len() < self.plan.shape.connections && wait < self.plan.horizon() {
+        while self.plan.records[4].len() < self.shape.connections && wait < self.plan.horizon() {
             for first in &arriving {
-                if self.plan.records[4].len() < self.plan.shape.connections {
+                if self.plan.records[4].len() < self.shape.connections {
                     self.connect(*first, &leaving, wait);
                 }
             }
@@ -370,7 +363,7 @@ fn offers(style: Style, departure: u32, ways: &[(u32, u32)]) -> Vec<Offer> {
 }
 
 /// So many parts of about the same size.
-fn split(tracks: &[u32], parts: usize) -> Vec<Vec<u32>> {
+pub fn split(tracks: &[u32], parts: usize) -> Vec<Vec<u32>> {
     let size = (tracks.len() + parts - 1) / parts;
     tracks.chunks(size).map(<[u32]>::to_vec).collect()
 }

@@ -1,7 +1,7 @@
 //! An instance before it is text.
 
 use crate::dice::Dice;
-use crate::shape::Shape;
+use crate::shape::Style;
 
 /// A configuration: `d_t_p`.
 #[derive(Clone, Copy, Debug, PartialEq, Eq)]
@@ -40,7 +40,9 @@ pub struct Record {
 
 #[derive(Clone, Debug)]
 pub struct Plan {
-    pub shape: Shape,
+    /// By which departures are offered around the nominal.
+    style: Style,
+    horizon: u32,
     pub legs: Vec<Leg>,
     /// The records of kinds 1 to 5.
     pub records: [Vec<Record>; 5],
@@ -61,8 +63,13 @@ pub enum Choices {
 }
 
 impl Plan {
+    /// One with nothing in it.
+    pub(crate) fn empty(style: Style, horizon: u32) -> Plan {
+        Plan { style, horizon, legs: Vec::new(), records: Default::default(), profiles: Vec::new(), subnets: Vec::new() }
+    }
+
     pub fn horizon(&self) -> u32 {
-        self.shape.style.horizon()
+        self.horizon
     }
 
     pub fn configurations(&self) -> usize {
@@ -79,7 +86,7 @@ impl Plan {
     }
 
     fn moved(&self, dice: &mut Dice, faster: bool) -> Vec<Offer> {
-        let (step, reach) = (self.shape.style.step(), self.shape.style.reach());
+        let (step, reach) = (self.style.step(), self.style.reach());
         let mut later = 0;
         let mut train = 0;
         let mut chosen = Vec::with_capacity(self.legs.len());

@@ -1,5 +1,7 @@
 //! Which instance is made.
 
+use crate::dice::Dice;
+
 /// The two families of EETTlib.
 #[derive(Clone, Copy, Debug, PartialEq, Eq)]
 pub enum Style {
@@ -11,14 +13,14 @@ pub enum Style {
 
 impl Style {
     /// The seconds between two offered departures, and the greatest distance from the nominal.
-    pub fn step(self) -> u32 {
+    pub const fn step(self) -> u32 {
         match self {
             Style::Underground => 5,
             Style::Railway => 60,
         }
     }
 
-    pub fn reach(self) -> u32 {
+    pub const fn reach(self) -> u32 {
         3 * self.step()
     }
 
@@ -36,6 +38,16 @@ impl Style {
 pub enum Ids {
     InOrder,
     Shuffled,
+}
+
+impl Ids {
+    /// Rising ids, in this order.
+    pub(crate) fn laid(self, mut rising: Vec<u32>, dice: &mut Dice) -> Vec<u32> {
+        if self == Ids::Shuffled {
+            dice.shuffle(&mut rising);
+        }
+        rising
+    }
 }
 
 /// How much of everything; a record of each dwell there can be comes by itself.

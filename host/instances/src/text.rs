@@ -2,10 +2,12 @@
 
 use crate::plan::{Leg, Offer, Plan, Record};
 use std::fmt::Write;
+use std::slice;
 
 const TIMETABLE: &str =
     "leg_id,train_id,track_id,start_station_id,end_station_id,nominal_departure_configuration,departure_configurations\n";
 const PROFILES: &str = "profile_id,power_consumptions\n";
+const INDENT: &str = "    ";
 
 pub const LISTS: [&str; 5] = [
     "headway_time_constraints",
@@ -29,6 +31,27 @@ pub fn exported(text: &str) -> String {
     written
 }
 
+/// The constraints with each member and each element on a line of its own, as many programs write JSON. Their strings have no blanks, brackets or commas.
+pub fn indented(text: &str) -> String {
+    let mut written = String::with_capacity(2 * text.len());
+    let (mut depth, mut last) = (0, ' ');
+    for sign in text.chars().filter(|sign| !sign.is_whitespace()) {
+        let closes = matches!(sign, '}' | ']');
+        depth -= usize::from(closes);
+        // Behind an opening bracket or a comma, and before a closing bracket; nothing that is empty is opened.
+        if matches!(last, '{' | '[' | ',') != closes {
+            written.push('\n');
+            written.push_str(&INDENT.repeat(depth));
+        }
+        written.push(sign);
+        written.push_str(if sign == ':' { " " } else { "" });
+        depth += usize::from(matches!(sign, '{' | '['));
+        last = sign;
+    }
+    written.push('\n');
+    written
+}
+
 /// Writing to a string cannot fail.
 macro_rules! put {
     ($text:expr, $($what:tt)*) => {
@@ -45,10 +68,18 @@ impl Plan {
 
     /// The draft's rows with these choices.
     pub fn solution(&self, choices: &[Offer]) -> String {
-        let mut text = String::with_capacity(20 * self.configurations() + 64 * self.legs.len());
-        text.push_str(TIMETABLE);
+        self.rows(choices, |leg, _| &leg.offers)
+    }
+
+    /// The same, but each list is the choice alone.
+    pub fn solution_of_choices(&self, choices: &[Offer]) -> String {
+        self.rows(choices, |_, choice| slice::from_ref(choice))
+    }
+
+    fn rows<'a>(&'a self, choices: &'a [Offer], list: fn(&'a Leg, &'a Offer) -> &'a [Offer]) -> String {
+        let mut text = String::from(TIMETABLE);
         for (leg, choice) in self.legs.iter().zip(choices) {
-            row(&mut text, leg, *choice, &leg.offers);
+            row(&mut text, leg, *choice, list(leg, choice));
         }
         text
     }
@@ -144,6 +175,12 @@ mod tests {
     #[test]
     fn every_field_is_exported_in_quotes() {
         assert_eq!(super::exported("a,b\n1,2 3\n"), "\"a\",\"b\"\r\n\"1\",\"2 3\"\r\n");
+    }
+
+    #[test]
+    fn every_member_is_indented_on_a_line() {
+        let lines = ["{", "    \"a\": [],", "    \"b\": [", "        1,", "        2", "    ]", "}", ""];
+        assert_eq!(super::indented("{\"a\": [], \"b\": [1, 2]}\n"), lines.join("\n"));
     }
 
     #[test]

@@ -1,7 +1,7 @@
 //! Every instance reads, its solutions are accepted, and each aimed violation is the one that is found: by the independent program.
 
 use independent::{check, energy, merge, Answer, Direction, Rooms};
-use instances::{exported, Aim, Choices, Ids, Plan, Shape, Style};
+use instances::{exported, indented, Aim, Choices, Ids, Plan, Shape, Style, Worst};
 
 struct Texts {
     h: u32,
@@ -37,15 +37,50 @@ fn shapes() -> Vec<Shape> {
     shapes
 }
 
+/// The worst file made small, in both orders of ids.
+fn worst() -> impl Iterator<Item = Worst> {
+    let sizes = [(8_192, 1), (1_024, 2), (128, 3)].into_iter().map(|(times, seed)| Worst::at_the_limits().smaller(times).seeded(seed));
+    sizes.flat_map(|size| [Ids::InOrder, Ids::Shuffled].map(|ids| size.with_ids(ids)))
+}
+
+/// With constraints in both layouts, and a choice's list as the draft has it or the choice alone.
 #[test]
 fn solutions_are_accepted() {
-    for shape in shapes() {
-        let plan = Plan::new(shape);
+    let plans = shapes().into_iter().map(Plan::new).chain(worst().map(Plan::worst));
+    for (place, plan) in plans.enumerate() {
         let texts = Texts::of(&plan);
+        let constraints = [indented(&texts.constraints), texts.constraints.clone()];
         for choices in [Choices::Nominal, Choices::Moved(1), Choices::Moved(2), Choices::Faster(3)] {
-            let solution = plan.solution(&plan.choose(choices));
-            assert_eq!(texts.check(&texts.constraints, &solution), Answer::Accepted, "{shape:?} {choices:?}");
+            let chosen = plan.choose(choices);
+            for (constraints, solution) in constraints.iter().zip([plan.solution_of_choices(&chosen), plan.solution(&chosen)]) {
+                assert_eq!(texts.check(constraints, &solution), Answer::Accepted, "plan {place}, {choices:?}");
+            }
         }
+    }
+}
+
+/// A list of one entry has no space in it.
+#[test]
+fn lists_are_the_choice_alone() {
+    let plan = Plan::new(Shape::of(Style::Underground, 40));
+    let chosen = plan.choose(Choices::Faster(1));
+    assert!(plan.solution(&chosen).contains(' ') && !plan.solution_of_choices(&chosen).contains(' '));
+}
+
+/// The worst file whole: its tables are full, its ids have nine digits and the order that was asked for, and it is accepted.
+#[test]
+fn the_worst_is_at_the_limits() {
+    for ids in [Ids::InOrder, Ids::Shuffled] {
+        let plan = Plan::worst(Worst::at_the_limits().with_ids(ids));
+        let texts = Texts::of(&plan);
+        let samples: usize = plan.profiles.iter().map(|(_, samples)| samples.len()).sum();
+        let tracks: usize = plan.subnets.iter().map(Vec::len).sum();
+        assert_eq!([plan.legs.len(), plan.configurations(), plan.profiles.len(), samples], [32_768, 1_048_576, 16_384, 1_048_576]);
+        assert_eq!([plan.records[0].len(), tracks, plan.subnets.len()], [65_536, 4_096, 8]);
+        assert!(plan.legs.iter().all(|leg| (100_000_000..=999_999_999).contains(&leg.id)));
+        assert_eq!(plan.legs.windows(2).all(|legs| legs[0].id < legs[1].id), ids == Ids::InOrder);
+        assert_eq!(plan.profiles.windows(2).all(|profiles| profiles[0].0 < profiles[1].0), ids == Ids::InOrder);
+        assert_eq!(texts.check(&texts.constraints, &plan.solution(&plan.choose(Choices::Faster(1)))), Answer::Accepted);
     }
 }
 

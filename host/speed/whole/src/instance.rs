@@ -1,37 +1,48 @@
 //! What is measured: an instance as texts, whole or cut off after a file, so that the time of each reader can be told from outside.
 
-use instances::{Choices, Ids, Plan, Record, Shape, Style};
+use instances::{indented, Choices, Ids, Plan, Shape, Style};
 use yardstick::whole::Texts;
+
+/// Of the solution.
+const SEED: u64 = 1;
 
 pub struct Instance {
     pub h: u32,
+    pub legs: usize,
     pub timetable: Vec<u8>,
     pub profiles: Vec<u8>,
     pub constraints: Vec<u8>,
     pub solution: Vec<u8>,
-    /// The constraints with every record naming the draft's first leg: a lookup from row one ends at once.
-    pub first_leg_only: Vec<u8>,
+}
+
+/// The largest underground instance made smaller in proportion; itself where the legs are as many.
+pub fn underground(legs: usize, ids: Ids) -> Plan {
+    let largest = Shape::largest_underground();
+    let shape = if legs == largest.legs { largest } else { Shape::of(Style::Underground, legs) };
+    Plan::new(shape.with_ids(ids))
 }
 
 impl Instance {
-    pub fn of(shape: Shape) -> Instance {
-        let plan = Plan::new(shape);
-        let nearest = plan.records.clone().map(|list| list.into_iter().map(|record| Record { first: 0, second: 0, ..record }).collect());
+    pub fn of(plan: &Plan) -> Instance {
         Instance {
             h: plan.horizon(),
+            legs: plan.legs.len(),
             timetable: plan.timetable().into_bytes(),
             profiles: plan.profiles_text().into_bytes(),
             constraints: plan.constraints().into_bytes(),
-            solution: plan.solution(&plan.choose(Choices::Faster(shape.seed))).into_bytes(),
-            first_leg_only: plan.constraints_of(&nearest).into_bytes(),
+            solution: plan.solution(&plan.choose(Choices::Faster(SEED))).into_bytes(),
         }
     }
 
-    /// The largest underground instance made smaller in proportion; itself where the legs are as many.
-    pub fn underground(legs: usize, ids: Ids) -> Instance {
-        let largest = Shape::largest_underground();
-        let shape = if legs == largest.legs { largest } else { Shape::of(Style::Underground, legs) };
-        Instance::of(shape.with_ids(ids))
+    /// With a solution whose lists are the choice alone.
+    pub fn of_choices_alone(plan: &Plan) -> Instance {
+        let solution = plan.solution_of_choices(&plan.choose(Choices::Faster(SEED))).into_bytes();
+        Instance { solution, ..Instance::of(plan) }
+    }
+
+    /// With each member of the constraints on a line of its own.
+    pub fn of_indented_constraints(plan: &Plan) -> Instance {
+        Instance { constraints: indented(&plan.constraints()).into_bytes(), ..Instance::of(plan) }
     }
 
     pub fn texts(&self) -> Texts<'_> {
@@ -51,7 +62,6 @@ pub enum Upto {
     Timetable,
     Profiles,
     Constraints,
-    FirstLegConstraints,
 }
 
 impl Upto {
@@ -63,7 +73,6 @@ impl Upto {
             Upto::Timetable => Texts { profiles: b"", ..whole },
             Upto::Profiles => Texts { constraints: b"", ..whole },
             Upto::Constraints => Texts { solution: b"", ..whole },
-            Upto::FirstLegConstraints => Texts { constraints: &instance.first_leg_only, solution: b"", ..whole },
         };
         (h, texts)
     }
@@ -74,7 +83,7 @@ impl Upto {
             Upto::Nothing => None,
             Upto::Timetable => Some(2),
             Upto::Profiles => Some(3),
-            Upto::Constraints | Upto::FirstLegConstraints => Some(4),
+            Upto::Constraints => Some(4),
         }
     }
 }

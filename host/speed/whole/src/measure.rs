@@ -1,72 +1,65 @@
 //! Times: best of so many runs, of this thread alone, all sides by turns.
 
 use crate::instance::{Instance, Upto};
-use crate::sides::{Outcome, Side};
+use crate::sides::{Figures, Outcome, Side};
 use yardstick::clock;
 
 /// Milliseconds.
 pub type Ms = f64;
 
-/// The times of one side on one instance.
+/// The times of one side on one instance, each with all stages before it.
 #[derive(Clone, Copy, Debug)]
 pub struct Times {
-    nothing: Ms,
-    timetable: Ms,
-    profiles: Ms,
-    constraints: Ms,
-    first_leg: Ms,
+    /// A refusal's filling, which is in the next three too, and in no acceptance.
+    pub nothing: Ms,
+    pub timetable: Ms,
+    pub profiles: Ms,
+    pub constraints: Ms,
     pub check: Ms,
     pub energy: Ms,
-    /// The bytes of the constraints over those of the first-leg ones.
-    longer: f64,
 }
 
 impl Times {
-    fn new(instance: &Instance) -> Times {
+    fn none() -> Times {
         let none = f64::INFINITY;
-        let longer = instance.constraints.len() as f64 / instance.first_leg_only.len() as f64;
-        Times { nothing: none, timetable: none, profiles: none, constraints: none, first_leg: none, check: none, energy: none, longer }
+        Times { nothing: none, timetable: none, profiles: none, constraints: none, check: none, energy: none }
     }
 
-    pub fn timetable(&self) -> Ms {
+    pub fn of_timetable(&self) -> Ms {
         self.timetable - self.nothing
     }
 
     /// With 12 and 13.
-    pub fn profiles(&self) -> Ms {
+    pub fn of_profiles(&self) -> Ms {
         self.profiles - self.timetable
     }
 
-    /// With 15, but for the lookup of legs.
-    pub fn constraints(&self) -> Ms {
-        (self.first_leg - self.profiles) * self.longer
+    /// With 15.
+    pub fn of_constraints(&self) -> Ms {
+        self.constraints - self.profiles
     }
 
-    pub fn lookup(&self) -> Ms {
-        self.constraints - self.profiles - self.constraints()
-    }
-
-    /// With 14 and the verdict. An accepted solution fills nothing.
-    pub fn solution(&self) -> Ms {
+    /// With 14 and the verdict.
+    pub fn of_solution(&self) -> Ms {
         self.check - (self.constraints - self.nothing)
     }
 
     /// Curves and sums alone.
-    pub fn curves(&self) -> Ms {
+    pub fn of_curves(&self) -> Ms {
         self.energy - self.check
     }
 }
 
-/// The times of every side, after all have given the same answers.
-pub fn all(sides: &mut [Box<dyn Side>], instance: &Instance, runs: usize) -> Vec<Times> {
-    agree(sides, instance);
-    let mut times = vec![Times::new(instance); sides.len()];
+/// The times of every side, after all have given the same answers, and the figures.
+pub fn all(sides: &mut [Box<dyn Side>], instance: &Instance, runs: usize) -> (Vec<Times>, Figures) {
+    let figures = agreed(sides, instance);
+    let mut times = vec![Times::none(); sides.len()];
     for _ in 0..runs {
         for (side, times) in sides.iter_mut().zip(&mut times) {
             once(side.as_mut(), instance, times);
         }
     }
-    times
+    (times, figures)
 }
 
 fn once(side: &mut dyn Side, instance: &Instance, times: &mut Times) {
@@ -75,7 +68,6 @@ fn once(side: &mut dyn Side, instance: &Instance, times: &mut Times) {
         (Upto::Timetable, &mut times.timetable),
         (Upto::Profiles, &mut times.profiles),
         (Upto::Constraints, &mut times.constraints),
-        (Upto::FirstLegConstraints, &mut times.first_leg),
     ];
     for (upto, best) in stages {
         let (h, texts) = upto.texts(instance);
@@ -96,10 +88,10 @@ fn timed<T>(work: impl FnOnce() -> T) -> Ms {
 }
 
 /// Before anything is timed.
-fn agree(sides: &mut [Box<dyn Side>], instance: &Instance) {
+fn agreed(sides: &mut [Box<dyn Side>], instance: &Instance) -> Figures {
     let mut figures = Vec::new();
     for side in sides {
-        for upto in [Upto::Timetable, Upto::Profiles, Upto::Constraints, Upto::FirstLegConstraints] {
+        for upto in [Upto::Timetable, Upto::Profiles, Upto::Constraints] {
             let (h, texts) = upto.texts(instance);
             assert_eq!(Some(side.check(h, &texts)), upto.stops_at().map(Outcome::Stopped), "{} {upto:?}", side.name());
         }
@@ -108,4 +100,5 @@ fn agree(sides: &mut [Box<dyn Side>], instance: &Instance) {
         figures.push(its);
     }
     assert!(figures.iter().all(|its| *its == figures[0]), "the sides differ: {figures:?}");
+    figures[0]
 }

@@ -1,5 +1,6 @@
 //! Peak memory of one run of a side, in a process of its own: this program again, over files.
 
+use crate::folder::FILES;
 use crate::sides::{self, Outcome};
 use std::fs;
 use std::path::Path;
@@ -29,8 +30,8 @@ pub fn peak(side: &str, folder: &Path, h: u32) -> Option<f64> {
 /// What the process of its own does and prints.
 pub fn run(side: &str, folder: &Path, h: u32) -> Result<String, String> {
     let read = |name: &str| fs::read(folder.join(name)).map_err(|error| format!("{name}: {error}"));
-    let (timetable, profiles) = (read("timetable.csv")?, read("profiles.csv")?);
-    let (constraints, solution) = (read("constraints.json")?, read("solution.csv")?);
+    let [timetable, profiles, constraints, solution] = FILES;
+    let (timetable, profiles, constraints, solution) = (read(timetable)?, read(profiles)?, read(constraints)?, read(solution)?);
     let texts = Texts { timetable: &timetable, profiles: &profiles, constraints: &constraints, solution: &solution };
     let mut side = sides::one(side).ok_or("no such side")?;
     let (outcome, _) = side.energy(h, &texts);

@@ -49,7 +49,7 @@ fn filled(entry: &str, legs: usize, levels: usize) -> Option<usize> {
 pub fn run(entry: &str, legs: usize, levels: usize) -> Result<(), String> {
     let plan = Plan::new(Shape::of(Style::Underground, legs));
     let second = plan.solution(&plan.choose(Choices::Moved(1))).into_bytes();
-    let instance = Instance::of(Shape::of(Style::Underground, legs));
+    let instance = Instance::of(&plan);
     let mut checker = Checker::new().map_err(|none| none.to_string())?;
     let entry = entry.to_string();
     let work = move || {

@@ -1,13 +1,13 @@
 //! A yardstick that measures something else is none: it gives the independent program's tables, verdicts and figures.
 
 use independent::{check, energy, Answer, Rooms};
-use instances::{exported, Aim, Choices, Ids, Plan, Shape, Style};
+use instances::{exported, indented, Aim, Choices, Ids, Plan, Shape, Style, Worst};
 use yardstick::energy::Figures;
 use yardstick::verdict::Violation;
 use yardstick::whole::{Stopped, Tables, Texts};
 
 fn tables() -> Tables {
-    Tables::new([24_000, 240_000, 12_000, 600_000, 60_000, 8_000, 9_000, 8 * 93_600])
+    Tables::new([24_000, 240_000, 12_000, 600_000, 60_000, 8_000, 9_000, 8 * 176_400])
 }
 
 fn shapes() -> Vec<Shape> {
@@ -25,38 +25,46 @@ fn shapes() -> Vec<Shape> {
 /// The CSV files as they are, and as a spreadsheet exports them.
 const SPELLINGS: [fn(String) -> String; 2] = [|text| text, |text| exported(&text)];
 
+/// Plain ones, and the worst legal file made small; each with the draft's lists, and with lists of the choice alone and indented constraints.
 #[test]
 fn good_files() {
-    for (shape, spelled) in shapes().into_iter().flat_map(|shape| SPELLINGS.map(|spelled| (shape, spelled))) {
-        let plan = Plan::new(shape);
-        let (timetable, profiles, constraints) = (spelled(plan.timetable()), spelled(plan.profiles_text()), plan.constraints());
-        let solution = spelled(plan.solution(&plan.choose(Choices::Faster(7))));
-        let (timetable, profiles, constraints, solution) =
-            (timetable.as_bytes(), profiles.as_bytes(), constraints.as_bytes(), solution.as_bytes());
-        let mut tables = tables();
-        let figures = tables.energy(plan.horizon(), &Texts { timetable, profiles, constraints, solution }).unwrap().unwrap();
-        let report = energy(plan.horizon(), timetable, profiles, constraints, solution, &Rooms::all(67_108_864));
-        let its = report.figures;
-        let its_figures = Figures {
-            before: its.before,
-            drawn: its.drawn,
-            lost: its.lost,
-            fluctuation: its.fluctuation,
-            peak_before: its.peak_before,
-            peak_drawn: its.peak_drawn,
-        };
-        assert_eq!(figures, its_figures, "{shape:?}");
-        let its = report.tables.unwrap();
-        assert_eq!(tables.legs[..its.legs.len()], its.legs);
-        assert_eq!(tables.configurations[..its.configurations.len()], its.configurations);
-        assert_eq!(tables.profiles[..its.profiles.len()], its.profiles);
-        assert_eq!(tables.samples[..its.samples.len()], its.samples);
-        assert_eq!(tables.constraints[..its.constraints.len()], its.constraints);
-        assert_eq!(tables.tracks[..its.tracks.len()], its.tracks);
-        assert_eq!(tables.choices[..its.choices.len()], its.choices);
-        let curves = report.curves.unwrap();
-        assert_eq!(tables.curves[..curves.len()], curves);
+    let worst = [Ids::InOrder, Ids::Shuffled].map(|ids| Plan::worst(Worst::at_the_limits().smaller(128).with_ids(ids)));
+    for plan in shapes().into_iter().map(Plan::new).chain(worst) {
+        let chosen = plan.choose(Choices::Faster(7));
+        let lists = [(plan.solution(&chosen), plan.constraints()), (plan.solution_of_choices(&chosen), indented(&plan.constraints()))];
+        for (spelled, (solution, constraints)) in SPELLINGS.into_iter().flat_map(|spelled| lists.clone().map(|lists| (spelled, lists))) {
+            let [timetable, profiles, solution] = [plan.timetable(), plan.profiles_text(), solution].map(|text| spelled(text).into_bytes());
+            let texts = Texts { timetable: &timetable, profiles: &profiles, constraints: constraints.as_bytes(), solution: &solution };
+            is_as_independent(plan.horizon(), &texts);
+        }
     }
+}
+
+/// Figures and tables.
+fn is_as_independent(h: u32, texts: &Texts) {
+    let mut tables = tables();
+    let figures = tables.energy(h, texts).unwrap().unwrap();
+    let report = energy(h, texts.timetable, texts.profiles, texts.constraints, texts.solution, &Rooms::all(67_108_864));
+    let its = report.figures;
+    let its_figures = Figures {
+        before: its.before,
+        drawn: its.drawn,
+        lost: its.lost,
+        fluctuation: its.fluctuation,
+        peak_before: its.peak_before,
+        peak_drawn: its.peak_drawn,
+    };
+    assert_eq!(figures, its_figures);
+    let its = report.tables.unwrap();
+    assert_eq!(tables.legs[..its.legs.len()], its.legs);
+    assert_eq!(tables.configurations[..its.configurations.len()], its.configurations);
+    assert_eq!(tables.profiles[..its.profiles.len()], its.profiles);
+    assert_eq!(tables.samples[..its.samples.len()], its.samples);
+    assert_eq!(tables.constraints[..its.constraints.len()], its.constraints);
+    assert_eq!(tables.tracks[..its.tracks.len()], its.tracks);
+    assert_eq!(tables.choices[..its.choices.len()], its.choices);
+    let curves = report.curves.unwrap();
+    assert_eq!(tables.curves[..curves.len()], curves);
 }
 
 #[test]

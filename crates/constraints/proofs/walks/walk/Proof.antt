@@ -9,11 +9,11 @@ use Rattle.constraints.proofs.walks.walk.Statement.{statement}
 use Rattle.constraints.proofs.walks.walk.Tie as tie
 
 abbrev Inv-loop : tie.InvT-loop
-Inv-loop text legs n constraints₀ tracks₀ next₀ sorts room seen₀ ids₀ st₀ at₀ constraints tracks next seen ids st at =
+Inv-loop text legs n rising constraints₀ tracks₀ next₀ sorts room seen₀ ids₀ st₀ at₀ constraints tracks next seen ids st at =
     Going text legs n constraints₀ tracks₀ next₀ sorts at st seen ids next constraints tracks
 
 abbrev μ-loop : tie.MeasureT-loop
-μ-loop text legs n constraints₀ tracks₀ next₀ sorts room seen₀ ids₀ st₀ at₀ constraints tracks next seen ids st at =
+μ-loop text legs n rising constraints₀ tracks₀ next₀ sorts room seen₀ ids₀ st₀ at₀ constraints tracks next seen ids st at =
     length text - at
 
 of-requires : tie.Need-of-requires Inv-loop μ-loop

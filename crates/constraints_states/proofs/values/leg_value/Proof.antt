@@ -20,14 +20,14 @@ enum-told-2 c = search needs
 enum-known-number : tie.Need-enum-known-number
 enum-known-number c = search needs
 
-row-of-requires : tie.Need-row-of-requires
-row-of-requires c κs = search needs
+numbered-requires : tie.Need-numbered-requires
+numbered-requires c κs = search needs
 
 enum-known-row : tie.Need-enum-known-row
 enum-known-row c = search needs
 
 cast-given : tie.Need-cast-given
-cast-given c = omega (arith, row-there (c .before .before .before .before .before .number .given .0 .0) _ (column legWidth ((c .before .before .before .before .before .before .before .before) .args .n) (now ((c .before .before .before .before .before .before .before .before) .args .legs))) _ (c .before .before .before .row-of .ensures) (c .before .row .given .1), column-length legWidth ((c .before .before .before .before .before .before .before .before) .args .n) (now ((c .before .before .before .before .before .before .before .before) .args .legs)), (c .before .before .before .before .before .before .before .before) .pre .1)
+cast-given c = omega (arith, row-there (c .before .before .before .before .before .number .given .0 .0) _ (column legWidth ((c .before .before .before .before .before .before .before .before) .args .n) (now ((c .before .before .before .before .before .before .before .before) .args .legs))) _ (c .before .before .before .numbered .ensures) (c .before .row .given .1), column-length legWidth ((c .before .before .before .before .before .before .before .before) .args .n) (now ((c .before .before .before .before .before .before .before .before) .args .legs)), (c .before .before .before .before .before .before .before .before) .pre .1)
 
 given-requires : tie.Need-given-requires
 given-requires c κs = search needs
@@ -44,10 +44,10 @@ unfolding legValue
 returns-2 c = λ constraints tracks d t says. past-limit _ _ _ says mostId _ (omega arith) (c .enum-told2 .given .1)
 
 returns-3 : tie.Need-returns-3
-returns-3 c = λ constraints tracks d t says. leg-there _ _ _ _ _ _ _ _ says _ (c .before .before .before .before .before .before .number .given .1) _ _ _ (c .before .before .before .before .row-of .ensures) (c .before .before .row .given .1) (c .given .ensures)
+returns-3 c = λ constraints tracks d t says. leg-there _ _ _ _ _ _ _ _ says _ (c .before .before .before .before .before .before .number .given .1) _ _ _ (c .before .before .before .before .numbered .ensures) (c .before .before .row .given .1) (c .given .ensures)
 
 returns-4 : tie.Need-returns-4
-returns-4 c = λ constraints tracks d t says. leg-missing _ _ _ _ _ _ _ _ says _ (c .before .before .before .before .number .given .1) _ (c .before .before .row-of .ensures) (c .enum-told3 .given .1)
+returns-4 c = λ constraints tracks d t says. leg-missing _ _ _ _ _ _ _ _ says _ (c .before .before .before .before .number .given .1) _ (c .before .before .numbered .ensures) (c .enum-told3 .given .1)
 
 pub leg-value-spec : {M : Type 1} → statement M
 leg-value-spec =
@@ -56,7 +56,7 @@ leg-value-spec =
     enum-told
     enum-told-2
     enum-known-number
-    row-of-requires
+    numbered-requires
     enum-known-row
     cast-given
     given-requires

@@ -234,7 +234,7 @@ fn peaks() -> Vec<Named> {
     list
 }
 
-/// A last quarter that H cuts (document 02, E3), from one second to all but one; beside each a whole one.
+/// A last quarter that H cuts (document 02, E3), from one second to all but one, and whole ones beside it.
 pub fn last_quarters() -> Vec<Named> {
     vec![
         running("H 1: one quarter of one second", 1, &["0_1_9"]),
@@ -265,9 +265,9 @@ fn running(name: &str, h: u32, choices: &[&str]) -> Named {
             row.list = vec![row.nominal.clone()];
         }
     }
-    let mut list = named(name.to_string(), Entry::Energy, &plan);
-    list.call.case.rooms.curves = h as usize;
-    list
+    let mut edge = named(name.to_string(), Entry::Energy, &plan);
+    edge.call.case.rooms.curves = h as usize;
+    edge
 }
 
 /// Each room at the need, one number less, one more, and none.

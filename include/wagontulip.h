@@ -73,7 +73,7 @@ enum {
     WAGONTULIP_DRAWN_MWH = 8,
     WAGONTULIP_LOST_MWH = 9,
     WAGONTULIP_PEAK_DRAWN_MW = 10,
-    WAGONTULIP_PEAK_BEFORE_QUARTER = 11, /* this and the next: the first quarter hour, from 0, that has the peak; 0 where H has no whole quarter */
+    WAGONTULIP_PEAK_BEFORE_QUARTER = 11, /* this and the next: the first quarter hour, from 0, that has the peak; H may cut the last */
     WAGONTULIP_PEAK_DRAWN_QUARTER = 12
 };
 

@@ -69,12 +69,14 @@ module _ (H n : ℕ) (P : List ℤ) (t : CurveTable H n P) where
   no-quarters = sums-none H
 
   module _ (s : ℕ) (h : s < n) (sums : List ℤ) (e : sums ≡ quartersIn H P s) where
-    pub row-room : RunRoom 0 H (row H n P t s h) sums
+    row-within : 0 + length (row H n P t s h) ≤ H
+    row-within = rw (row-length H n P t s h) (omega arith)
+
+    pub row-room : RunRoom 0 (row H n P t s h) sums
     unfolding quartersIn
     row-room =
         record {
-          ends = rw (row-length H n P t s h) (omega arith);
-          horizon = t .ends;
+          ends = le-trans row-within (t .ends);
           powers = part-within mostPower (s * H + H - s * H) (s * H) P (t .small);
           sums-small =
               rw e (sums-small (drawnIn H P s) (s * mostPower) H (drawn-at-most s) (few s n h (t .subnets)));
@@ -83,10 +85,10 @@ module _ (H n : ℕ) (P : List ℤ) (t : CurveTable H n P) where
         few : (s n : ℕ) → s < n → n ≤ 8 → quarterSeconds * (s * mostPower) ≤ 2 ^ 62
         few s n h l = omega arith
 
-    pub row-added : (r : List ℤ) → r ≡ withRun 0 (row H n P t s h) H sums → r ≡ quartersIn H P (s + 1)
+    pub row-added : (r : List ℤ) → r ≡ withRun 0 (row H n P t s h) sums → r ≡ quartersIn H P (s + 1)
     unfolding quartersIn
     row-added r er =
         er
-        ∙ ap (withRun 0 (row H n P t s h) H) e
-        ∙ sums-with (drawnIn H P s) (λ i. above (powerIn H P s i)) H 0 (row H n P t s h) (row-drawn H n P t s h)
+        ∙ ap (withRun 0 (row H n P t s h)) e
+        ∙ sums-with (drawnIn H P s) (λ i. above (powerIn H P s i)) H 0 (row H n P t s h) row-within (row-drawn H n P t s h)
         ∙ ap (λ m. quarterSums (drawnIn H P m) H) (sym (add-one s))

@@ -17,7 +17,7 @@ pub fn drawn_quarters(curves: &[i32], n: usize, h: usize) -> [i64; Horizon::QUAR
     while s < n {
         let from = s * h;
         let to = from + h;
-        let more = quarters::add_run(sums, &curves[from..to], 0, h);
+        let more = quarters::add_run(sums, &curves[from..to], 0);
         sums = more;
         s += 1;
     }

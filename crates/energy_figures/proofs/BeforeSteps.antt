@@ -82,14 +82,16 @@ module _ (H : ℕ) (r : Runs) (i : ℕ) (sum : Before) (s : Summing H r i sum) (
       short : {n : ℕ} → n ≤ mostTravel → n ≤ mostSubnets * mostHorizon
       short h = omega arith
 
-  pub part-room : RunRoom (c .departure) H part (sum .quarters)
+  part-within : c .departure + length part ≤ H
+  part-within =
+      rw part-length
+      (subst (λ d. d + choiceAt r i .travel ≤ H) (sym (ap (λ (x : Configuration). x .departure) ec)) (leg-fits H r (s .readable) i l))
+
+  pub part-room : RunRoom (c .departure) part (sum .quarters)
   unfolding beforeSums
   part-room =
       record {
-        ends =
-            rw part-length
-            (subst (λ d. d + choiceAt r i .travel ≤ H) (sym (ap (λ (x : Configuration). x .departure) ec)) (leg-fits H r (s .readable) i l));
-        horizon = s .readable .ends;
+        ends = le-trans part-within (s .readable .ends);
         powers = λ k. less (all-within mostKw part (rw part-chosen (powered .moderate)) k);
         sums-small =
             subst (λ (b : Before). Within (2 ^ 62) (b .quarters)) (sym (s .is))
@@ -126,14 +128,14 @@ module _ (H : ℕ) (r : Runs) (i : ℕ) (sum : Before) (s : Summing H r i sum) (
         ap₂ (λ d xs. drawnBy d xs t) (ap (λ (y : Configuration). y .departure) ec) part-chosen
         ∙ sym (ap above (leg-is-run (sampled r) (choiceAt r i) t (powered .counted)))
 
-    pub leg-summed : (q : List ℤ) → q ≡ withRun (c .departure) part H (sum .quarters) → record { whole = sum .whole + x .above; quarters = q } ≡ beforeSums H r (i + 1)
+    pub leg-summed : (q : List ℤ) → q ≡ withRun (c .departure) part (sum .quarters) → record { whole = sum .whole + x .above; quarters = q } ≡ beforeSums H r (i + 1)
     unfolding beforeSums
     leg-summed q eq =
         ap₂ (λ (w : ℕ) (q : List ℤ). record { whole = w; quarters = q })
         (ap₂ _+_ whole-is above-is)
         (eq
-        ∙ ap (λ (b : Before). withRun (c .departure) part H (b .quarters)) (s .is)
-        ∙ sums-with (λ t. sumTo (beforeThen r t) i) (λ t. beforeThen r t i) H (c .departure) part part-drawn)
+        ∙ ap (λ (b : Before). withRun (c .departure) part (b .quarters)) (s .is)
+        ∙ sums-with (λ t. sumTo (beforeThen r t) i) (λ t. beforeThen r t i) H (c .departure) part part-within part-drawn)
         ∙ ap (beforeSums H r) (sym (add-one i))
 
 pub all-summed : (H : ℕ) (r : Runs) (i : ℕ) (sum : Before) → (i ≤ r .counts .legs) × (sum ≡ beforeSums H r i) → r .counts .legs ≤ i

@@ -36,7 +36,7 @@ fn add_leg(
     let run = sides::sides_of(&samples[first..last]);
     let whole = sum.whole + run.above;
     let sums = sum.quarters;
-    let quarters = quarters::add_run(sums, &samples[first..last], start, h);
+    let quarters = quarters::add_run(sums, &samples[first..last], start);
     Before { whole, quarters }
 }
 

@@ -1,7 +1,7 @@
 -- Adding a run's quarters to the sums, one quarter after the other: those before its first and past its last it does not touch. Assumes nothing.
-use Prim.Native.Nat.{ℕ, zero, suc, _+_, _*_, _-_, _/_, _≤_, _<_, _^_, min}
+use Prim.Native.Nat.{ℕ, zero, suc, _+_, _*_, _-_, _/_, _≤_, _<_, _^_}
 use native.Mathlib.Omega.{arith}
-use native.Mathlib.Nat.{le-trans, mul-le-mul-right}
+use native.Mathlib.Nat.{le-trans, mul-le-mul-right, add-zero}
 use mathlib.Core.Path.{_≡_, refl, sym, ap, ap₂, _∙_, subst}
 use mathlib.Core.Bool.{Bool, true, false, cond}
 use mathlib.Core.List.{List}
@@ -12,12 +12,12 @@ use lib.IntN.{ℤ, pos, natAbs, _+ℤ_, +ℤ-idr}
 use mir.Syntax.{w64}
 use mir.Val.{SFits, toZ, ofZ}
 use mir.Facts.{toZ-ofZ, toZ-pos}
-use borrow.Author.Tests.{leb-true, leb-false, lt-ltb, le-ltb, le-leb, lt-leb, eqb-true, eqb-false, ltb-true, ltb-false}
+use borrow.Author.Tests.{lt-ltb, le-ltb, le-leb, lt-leb, eqb-true, eqb-false, ltb-true, ltb-false}
 use Rattle.rules.specs.Limits.{quarterSeconds, mostQuarters}
 use Rattle.rules.specs.Energy.{sumTo, above, tabulate, secondsOf, quarter}
 use Rattle.rules_theorems.specs.Sized.{mostPower}
 use Rattle.rules_theorems.specs.Laying.{Within}
-use Rattle.rules_theorems.proofs.Sums.{sum-zero, cond-le}
+use Rattle.rules_theorems.proofs.Sums.{sum-zero, sum-split}
 use Rattle.rules_theorems.proofs.Parts.{above-part, size-part}
 use Rattle.rules_theorems.proofs.Tabulate.{tabulate-length, tabulate-at}
 use Rattle.energy_parts.specs.Quarters.{quartersBefore, drawnBy, quarterTaken, withRun, RunRoom}
@@ -83,17 +83,21 @@ module _ (sums : List ℤ) (q : ℕ → ℕ) where
 
 -- ---- the quarters of a run
 
--- no quarter counts more than its seconds
-seconds-most : (H k : ℕ) → secondsOf H k ≤ quarterSeconds
-seconds-most H k = cond-le (leb (quarterSeconds * k + quarterSeconds) H) quarterSeconds
-
 pub sum-most : (f : ℕ → ℕ) (b n : ℕ) → ((i : ℕ) → i < n → f i ≤ b) → sumTo f n ≤ n * b
 sum-most f b zero h = omega arith
 sum-most f b (suc n) h = omega (arith, sum-most f b n (λ i l. h i (omega arith)), h n (omega arith))
 
+-- what is 0 from m on adds nothing
+sum-cut : (f : ℕ → ℕ) (m n : ℕ) → m ≤ n → ((i : ℕ) → m ≤ i → i < n → f i ≡ 0) → sumTo f n ≡ sumTo f m
+sum-cut f m n le z =
+    let e : n ≡ m + (n - m) = omega arith in
+    let rest : sumTo (λ i. f (m + i)) (n - m) ≡ 0 = sum-zero (λ i. f (m + i)) (n - m) (λ i l. z (m + i) (omega arith) (omega arith)) in
+    ap (sumTo f) e ∙ sum-split f m (n - m) ∙ ap (λ r. sumTo f m + r) rest ∙ add-zero (sumTo f m)
+
+-- no quarter has more than its seconds
 pub quarter-most : (f : ℕ → ℕ) (b : ℕ) → ((t : ℕ) → f t ≤ b) → (H k : ℕ) → quarter f H k ≤ quarterSeconds * b
 quarter-most f b h H k =
-    le-trans (sum-most (λ j. f (quarterSeconds * k + j)) b (secondsOf H k) (λ j l. h (quarterSeconds * k + j))) (mul-le-mul-right b (seconds-most H k))
+    le-trans (sum-most (λ j. f (quarterSeconds * k + j)) b (secondsOf H k) (λ j l. h (quarterSeconds * k + j))) (mul-le-mul-right b (omega arith))
 
 module _ (start : ℕ) (run : List ℤ) where
   drawn-before : (t : ℕ) → t < start → drawnBy start run t ≡ 0
@@ -111,77 +115,50 @@ module _ (start : ℕ) (run : List ℤ) where
       go true = le-trans (above-part .small (getD run (t - start) (pos 0))) (w (t - start))
       go false = omega arith
 
-  module _ (H : ℕ) where
-    abbrev pub runQuarter : ℕ → ℕ
-    runQuarter = quarter (drawnBy start run) H
+  -- before its first quarter
+  pub quarters-ahead : (j : ℕ) → j < start / quarterSeconds → quarterTaken start run j ≡ 0
+  unfolding quarterTaken
+  quarters-ahead j h =
+      sum-zero (λ i. drawnBy start run (quarterSeconds * j + i)) quarterSeconds (λ i l. drawn-before (quarterSeconds * j + i) (early j i h l))
+    where
+      early : (j i : ℕ) → j < start / quarterSeconds → i < quarterSeconds → quarterSeconds * j + i < start
+      early j i h l = omega arith
 
-    -- before its first quarter
-    pub quarters-ahead : (j : ℕ) → j < start / quarterSeconds → runQuarter j ≡ 0
-    quarters-ahead j h =
-        sum-zero (λ i. drawnBy start run (quarterSeconds * j + i)) (secondsOf H j)
-        (λ i l. drawn-before (quarterSeconds * j + i) (early j i h (le-trans l (seconds-most H j))))
-      where
-        early : (j i : ℕ) → j < start / quarterSeconds → i < quarterSeconds → quarterSeconds * j + i < start
-        early j i h l = omega arith
+  -- past its last
+  pub quarters-past : (j : ℕ) → quartersBefore (start + length run) ≤ j → quarterTaken start run j ≡ 0
+  unfolding quarterTaken
+  quarters-past j h =
+      sum-zero (λ i. drawnBy start run (quarterSeconds * j + i)) quarterSeconds (λ i l. drawn-after (quarterSeconds * j + i) (late (start + length run) j i h))
+    where
+      late : (e j i : ℕ) → (e + (quarterSeconds - 1)) / quarterSeconds ≤ j → e ≤ quarterSeconds * j + i
+      late e j i h = omega arith
 
-    cut-quarter : (j : ℕ) → H / quarterSeconds ≤ j → runQuarter j ≡ 0
-    cut-quarter j h = ap (λ b. sumTo (λ i. drawnBy start run (quarterSeconds * j + i)) (cond b quarterSeconds 0)) (lt-leb (quarterSeconds * j + quarterSeconds) H (cut H j h))
-      where
-        cut : (H j : ℕ) → H / quarterSeconds ≤ j → H < quarterSeconds * j + quarterSeconds
-        cut H j h = omega arith
+  -- a run within the horizon: the seconds that the horizon cuts off have nothing of it
+  pub taken-within : (H k : ℕ) → start + length run ≤ H → quarterTaken start run k ≡ quarter (drawnBy start run) H k
+  unfolding quarterTaken
+  taken-within H k h =
+      sum-cut (λ i. drawnBy start run (quarterSeconds * k + i)) (secondsOf H k) quarterSeconds (omega arith)
+      (λ i past l. drawn-after (quarterSeconds * k + i) (omega arith))
 
-    late-quarter : (j : ℕ) → (start + length run + (quarterSeconds - 1)) / quarterSeconds ≤ j → runQuarter j ≡ 0
-    late-quarter j h =
-        sum-zero (λ i. drawnBy start run (quarterSeconds * j + i)) (secondsOf H j)
-        (λ i l. drawn-after (quarterSeconds * j + i) (late (start + length run) j i h))
-      where
-        late : (e j i : ℕ) → (e + (quarterSeconds - 1)) / quarterSeconds ≤ j → e ≤ quarterSeconds * j + i
-        late e j i h = omega arith
-
-    -- past its last quarter, or the horizon's
-    pub quarters-past : (j : ℕ) → quartersBefore (start + length run) H ≤ j → runQuarter j ≡ 0
-    quarters-past j h = go (leb (H / quarterSeconds) j) refl
-      where
-        other : (a b j : ℕ) → min a b ≤ j → j < b → a ≤ j
-        other a b j h l = omega arith
-
-        go : (b : Bool) → leb (H / quarterSeconds) j ≡ b → runQuarter j ≡ 0
-        go true e = cut-quarter j (leb-true (H / quarterSeconds) j e)
-        go false e = late-quarter j (other _ (H / quarterSeconds) j h (leb-false (H / quarterSeconds) j e))
-
-    -- a whole quarter
-    pub quarter-whole : (k : ℕ) → k < H / quarterSeconds → quarterTaken start run k ≡ runQuarter k
-    unfolding quarterTaken
-    quarter-whole k h =
-        sym (ap (λ b. sumTo (λ i. drawnBy start run (quarterSeconds * k + i)) (cond b quarterSeconds 0)) (le-leb (quarterSeconds * k + quarterSeconds) H (whole H k h)))
-      where
-        whole : (H k : ℕ) → k < H / quarterSeconds → quarterSeconds * k + quarterSeconds ≤ H
-        whole H k h = omega arith
-
-    pub run-quarter-small : Within mostPower run → (k : ℕ) → runQuarter k ≤ quarterSeconds * mostPower
-    run-quarter-small w = quarter-most (drawnBy start run) mostPower (drawn-small w) H
+  pub run-quarter-small : Within mostPower run → (k : ℕ) → quarterTaken start run k ≤ quarterSeconds * mostPower
+  unfolding quarterTaken
+  run-quarter-small w k = sum-most (λ j. drawnBy start run (quarterSeconds * k + j)) mostPower quarterSeconds (λ j l. drawn-small w (quarterSeconds * k + j))
 
 -- ---- as the machine adds them
 
-module _ (start H : ℕ) (run sums : List ℤ) (room : RunRoom start H run sums) where
-  pub run-begins : length sums ≡ mostQuarters → Counting sums (runQuarter start run H) sums (start / quarterSeconds)
-  run-begins long = counting-begins sums (runQuarter start run H) (start / quarterSeconds) long (quarters-ahead start run H)
+module _ (start : ℕ) (run sums : List ℤ) (room : RunRoom start run sums) where
+  pub run-begins : length sums ≡ mostQuarters → Counting sums (quarterTaken start run) sums (start / quarterSeconds)
+  run-begins long = counting-begins sums (quarterTaken start run) (start / quarterSeconds) long (quarters-ahead start run)
 
-  module _ (last : ℕ) (el : last ≡ quartersBefore (start + length run) H)
-      (out : List ℤ) (k : ℕ) (c : Counting sums (runQuarter start run H) out k) where
-    pub run-ends : last ≤ k → out ≡ withRun start run H sums
+  module _ (last : ℕ) (el : last ≡ quartersBefore (start + length run))
+      (out : List ℤ) (k : ℕ) (c : Counting sums (quarterTaken start run) out k) where
+    pub run-ends : last ≤ k → out ≡ withRun start run sums
     unfolding withRun
-    run-ends h = counting-ends sums (runQuarter start run H) out k c (λ j l. quarters-past start run H j (subst (λ m. m ≤ j) el (le-trans h l)))
+    run-ends h = counting-ends sums (quarterTaken start run) out k c (λ j l. quarters-past start run j (subst (λ m. m ≤ j) el (le-trans h l)))
 
     module _ (h : k < last) (more : ℕ) (em : more ≡ quarterTaken start run k) where
-      more-is : more ≡ runQuarter start run H k
-      more-is = em ∙ quarter-whole start run H k (counts _ (H / quarterSeconds) last el h)
-        where
-          counts : (a b last : ℕ) → last ≡ min a b → k < last → k < b
-          counts a b last e h = omega arith
-
       more-small : more ≤ quarterSeconds * mostPower
-      more-small = subst (λ n. n ≤ quarterSeconds * mostPower) (sym more-is) (run-quarter-small start run H (room .powers) k)
+      more-small = subst (λ n. n ≤ quarterSeconds * mostPower) (sym em) (run-quarter-small start run (room .powers) k)
 
       pub more-fits : SFits w64 (pos more)
       more-fits = record { sfits = under more-small }
@@ -191,7 +168,7 @@ module _ (start H : ℕ) (run sums : List ℤ) (room : RunRoom start H run sums)
 
       entry-small : natAbs (getD out k (pos 0)) ≤ 2 ^ 62
       entry-small =
-          subst (λ z. natAbs z ≤ 2 ^ 62) (sym (entry-untouched sums (runQuarter start run H) out k c)) (room .sums-small k)
+          subst (λ z. natAbs z ≤ 2 ^ 62) (sym (entry-untouched sums (quarterTaken start run) out k c)) (room .sums-small k)
 
       sum-fits : SFits w64 (getD out k (pos 0) +ℤ pos more)
       sum-fits = fits-long (under (size-part .add (getD out k (pos 0)) (pos more)) entry-small more-small)
@@ -209,6 +186,6 @@ module _ (start H : ℕ) (run sums : List ℤ) (room : RunRoom start H run sums)
       sum-held = rw held sum-fits
 
       pub quarter-added : k < mostQuarters
-          → Counting sums (runQuarter start run H) (set out k (toZ w64 (ofZ w64 (toZ w64 (ofZ w64 (getD out k (pos 0))) +ℤ toZ w64 more)))) (k + 1)
+          → Counting sums (quarterTaken start run) (set out k (toZ w64 (ofZ w64 (toZ w64 (ofZ w64 (getD out k (pos 0))) +ℤ toZ w64 more)))) (k + 1)
       quarter-added l =
-          entry-counted sums (runQuarter start run H) out k c l _ (ap (λ z. toZ w64 (ofZ w64 z)) held ∙ toZ-ofZ sum-fits ∙ ap (λ n. getD out k (pos 0) +ℤ pos n) more-is)
+          entry-counted sums (quarterTaken start run) out k c l _ (ap (λ z. toZ w64 (ofZ w64 z)) held ∙ toZ-ofZ sum-fits ∙ ap (λ n. getD out k (pos 0) +ℤ pos n) em)

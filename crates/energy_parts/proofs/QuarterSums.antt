@@ -6,15 +6,15 @@ use native.Mathlib.Numerals.{add-one}
 use mathlib.Core.Path.{_≡_, refl, sym, ap, ap₂, _∙_, subst}
 use mathlib.Core.Bool.{Bool, true, false, cond}
 use mathlib.Core.List.{List, _∷_}
-use lib.Dec.{leb, ltb}
-use lib.ListN.{getD, replicate, List·getD-eq-default}
+use lib.Dec.{ltb}
+use lib.ListN.{length, getD, replicate, List·getD-eq-default}
 use lib.IntN.{ℤ, pos, natAbs, _+ℤ_}
 use lib.Signed.{mag}
 use mir.Syntax.{w64}
 use mir.Val.{toZ, ofZ}
 use mir.Facts.{toZ-ofZ}
 use borrow.Author.Needs.{sfits-of}
-use borrow.Author.Tests.{leb-true, ltb-true, ltb-false, lt-ltb, le-ltb}
+use borrow.Author.Tests.{ltb-true, ltb-false, lt-ltb, le-ltb}
 use Rattle.rules.specs.Limits.{quarterSeconds, mostQuarters}
 use Rattle.rules.specs.Energy.{maxTo, maxAt, above, tabulate, secondsOf, quarter, quarterSums, peakOf}
 use Rattle.rules.specs.declared.figures.Peak.{Peak}
@@ -22,7 +22,7 @@ use Rattle.rules_theorems.specs.Laying.{Within}
 use Rattle.rules_theorems.proofs.Sums.{sum-ext, sum-add, sum-zero}
 use Rattle.rules_theorems.proofs.Tabulate.{quarters-length, quarters-at}
 use Rattle.energy_parts.specs.Quarters.{drawnBy, withRun, peakTo, higherOf, greatestSum}
-use Rattle.energy_parts.proofs.QuarterSteps.{quarter-most}
+use Rattle.energy_parts.proofs.QuarterSteps.{quarter-most, taken-within}
 
 -- values that agree below n make the same list
 pub tabulate-below : {A : Type 0} (n : ℕ) (f g : ℕ → A) → ((i : ℕ) → i < n → f i ≡ g i) → tabulate n f ≡ tabulate n g
@@ -38,11 +38,7 @@ tabulate-constant (suc n) x = ap (λ xs. x ∷ xs) (tabulate-constant n x)
 
 -- a second that counts lies within the horizon
 pub second-within : (H k j : ℕ) → j < secondsOf H k → quarterSeconds * k + j < H
-second-within H k j h = go (leb (quarterSeconds * k + quarterSeconds) H) refl h
-  where
-    go : (b : Bool) → leb (quarterSeconds * k + quarterSeconds) H ≡ b → j < cond b quarterSeconds 0 → quarterSeconds * k + j < H
-    go true e l = omega (arith, leb-true (quarterSeconds * k + quarterSeconds) H e)
-    go false e l = omega arith
+second-within H k j h = omega arith
 
 pub quarter-same : (f g : ℕ → ℕ) (H : ℕ) → ((t : ℕ) → t < H → f t ≡ g t) → (k : ℕ) → quarter f H k ≡ quarter g H k
 quarter-same f g H e k =
@@ -60,13 +56,13 @@ sums-none H =
     ∙ tabulate-below mostQuarters _ _ (λ k h. ap pos (sym (sum-zero (λ j. 0) (secondsOf H k) (λ j l. refl))))
 
 -- one run more
-pub sums-with : (f g : ℕ → ℕ) (H start : ℕ) (run : List ℤ) → ((t : ℕ) → t < H → drawnBy start run t ≡ g t)
-    → withRun start run H (quarterSums f H) ≡ quarterSums (λ t. f t + g t) H
+pub sums-with : (f g : ℕ → ℕ) (H start : ℕ) (run : List ℤ) → start + length run ≤ H → ((t : ℕ) → t < H → drawnBy start run t ≡ g t)
+    → withRun start run (quarterSums f H) ≡ quarterSums (λ t. f t + g t) H
 unfolding withRun
-sums-with f g H start run e =
+sums-with f g H start run within e =
     tabulate-below mostQuarters _ _
     (λ k h.
-    ap₂ _+ℤ_ (quarters-at f H k h) (ap pos (quarter-same (drawnBy start run) g H e k)) ∙ ap pos (quarter-add f g H k))
+    ap₂ _+ℤ_ (quarters-at f H k h) (ap pos (taken-within start run H k within ∙ quarter-same (drawnBy start run) g H e k)) ∙ ap pos (quarter-add f g H k))
 
 pub sums-small : (f : ℕ → ℕ) (b H : ℕ) → ((t : ℕ) → f t ≤ b) → quarterSeconds * b ≤ 2 ^ 62 → Within (2 ^ 62) (quarterSums f H)
 sums-small f b H h small k = go (ltb k mostQuarters) refl

@@ -1,19 +1,19 @@
 -- The quarter sums, and what one run of powers adds to them: a leg's samples from its departure on, or a subnet's powers from second 0 on.
-use Prim.Native.Nat.{ℕ, _+_, _*_, _-_, _/_, _≤_, _^_, min}
+use Prim.Native.Nat.{ℕ, _+_, _*_, _-_, _/_, _≤_, _^_}
 use mathlib.Core.Bool.{cond}
 use mathlib.Core.List.{List}
 use lib.Dec.{leb, ltb}
 use lib.ListN.{length, getD}
 use lib.IntN.{ℤ, pos, _+ℤ_}
 use Rattle.rules.specs.Limits.{quarterSeconds, mostQuarters, mostHorizon}
-use Rattle.rules.specs.Energy.{sumTo, maxTo, maxAt, above, tabulate, quarter}
+use Rattle.rules.specs.Energy.{sumTo, maxTo, maxAt, above, tabulate}
 use Rattle.rules.specs.declared.figures.Peak.{Peak}
 use Rattle.rules_theorems.specs.Sized.{mostPower}
 use Rattle.rules_theorems.specs.Laying.{Within}
 
--- how many quarters begin before a second, of those that H does not cut
-abbrev pub quartersBefore : (second H : ℕ) → ℕ
-quartersBefore second H = min ((second + (quarterSeconds - 1)) / quarterSeconds) (H / quarterSeconds)
+-- how many quarters begin before a second
+abbrev pub quartersBefore : (second : ℕ) → ℕ
+quartersBefore second = (second + (quarterSeconds - 1)) / quarterSeconds
 
 -- what a run of powers from second `start` on takes at second t
 abbrev pub runAt : (start : ℕ) → List ℤ → (t : ℕ) → ℤ
@@ -26,9 +26,9 @@ drawnBy start run t = above (runAt start run t)
 unfoldable pub quarterTaken : (start : ℕ) → List ℤ → (k : ℕ) → ℕ
 quarterTaken start run k = sumTo (λ j. drawnBy start run (quarterSeconds * k + j)) quarterSeconds
 
--- the sums with the run's added, where the horizon does not cut the quarter
-unfoldable pub withRun : (start : ℕ) → List ℤ → (H : ℕ) → (sums : List ℤ) → List ℤ
-withRun start run H sums = tabulate mostQuarters (λ k. getD sums k (pos 0) +ℤ pos (quarter (drawnBy start run) H k))
+-- the sums with the run's added
+unfoldable pub withRun : (start : ℕ) → List ℤ → (sums : List ℤ) → List ℤ
+withRun start run sums = tabulate mostQuarters (λ k. getD sums k (pos 0) +ℤ pos (quarterTaken start run k))
 
 -- the greatest of f 0 .. f (n - 1), and where it first stands
 abbrev pub peakTo : (ℕ → ℕ) → (n : ℕ) → Peak
@@ -42,9 +42,8 @@ higherOf p kj k = cond (ltb (p .kj) kj) (record { kj = kj; quarter = k }) p
 unfoldable pub greatestSum : (sums : List ℤ) → Peak
 greatestSum sums = peakTo (λ k. above (getD sums k (pos 0))) mostQuarters
 
--- what adding asks: the run lies within the horizon, and no number leaves 64 bits
-pub record RunRoom (start H : ℕ) (run sums : List ℤ) : Type 0 where
-  pub ends : start + length run ≤ H
-  pub horizon : H ≤ mostHorizon
+-- what adding asks: the run lies within the greatest horizon, and no number leaves 64 bits
+pub record RunRoom (start : ℕ) (run sums : List ℤ) : Type 0 where
+  pub ends : start + length run ≤ mostHorizon
   pub powers : Within mostPower run
   pub sums-small : Within (2 ^ 62) sums

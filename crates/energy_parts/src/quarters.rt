@@ -1,4 +1,4 @@
-// Quarter hours: quarter k covers the seconds 900 k to 900 k + 899, and one that the horizon cuts is left out.
+// Quarter hours: quarter k covers the seconds 900 k to 900 k + 899; the last may be shorter, and counts.
 // The 196 quarter sums are carried through as one array.
 ghost use mathlib.Core.Path.{_≡_};
 ghost use Prim.Native.Nat.{_≤_, _<_};
@@ -23,14 +23,12 @@ fn in_quarter(run: &[i32], start: usize, k: usize) -> u64
     taken.above
 }
 
-// How many whole quarters of the horizon begin before a second.
-fn quarters_before(second: usize, h: usize) -> usize
+// How many quarters begin before a second.
+fn quarters_before(second: usize) -> usize
     requires { ⌜ second ≤ mostHorizon ⌝ }
-    ensures { λ r. ⌜ r ≡ quartersBefore second h ⌝ }
+    ensures { λ r. ⌜ r ≡ quartersBefore second ⌝ }
 {
-    let begun = (second + (Horizon::QUARTER as usize - 1)) / Horizon::QUARTER as usize;
-    let whole = h / Horizon::QUARTER as usize;
-    if begun < whole { begun } else { whole }
+    (second + (Horizon::QUARTER as usize - 1)) / Horizon::QUARTER as usize
 }
 
 // The sums with what a run draws added: a leg's samples, or a subnet's powers.
@@ -38,13 +36,12 @@ pub fn add_run(
     sums: [i64; Horizon::QUARTERS],
     run: &[i32],
     start: usize,
-    h: usize,
 ) -> [i64; Horizon::QUARTERS]
-    requires { ⌜ RunRoom start h (now run) sums ⌝ }
-    ensures { λ r. ⌜ r ≡ withRun start (now (run .entry)) h sums ⌝ }
+    requires { ⌜ RunRoom start (now run) sums ⌝ }
+    ensures { λ r. ⌜ r ≡ withRun start (now (run .entry)) sums ⌝ }
 {
     let mut out = sums;
-    let last = quarters_before(start + run.len(), h);
+    let last = quarters_before(start + run.len());
     let mut k = start / Horizon::QUARTER as usize;
     while k < last {
         let more = in_quarter(run, start, k);

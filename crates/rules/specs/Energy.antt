@@ -1,5 +1,5 @@
 -- The energies of an accepted solution (document 01, "Energy"): its curves, their sums and quarters, and the desk tool's four doubles. A sample is an average over one second, so energy is a plain sum.
-use Prim.Native.Nat.{ℕ, zero, suc, _+_, _-_, _*_, _/_, _%_, max}
+use Prim.Native.Nat.{ℕ, zero, suc, _+_, _-_, _*_, _/_, _%_, max, min}
 use mathlib.Core.Bool.{Bool, false, cond, _&&_}
 use mathlib.Core.List.{List, [], _∷_, map}
 use mathlib.Core.Option.{Option, none, some}
@@ -116,14 +116,14 @@ module _ (samples : ℕ → List ℤ) where
 
 -- ---- quarters
 
--- the seconds of quarter k that count: all of them, or none where H cuts it
+-- the seconds of quarter k: all of them, or those before H where H cuts it
 abbrev pub secondsOf : (H k : ℕ) → ℕ
-secondsOf H k = cond (leb (quarterSeconds * k + quarterSeconds) H) quarterSeconds 0
+secondsOf H k = min quarterSeconds (H - quarterSeconds * k)
 
 abbrev pub quarter : (ℕ → ℕ) → (H k : ℕ) → ℕ
 quarter f H k = sumTo (λ j. f (quarterSeconds * k + j)) (secondsOf H k)
 
--- the greatest quarter sum, 0 if there is no quarter
+-- the greatest quarter sum
 abbrev pub peak : (ℕ → ℕ) → (H : ℕ) → ℕ
 peak f H = maxTo (quarter f H) mostQuarters
 

@@ -15,7 +15,7 @@ use Rattle.rules.specs.Kinds.{notOffered, headway, dwell, connection}
 use Rattle.rules.specs.Reading.{Texts}
 use Rattle.rules.specs.Verdict.{All}
 use Rattle.rules.specs.Merge.{earlier, later}
-use Rattle.rules.specs.Entries.{Tables, checked, noPeaks, reported, merged}
+use Rattle.rules.specs.Entries.{Tables, checked, reported, merged}
 use Rattle.rules.specs.Display.{rowAt}
 use Rattle.rules.specs.Computed.{computed}
 use Rattle.rules.specs.declared.sizes.Configuration.{Configuration}
@@ -146,11 +146,15 @@ Right (draws t c s before drawn lost fluctuation peaks) =
 Right (merges merge departures text) = (merge A B ≡ departures) × (mergedText merge ≡ text)
 Right (ranges c b) = inRange 4_000 c ≡ b
 
+-- both peaks in the only quarter
+abbrev pub inFirst : (before drawn : ℕ) → Peaks
+inFirst before drawn = record { before = record { kj = before; quarter = 0 }; drawn = record { kj = drawn; quarter = 0 } }
+
 abbrev pub marked : List Example
 marked =
-    -- Nominal: accepted; before 2,050, drawn 2,050, lost 600, fluctuation 1,400, peaks 0
+    -- Nominal: accepted; before 2,050, drawn 2,050, lost 600, fluctuation 1,400, peaks 2,050
     answers draft profiles dwell20 draft Accepted
-    ∷ draws draft dwell20 draft 2_050 2_050 600 (pos 1_400) noPeaks
+    ∷ draws draft dwell20 draft 2_050 2_050 600 (pos 1_400) (inFirst 2_050 2_050)
     -- Departures 15, 40: accepted; the same with dwell 21; with dwell 22: kind 3, position 0, inequality 1, shortfall 1
     ∷ answers draft profiles dwell20 solution15 Accepted
     ∷ answers draft profiles dwell21 solution15 Accepted
@@ -161,8 +165,8 @@ marked =
     ∷ merges earlier (configuration 10 4 7 ∷ configuration 40 3 8 ∷ []) draft
     ∷ merges later (configuration 15 4 7 ∷ configuration 45 3 8 ∷ []) bothLater
     -- No dwell, leg 2 offered at 13: drawn 1,750, lost 300. Tracks in two subnets: 2,050 and 600
-    ∷ draws draft13 (document "" oneSubnet) draft13 2_050 1_750 300 (pos 1_200) noPeaks
-    ∷ draws draft13 (document "" twoSubnets) draft13 2_050 2_050 600 (pos 1_200) noPeaks
+    ∷ draws draft13 (document "" oneSubnet) draft13 2_050 1_750 300 (pos 1_200) (inFirst 2_050 1_750)
+    ∷ draws draft13 (document "" twoSubnets) draft13 2_050 2_050 600 (pos 1_200) (inFirst 2_050 2_050)
     -- `20.000` read, `20.001` refused 5
     ∷ answers draft (curves "7,0.5 1.0 0.25 20.000\n8,0.3 0.0 -0.2\n") dwell20 draft Accepted
     ∷ answers draft (curves "7,0.5 1.0 0.25 20.001\n8,0.3 0.0 -0.2\n") dwell20 draft (Refused (refusal outOfRange profilesFile 30))

@@ -1,6 +1,6 @@
 // The energies of an accepted solution, and the record that the operator's desk tool takes.
 
-// The greatest quarter sum in kilojoules, and the first quarter that has it; both are 0 where there is no quarter.
+// The greatest quarter sum in kilojoules, and the first quarter that has it.
 pub struct Peak {
     pub kj: u64,
     pub quarter: u32,

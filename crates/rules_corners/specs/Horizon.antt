@@ -17,7 +17,7 @@ use Rattle.rules.specs.Verdict.{All}
 use Rattle.rules.specs.Energy.{maxTo, maxAt, quarter, peakOf, quotient}
 use Rattle.rules.specs.Entries.{noPeaks, Reported}
 use Rattle.rules.specs.Computed.{computed}
-use Rattle.rules.specs.Examples.{rows}
+use Rattle.rules.specs.Examples.{rows, inFirst}
 use Rattle.rules.specs.declared.figures.Peak.{Peak}
 use Rattle.rules.specs.declared.figures.Peaks.{Peaks}
 use Rattle.rules.specs.declared.figures.Figures.{Figures}
@@ -61,9 +61,6 @@ apart s =
 
 abbrev peak : (kj quarter : ℕ) → Peak
 peak kj q = record { kj = kj; quarter = q }
-
-abbrev both : (before drawn : Peak) → Peaks
-both before drawn = record { before = before; drawn = drawn }
 
 abbrev figures : (before drawn lost fluctuation : ℕ) → Peaks → Figures
 figures before drawn lost fluctuation peaks = record { before = before; drawn = drawn; lost = lost; fluctuation = pos fluctuation; peaks = peaks }
@@ -120,15 +117,15 @@ last = mostQuarters - 1
 
 abbrev pub horizons : List Corner
 horizons =
-    -- H 1: a leg of one second fills it. There is no quarter, and the only value is the greatest and the least
-    reports (alone leastHorizon 0 "20.000") (figures mostKw mostKw 0 0 noPeaks) (pos mostKw ∷ [])
+    -- H 1: a leg of one second fills it. There is one quarter, of one second, and the only value is the greatest and the least
+    reports (alone leastHorizon 0 "20.000") (figures mostKw mostKw 0 0 (inFirst mostKw mostKw)) (pos mostKw ∷ [])
     ∷ reports (alone leastHorizon 0 "-20.000") (figures 0 0 mostKw 0 noPeaks) (negℤ (pos mostKw) ∷ [])
     ∷ reports (alone leastHorizon 0 "-0.0") (figures 0 0 0 0 noPeaks) (pos 0 ∷ [])
     -- a second in which no leg runs has 0, which may be the greatest or the least
     ∷ reports (alone 2 0 "-20.000") (figures 0 0 mostKw mostKw noPeaks) (negℤ (pos mostKw) ∷ pos 0 ∷ [])
-    ∷ reports (alone 2 1 "20.000") (figures mostKw mostKw 0 mostKw noPeaks) (pos 0 ∷ pos mostKw ∷ [])
+    ∷ reports (alone 2 1 "20.000") (figures mostKw mostKw 0 mostKw (inFirst mostKw mostKw)) (pos 0 ∷ pos mostKw ∷ [])
     -- both limits at one second: nothing is drawn and nothing is lost
-    ∷ reports (twice leastHorizon 0 0 "20.000" "-20.000") (figures mostKw 0 0 0 noPeaks) (pos 0 ∷ [])
+    ∷ reports (twice leastHorizon 0 0 "20.000" "-20.000") (figures mostKw 0 0 0 (inFirst mostKw 0)) (pos 0 ∷ [])
     -- "subnet by subnet, H numbers each; less room is 16", of two subnets, in the order of the file, and of one with no legs
     ∷ lays (apart "{\"subnet_id\": 1, \"track_ids\": [1]}, {\"subnet_id\": 2, \"track_ids\": [2]}") 4 Accepted (pos 500 ∷ pos 0 ∷ pos 0 ∷ pos 300 ∷ [])
     ∷ lays (apart "{\"subnet_id\": 2, \"track_ids\": [2]}, {\"subnet_id\": 1, \"track_ids\": [1]}") 5 Accepted (pos 0 ∷ pos 300 ∷ pos 500 ∷ pos 0 ∷ pos 9 ∷ [])
@@ -140,16 +137,22 @@ horizons =
     ∷ answers (alone mostHorizon (mostHorizon - 1) "20.000") Accepted
     ∷ answers (alone mostHorizon mostHorizon "20.000") (refuses outOfRange timetableFile (length timetableHeader))
     ∷ answers (alone (mostHorizon + 1) mostHorizon "20.000") (refuses badHorizon noFile 0)
-    -- H 899 has no quarter, H 900 has one
-    ∷ draws (alone 899 898 "1.0") (peak 0 0)
-    ∷ reports (alone 900 899 "1.0") (figures 1_000 1_000 0 1_000 (both (peak 1_000 0) (peak 1_000 0))) (replicate 899 (pos 0) ++ pos 1_000 ∷ [])
-    -- the peak in the second quarter; a last, shorter quarter is left out; of equal quarters the first is named
+    -- H 899 has one quarter, and so has H 900; H 901 has a second, of one second
+    ∷ draws (alone 899 898 "1.0") (peak 1_000 0)
+    ∷ reports (alone 900 899 "1.0") (figures 1_000 1_000 0 1_000 (inFirst 1_000 1_000)) (replicate 899 (pos 0) ++ pos 1_000 ∷ [])
+    ∷ draws (alone 901 900 "1.0") (peak 1_000 1)
+    -- the peak in the second quarter, whole, one second shorter, and of one second; of equal quarters the first is named, also where the second is cut
     ∷ draws (twice 1_800 899 900 "1.0" "1.001") (peak 1_001 1)
-    ∷ draws (twice 1_799 899 900 "1.0" "1.001") (peak 1_000 0)
+    ∷ draws (twice 1_799 899 900 "1.0" "1.001") (peak 1_001 1)
+    ∷ draws (twice 901 899 900 "1.0" "1.001") (peak 1_001 1)
     ∷ draws (twice 1_800 900 899 "1.0" "1.0") (peak 1_000 0)
+    ∷ draws (twice 901 900 899 "1.0" "1.0") (peak 1_000 0)
     -- the same of a curve
-    ∷ peaks (since 900) 1_799 (peak 0 0)
+    ∷ peaks (since 900) 900 (peak 0 0)
+    ∷ peaks (since 900) 901 (peak 1 1)
+    ∷ peaks (since 900) 1_799 (peak 899 1)
     ∷ peaks (since 900) 1_800 (peak 900 1)
+    ∷ peaks steady 1_799 (peak 900 0)
     ∷ peaks steady 1_800 (peak 900 0)
     -- quarter k covers 900k to 900k+899
     ∷ sums (only 899) 1_800 0 1
@@ -158,9 +161,15 @@ horizons =
     ∷ sums (only 900) 1_800 1 1
     ∷ sums (only 1_799) 1_800 1 1
     ∷ sums (only 1_800) 1_800 1 0
-    -- the greatest H has 196 quarters, one second less cuts the last
+    -- a last, shorter quarter has the sum of its own seconds, from one to all but one
+    ∷ sums steady 1 0 1
+    ∷ sums steady 899 0 899
+    ∷ sums steady 1_801 2 1
+    ∷ sums steady 2_699 2 899
+    -- the greatest H has 196 quarters, one second less cuts the last; a multiple of 900 has no empty one after it
     ∷ sums steady mostHorizon last quarterSeconds
-    ∷ sums steady (mostHorizon - 1) last 0
+    ∷ sums steady (mostHorizon - 1) last (quarterSeconds - 1)
+    ∷ sums steady (mostHorizon - quarterSeconds) last 0
     ∷ sums steady mostHorizon mostQuarters 0
     -- the greatest, and the first place that has it: of none, of zeros, at the end, of equals
     ∷ tops steady 0 0 0
@@ -178,4 +187,4 @@ horizons =
 
 horizons-hold : All Right horizons
 unfolding computed toBits round
-horizons-hold = (refl, (refl, (refl, (refl, (refl, (refl, (refl, (refl, (refl, (refl, (refl, (refl, (refl, (refl, (refl, (refl, (refl, (refl, (refl, (refl, (refl, (refl, (refl, (refl, (refl, (refl, (refl, (refl, (refl, (refl, (refl, (refl, (refl, (refl, (refl, (refl, (refl, (refl, (refl, (refl, (refl, (refl, tt))))))))))))))))))))))))))))))))))))))))))
+horizons-hold = (refl, (refl, (refl, (refl, (refl, (refl, (refl, (refl, (refl, (refl, (refl, (refl, (refl, (refl, (refl, (refl, (refl, (refl, (refl, (refl, (refl, (refl, (refl, (refl, (refl, (refl, (refl, (refl, (refl, (refl, (refl, (refl, (refl, (refl, (refl, (refl, (refl, (refl, (refl, (refl, (refl, (refl, (refl, (refl, (refl, (refl, (refl, (refl, (refl, (refl, (refl, (refl, (refl, tt)))))))))))))))))))))))))))))))))))))))))))))))))))))

@@ -12,9 +12,9 @@ use Rattle.rules.specs.Kinds.{notOffered, headway}
 use Rattle.rules.specs.Verdict.{All}
 use Rattle.rules.specs.Energy.{deskOf}
 use Rattle.rules.specs.Merge.{earlier, later}
-use Rattle.rules.specs.Entries.{Tables, Checked, noPeaks, noFigures, Reported, Merged}
+use Rattle.rules.specs.Entries.{Tables, Checked, noFigures, Reported, Merged}
 use Rattle.rules.specs.Computed.{computed}
-use Rattle.rules.specs.Examples.{rows, curves, list, object}
+use Rattle.rules.specs.Examples.{rows, curves, list, object, inFirst}
 use Rattle.rules.specs.declared.figures.Figures.{Figures}
 use Rattle.rules.specs.declared.answers.Answer.{Answer}
 use Rattle.rules.specs.declared.answers.Answer.the-variants.{Accepted, Violated}
@@ -128,7 +128,7 @@ abbrev unlisted : List ℕ
 unlisted = rows "5,6,1,8,9,2_2_7,2_2_7\n"
 
 abbrev figuresRead : Figures
-figuresRead = record { before = 500; drawn = 500; lost = 400; fluctuation = pos 900; peaks = noPeaks }
+figuresRead = record { before = 500; drawn = 500; lost = 400; fluctuation = pos 900; peaks = inFirst 500 500 }
 
 abbrev violatesSecond : (kind position inequality shortfall : ℕ) → Answer
 violatesSecond k n i m = Violated (violation k n i m secondFile)

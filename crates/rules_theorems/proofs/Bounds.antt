@@ -6,15 +6,13 @@ use mathlib.Core.Path.{_≡_, refl, sym, subst}
 use mathlib.Core.Bool.{Bool, true, false, cond}
 use mathlib.Core.List.{List, [], _∷_}
 use mathlib.Core.Option.{Option}
-use lib.Dec.{leb}
 use lib.ListN.{length, getD}
 use lib.IntN.{ℤ, pos, negℤ, natAbs}
 use lib.Signed.{leZ}
-use borrow.Author.Tests.{leb-true}
 use Rattle.rules.specs.Limits.{mostLegs, mostTravel, mostKw, mostKj, mostQuarters, quarterSeconds}
 use Rattle.rules.specs.Lists.{sumOf}
 use Rattle.rules.specs.Verdict.{All}
-use Rattle.rules.specs.Energy.{sumTo, sumToZ, running, legAt, isHome, power, before, beforeAt, drawnAt, drawn, lost, total, greatest, least, fluctuation, quarter, peak}
+use Rattle.rules.specs.Energy.{sumTo, sumToZ, running, legAt, isHome, power, before, beforeAt, drawnAt, drawn, lost, total, greatest, least, fluctuation, secondsOf, quarter, peak}
 use Rattle.rules.specs.declared.sizes.Configuration.{Configuration}
 use Rattle.rules.proofs.Truth.{all-map}
 use Rattle.rules_theorems.specs.Sized.{mostPower, Powered, Sized, Fits, returned}
@@ -181,12 +179,11 @@ module _ (samples : ℕ → List ℤ) where
 
 -- a quarter's sum is at most the whole sum
 pub quarter-bound : (f : ℕ → ℕ) (H k : ℕ) → quarter f H k ≤ sumTo f H
-quarter-bound f H k = go (leb (quarterSeconds * k + quarterSeconds) H) refl
+quarter-bound f H k = go (secondsOf H k) (omega arith)
   where
-    go : (b : Bool) → leb (quarterSeconds * k + quarterSeconds) H ≡ b
-        → sumTo (λ j. f (quarterSeconds * k + j)) (cond b quarterSeconds 0) ≤ sumTo f H
-    go true e = sum-part f (quarterSeconds * k) quarterSeconds H (leb-true (quarterSeconds * k + quarterSeconds) H e)
-    go false e = omega arith
+    go : (n : ℕ) → n ≤ H - quarterSeconds * k → sumTo (λ j. f (quarterSeconds * k + j)) n ≤ sumTo f H
+    go zero h = omega arith
+    go (suc n) h = sum-part f (quarterSeconds * k) (suc n) H (omega arith)
 
 pub peak-bound : (f : ℕ → ℕ) (H : ℕ) → peak f H ≤ sumTo f H
 peak-bound f H = max-le-all (quarter f H) (sumTo f H) mostQuarters (quarter-bound f H)

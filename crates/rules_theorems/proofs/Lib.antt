@@ -34,10 +34,11 @@ pub mod Verdicts
 pub mod Tests
 pub mod Merges
 pub mod Curves
--- Energy: sums in every order, peaks, bounds, and the curve table made in place
+-- Energy: sums in every order, peaks, quarters, bounds, and the curve table made in place
 pub mod Runs
 pub mod Energies
 pub mod Peaks
+pub mod Quarters
 pub mod Recuperation
 pub mod Bounds
 pub mod Laying

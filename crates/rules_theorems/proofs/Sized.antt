@@ -15,7 +15,7 @@ use Rattle.rules.specs.Profiles.{Curve}
 use Rattle.rules.specs.Constraints.{subnetOf, ordered}
 use Rattle.rules.specs.Reading.{Rooms, Texts, Files, legIds}
 use Rattle.rules.specs.Verdict.{All, offered, Offered, Verdict, accepted, violated}
-use Rattle.rules.specs.Energy.{samplesIn, homesOf, power, figuresOf, curvesOf}
+use Rattle.rules.specs.Energy.{samplesIn, homesOf, power, beforeAt, drawnAt, figuresOf, curvesOf}
 use Rattle.rules.specs.Entries.{Tables, roomsOf, verdictOf, Whole, allRead, noFigures, reportAccepted, reportJudged, reportFrom, reported}
 use Rattle.rules.specs.declared.sizes.Configuration.{Configuration}
 use Rattle.rules.specs.declared.sizes.Track.{Track}
@@ -23,7 +23,7 @@ use Rattle.rules.proofs.Truth.{all-map}
 use Rattle.rules_theorems.specs.WellFormed.{InRange, KeptRow, KeptCurve}
 use Rattle.rules_theorems.specs.LawfulDocument.{LawfulTrack}
 use Rattle.rules_theorems.specs.Files.{HasProfile, HasSubnet, ByAutomaton, GoodFiles}
-use Rattle.rules_theorems.specs.Sized.{mostPower, Powered, IsPlaced, SizedFiles, Moderate, BoundedFigures}
+use Rattle.rules_theorems.specs.Sized.{mostPower, Powered, IsPlaced, SizedFiles, Moderate, Quartered, BoundedFigures}
 use Rattle.rules_theorems.proofs.All.{all-mapped, first-keeps}
 use Rattle.rules_theorems.proofs.Tabulate.{tabulate-all}
 use Rattle.rules_theorems.proofs.LawfulRows.{rows-kept, legs-most, curves-kept}
@@ -31,6 +31,8 @@ use Rattle.rules_theorems.proofs.Chosen.{choices-keep, offered-length}
 use Rattle.rules_theorems.proofs.Documents.{good-is-lawful}
 use Rattle.rules_theorems.proofs.GoodFiles.{files-good, all-good}
 use Rattle.rules_theorems.proofs.Verdicts.{verdict-accepted}
+use Rattle.rules_theorems.proofs.Energies.{before-seconds, drawn-seconds}
+use Rattle.rules_theorems.proofs.Quarters.{quarters-whole, peak-begun}
 use Rattle.rules_theorems.proofs.Recuperation.{drawn-and-returned}
 use Rattle.rules_theorems.proofs.Bounds.{power-bound, fluctuation-bound, before-bound, drawn-bound, lost-bound, peak-before-bound, peak-drawn-bound}
 
@@ -75,6 +77,7 @@ module _ (H : ℕ) (x : Texts) (room : Rooms) (f : Files) (g : GoodFiles ByAutom
       let document = good-is-lawful (legIds (f .rows)) _ _ _ (x .constraints) (f .document) (g .constraints) in
       let many : length (f .rows) ≡ length s = offered-length (f .rows) s o in
       record {
+        horizon = g .horizon;
         sized = record {
           few = rw (← many) (legs-most H (f .rows) lawful);
           powered =
@@ -92,7 +95,7 @@ module _ (H : ℕ) (x : Texts) (room : Rooms) (f : Files) (g : GoodFiles ByAutom
         );
       }
 
--- an accepted solution: few legs, each with its samples; runs that end by H; and a subnet for each leg
+-- an accepted solution: an H in range; few legs, each with its samples; runs that end by H; and a subnet for each leg
 pub accepted-sized : (H : ℕ) (x : Texts) (s : List ℕ) (room : Rooms) (choices : ℕ) (w : Whole) → allRead H x s room choices ≡ good w
     → verdictOf (w .files) (w .choices) ≡ accepted → SizedFiles H (w .files) (w .choices)
 accepted-sized H x s room choices w e v =
@@ -100,6 +103,20 @@ accepted-sized H x s room choices w e v =
     (verdict-accepted (offered (w .files .rows)) (ordered (w .files .document .constraints)) (w .choices) .1 v .offered)
 
 -- ---- the figures
+
+sized-quarters : (H : ℕ) (f : Files) (cs : List Configuration) → SizedFiles H f cs → Quartered H f cs
+unfolding figuresOf
+sized-quarters H f cs k =
+    let samples = samplesIn (f .curves) in
+    let homes = homesOf (f .document .tracks) (f .rows) in
+    let n = f .document .opened in
+    let draws : ℕ → ℕ = drawnAt samples homes n cs in
+    record {
+      before = quarters-whole (beforeAt samples cs) H (k .horizon .1) ∙ before-seconds samples H cs (k .sized) (k .fits);
+      drawn = quarters-whole draws H (k .horizon .1) ∙ drawn-seconds samples homes n cs H;
+      beforeBegun = peak-begun (beforeAt samples cs) H (k .horizon .0);
+      drawnBegun = peak-begun draws H (k .horizon .0);
+    }
 
 sized-figures : (H : ℕ) (f : Files) (cs : List Configuration) → SizedFiles H f cs → BoundedFigures H f cs
 unfolding figuresOf curvesOf
@@ -117,6 +134,7 @@ sized-figures H f cs k =
         peakDrawn = peak-drawn-bound samples H cs (k .sized) (k .fits) homes n;
       };
       curves = tabulate-all (λ p. natAbs p ≤ mostPower) (n * H) (λ i. power samples homes cs (i / H) (0 + i % H)) (λ i. power-bound samples homes cs (k .sized) (i / H) (0 + i % H));
+      quarters = sized-quarters H f cs k;
       balance = drawn-and-returned samples n H homes cs (k .sized) (k .fits) (k .placed);
     }
 

@@ -5,10 +5,10 @@ use mathlib.Core.List.{List, [], _∷_}
 use mathlib.Core.Option.{Option, none, some}
 use lib.ListN.{length}
 use lib.IntN.{ℤ, pos, _+ℤ_, natAbs}
-use Rattle.rules.specs.Limits.{mostLegs, mostTravel, mostKw, mostKj}
+use Rattle.rules.specs.Limits.{leastHorizon, mostHorizon, quarterSeconds, mostQuarters, mostLegs, mostTravel, mostKw, mostKj}
 use Rattle.rules.specs.Lists.{sumOf}
 use Rattle.rules.specs.Reading.{Files}
-use Rattle.rules.specs.Energy.{below, samplesIn, homesOf, figuresOf, curvesOf}
+use Rattle.rules.specs.Energy.{sumTo, below, beforeAt, drawnAt, quarter, samplesIn, homesOf, figuresOf, curvesOf}
 use Rattle.rules.specs.Verdict.{All}
 use Rattle.rules.specs.declared.sizes.Configuration.{Configuration}
 use Rattle.rules.specs.declared.figures.Figures.{Figures}
@@ -53,8 +53,9 @@ chosen samples cs = sumOfZ (λ c. sumOfZ (λ x. x) (samples (c .profile))) cs
 
 -- ---- of the files that were read
 
--- what an accepted solution has: few legs, each with its samples; runs that end by H; and a subnet for each leg
+-- what an accepted solution has: an H in range; few legs, each with its samples; runs that end by H; and a subnet for each leg
 pub record SizedFiles (H : ℕ) (f : Files) (cs : List Configuration) : Type 0 where
+  pub horizon : (leastHorizon ≤ H) × (H ≤ mostHorizon)
   pub sized : Sized (samplesIn (f .curves)) cs
   pub fits : Fits H cs
   pub placed : Placed (f .document .opened) (homesOf (f .document .tracks) (f .rows)) cs
@@ -68,8 +69,16 @@ pub record Moderate (g : Figures) : Type 0 where
   pub peakBefore : g .peaks .before .kj ≤ mostKj
   pub peakDrawn : g .peaks .drawn .kj ≤ mostKj
 
+-- the quarters add up to the whole, before recuperation and drawn; and the quarter that a peak names begins before H
+pub record Quartered (H : ℕ) (f : Files) (cs : List Configuration) : Type 0 where
+  pub before : sumTo (quarter (beforeAt (samplesIn (f .curves)) cs) H) mostQuarters ≡ figuresOf H f cs .before
+  pub drawn : sumTo (quarter (drawnAt (samplesIn (f .curves)) (homesOf (f .document .tracks) (f .rows)) (f .document .opened) cs) H) mostQuarters ≡ figuresOf H f cs .drawn
+  pub beforeBegun : quarterSeconds * figuresOf H f cs .peaks .before .quarter < H
+  pub drawnBegun : quarterSeconds * figuresOf H f cs .peaks .drawn .quarter < H
+
 -- and so are the curves; what is lost follows from the other energies and what the runs give back
 pub record BoundedFigures (H : ℕ) (f : Files) (cs : List Configuration) : Type 0 where
   pub figures : Moderate (figuresOf H f cs)
   pub curves : All (λ p. natAbs p ≤ mostPower) (curvesOf H f cs)
+  pub quarters : Quartered H f cs
   pub balance : figuresOf H f cs .drawn + returned (samplesIn (f .curves)) cs ≡ figuresOf H f cs .lost + figuresOf H f cs .before

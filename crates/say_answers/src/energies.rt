@@ -28,7 +28,7 @@ fn totals(g: Figures) {
     );
 }
 
-// H says whether there is a whole quarter.
+// H says when a last, shorter quarter ends.
 pub fn tell(h: u32, g: Figures) {
     let peaks = g.peaks;
     totals(g);

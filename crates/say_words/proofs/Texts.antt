@@ -1,18 +1,18 @@
 -- Times and energies out of their parts: the parts written one after the other are the whole. Assumes nothing.
-use Prim.Native.Nat.{ℕ, _+_, _*_, _/_, _%_, _^_, _≤_, _<_}
+use Prim.Native.Nat.{ℕ, _*_, _/_, _%_, _^_, _≤_, _<_}
 use native.Mathlib.Omega.{arith}
 use native.Mathlib.Nat.{mod-lt}
+use mathlib.Core.Path.{_≡_, subst}
 use mathlib.Core.List.{List, [], _∷_, append-assoc}
 use lib.ListN.{length}
-use borrow.Author.Tests.{lt-ltb, le-ltb}
 use Rattle.rules.specs.Limits.{quarterSeconds}
 use Rattle.rules.specs.Bytes.{bytes, spelled, point}
 use Rattle.rules.specs.declared.figures.Peak.{Peak}
 use Rattle.text_write.specs.Written.{lastPlace, Written}
 use Rattle.text_write.proofs.Writing.{written-then}
 use Rattle.say_words.specs.Numbers.{twoDigits, threeDigits}
-use Rattle.say_words.specs.Times.{minute, hour, colon, clockOf, timeOf, quarterOf}
-use Rattle.say_words.specs.Energies.{mostUnit, decimalsOf, mwOf, noQuarter, peakText}
+use Rattle.say_words.specs.Times.{minute, hour, colon, clockOf, timeOf, quarterEnd, quarterOf}
+use Rattle.say_words.specs.Energies.{mostUnit, decimalsOf, mwOf, peakText}
 
 -- a thousand times what is short of a unit
 pub thousand-fits : (n unit : ℕ) → 0 < unit → unit ≤ mostUnit → n % unit * 1_000 < 2 ^ 64
@@ -24,26 +24,20 @@ module _ {t : List ℕ} {at : ℕ} {t₁ : List ℕ} {at₁ : ℕ} {t₂ : List 
   unfolding decimalsOf
   decimals-written unit n whole sign decimals h = simp append-assoc at (written-then (written-then whole sign h) decimals h)
 
-  pub quarter-written : (k : ℕ) → Written t at (clockOf (quarterSeconds * k)) t₁ at₁ → Written t₁ at₁ (bytes " to ") t₂ at₂
-      → Written t₂ at₂ (clockOf (quarterSeconds * k + quarterSeconds)) t₃ at₃ → length t ≤ lastPlace → Written t at (quarterOf k) t₃ at₃
+  pub quarter-written : (H k : ℕ) {e : ℕ} → Written t at (clockOf (quarterSeconds * k)) t₁ at₁ → Written t₁ at₁ (bytes " to ") t₂ at₂
+      → e ≡ quarterEnd H k → Written t₂ at₂ (clockOf e) t₃ at₃ → length t ≤ lastPlace → Written t at (quarterOf H k) t₃ at₃
   unfolding quarterOf
-  quarter-written k start to end h = simp append-assoc (simp append-assoc at (written-then (written-then start to h) end h))
-
-  pub no-peak-written : {H : ℕ} (p : Peak) → H < quarterSeconds → Written t at (spelled (p .kj)) t₁ at₁ → Written t₁ at₁ (bytes " kJ, ") t₂ at₂
-      → Written t₂ at₂ noQuarter t₃ at₃ → length t ≤ lastPlace → Written t at (peakText H p) t₃ at₃
-  unfolding peakText
-  no-peak-written {H} p short kj unit none h =
-      rw (lt-ltb H quarterSeconds short) (simp append-assoc (simp append-assoc at (written-then (written-then kj unit h) none h)))
+  quarter-written H k start to is end h =
+      simp append-assoc (simp append-assoc at (written-then (written-then start to h) (subst (λ e. Written t₂ at₂ (clockOf e) t₃ at₃) is end) h))
 
   module _ {t₄ : List ℕ} {at₄ : ℕ} where
-    pub peak-written : {H : ℕ} (p : Peak) {t₅ : List ℕ} {at₅ : ℕ} → quarterSeconds ≤ H → Written t at (spelled (p .kj)) t₁ at₁ → Written t₁ at₁ (bytes " kJ, ") t₂ at₂
-        → Written t₂ at₂ (mwOf (p .kj)) t₃ at₃ → Written t₃ at₃ (bytes " MW, ") t₄ at₄ → Written t₄ at₄ (quarterOf (p .quarter)) t₅ at₅
+    pub peak-written : (H : ℕ) (p : Peak) {t₅ : List ℕ} {at₅ : ℕ} → Written t at (spelled (p .kj)) t₁ at₁ → Written t₁ at₁ (bytes " kJ, ") t₂ at₂
+        → Written t₂ at₂ (mwOf (p .kj)) t₃ at₃ → Written t₃ at₃ (bytes " MW, ") t₄ at₄ → Written t₄ at₄ (quarterOf H (p .quarter)) t₅ at₅
         → length t ≤ lastPlace → Written t at (peakText H p) t₅ at₅
     unfolding peakText
-    peak-written {H} p whole kj unit power sign time h =
-        rw (le-ltb H quarterSeconds whole)
-        (simp append-assoc
-        (simp append-assoc at (written-then (written-then (written-then (written-then kj unit h) power h) sign h) time h)))
+    peak-written H p kj unit power sign time h =
+        simp append-assoc
+        (simp append-assoc at (written-then (written-then (written-then (written-then kj unit h) power h) sign h) time h))
 
     pub time-written : (s : ℕ) → Written t at (spelled s) t₁ at₁ → Written t₁ at₁ (bytes " s (") t₂ at₂ → Written t₂ at₂ (clockOf s) t₃ at₃
         → Written t₃ at₃ (bytes ")") t₄ at₄ → length t ≤ lastPlace → Written t at (timeOf s) t₄ at₄

@@ -1,9 +1,7 @@
 -- Energies with three decimals, rounded down.
 use Prim.Native.Nat.{ℕ, _*_, _/_, _%_}
-use mathlib.Core.Bool.{cond}
 use mathlib.Core.List.{List, _∷_, _++_}
-use lib.Dec.{ltb}
-use Rattle.rules.specs.Limits.{quarterSeconds, kjAMwh, kjAMw}
+use Rattle.rules.specs.Limits.{kjAMwh, kjAMw}
 use Rattle.rules.specs.Bytes.{bytes, point, spelled}
 use Rattle.rules.specs.declared.figures.Peak.{Peak}
 use Rattle.say_words.specs.Numbers.{threeDigits}
@@ -25,9 +23,6 @@ mwhOf = decimalsOf kjAMwh
 abbrev pub mwOf : (kj : ℕ) → List ℕ
 mwOf = decimalsOf kjAMw
 
-abbrev pub noQuarter : List ℕ
-noQuarter = bytes "no whole quarter hour within the horizon"
-
--- a peak quarter: its energy, its average power and its time; an H short of a quarter has none, and so no time
+-- a peak quarter within H: its energy, its average power and its time
 unfoldable pub peakText : (H : ℕ) → (p : Peak) → List ℕ
-peakText H p = spelled (p .kj) ++ bytes " kJ, " ++ cond (ltb H quarterSeconds) noQuarter (mwOf (p .kj) ++ bytes " MW, " ++ quarterOf (p .quarter))
+peakText H p = spelled (p .kj) ++ bytes " kJ, " ++ mwOf (p .kj) ++ bytes " MW, " ++ quarterOf H (p .quarter)

@@ -1,7 +1,8 @@
 -- Texts as they come out.
 use Prim.Native.Nat.{_*_, _-_}
 use mathlib.Core.Path.{_≡_, refl}
-use mathlib.Core.List.{[], _∷_, map}
+use mathlib.Core.List.{[], _∷_, _++_, map}
+use Rattle.rules.specs.Limits.{mostHorizon}
 use Rattle.rules.specs.Bytes.{bytes}
 use Rattle.say_words.specs.Times.{hour, clockOf, timeOf, quarterOf}
 use Rattle.say_words.specs.Energies.{decimalsOf, mwhOf, mwOf, peakText}
@@ -17,9 +18,15 @@ unfolding clockOf timeOf
 times = refl
 
 -- the first quarter, one of the morning, the last of the day, the last of all
-pub quarters : map quarterOf (0 ∷ 29 ∷ 95 ∷ 195 ∷ []) ≡ bytes "00:00:00 to 00:15:00" ∷ bytes "07:15:00 to 07:30:00" ∷ bytes "23:45:00 to 24:00:00" ∷ bytes "48:45:00 to 49:00:00" ∷ []
+pub quarters : map (quarterOf mostHorizon) (0 ∷ 29 ∷ 95 ∷ 195 ∷ []) ≡ bytes "00:00:00 to 00:15:00" ∷ bytes "07:15:00 to 07:30:00" ∷ bytes "23:45:00 to 24:00:00" ∷ bytes "48:45:00 to 49:00:00" ∷ []
 unfolding clockOf quarterOf
 quarters = refl
+
+-- quarters that H cuts: after one second, after one second less than a quarter, and not at its end; the second of two; the last of all
+pub cut-quarters : map (λ H. quarterOf H 0) (1 ∷ 100 ∷ 899 ∷ 900 ∷ []) ++ quarterOf 901 1 ∷ quarterOf (mostHorizon - 1) 195 ∷ []
+    ≡ bytes "00:00:00 to 00:00:01" ∷ bytes "00:00:00 to 00:01:40" ∷ bytes "00:00:00 to 00:14:59" ∷ bytes "00:00:00 to 00:15:00" ∷ bytes "00:15:00 to 00:15:01" ∷ bytes "48:45:00 to 48:59:59" ∷ []
+unfolding clockOf quarterOf
+cut-quarters = refl
 
 -- less than a thousandth, one, a whole MWh less one kJ, a whole one, the worked example's 2,050 kJ
 pub energies : map mwhOf (3_599 ∷ 3_600 ∷ 3_599_999 ∷ 3_600_000 ∷ 2_050 ∷ []) ≡ bytes "0.000" ∷ bytes "0.001" ∷ bytes "0.999" ∷ bytes "1.000" ∷ bytes "0.000" ∷ []
@@ -30,8 +37,8 @@ pub peaks : map mwOf (0 ∷ 45_000 ∷ 1_800_000 ∷ []) ≡ bytes "0.000" ∷ b
 unfolding decimalsOf
 peaks = refl
 
--- one second short of a quarter, and a whole one
-pub peak-texts : peakText 899 (record { kj = 0; quarter = 0 }) ∷ peakText 900 (record { kj = 2_050; quarter = 0 }) ∷ peakText 90_000 (record { kj = 1_234_567; quarter = 29 }) ∷ [] ≡ bytes "0 kJ, no whole quarter hour within the horizon" ∷ bytes "2050 kJ, 0.002 MW, 00:00:00 to 00:15:00" ∷ bytes "1234567 kJ, 1.371 MW, 07:15:00 to 07:30:00" ∷ []
+-- a quarter that H cuts, and whole ones
+pub peak-texts : peakText 100 (record { kj = 2_050; quarter = 0 }) ∷ peakText 900 (record { kj = 2_050; quarter = 0 }) ∷ peakText 90_000 (record { kj = 1_234_567; quarter = 29 }) ∷ [] ≡ bytes "2050 kJ, 0.002 MW, 00:00:00 to 00:01:40" ∷ bytes "2050 kJ, 0.002 MW, 00:00:00 to 00:15:00" ∷ bytes "1234567 kJ, 1.371 MW, 07:15:00 to 07:30:00" ∷ []
 unfolding clockOf quarterOf decimalsOf peakText
 peak-texts = refl
 

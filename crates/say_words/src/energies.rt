@@ -6,7 +6,6 @@ use crate::numbers;
 use crate::times;
 use rules::figures::Figures;
 use rules::figures::Peak;
-use rules::sizes::Horizon;
 
 // Three decimals count in thousandths.
 const THOUSANDTHS: u64 = 1_000;
@@ -42,10 +41,7 @@ pub fn put_peak(buffer: &mut [u8], at: usize, h: u32, p: Peak) -> usize
 {
     let unit = numbers::put_whole(buffer, at, p.kj);
     let power = text_write::put_bytes(buffer, unit, b" kJ, ");
-    if h < Horizon::QUARTER {
-        return text_write::put_bytes(buffer, power, b"no whole quarter hour within the horizon");
-    }
     let mw = put_mw(buffer, power, p.kj);
     let time = text_write::put_bytes(buffer, mw, b" MW, ");
-    times::put_quarter(buffer, time, p.quarter)
+    times::put_quarter(buffer, time, h, p.quarter)
 }

@@ -170,8 +170,8 @@ pub struct Refusal {
     pub place: u32,
 }
 
-/// Whole kJ, exact, the fluctuation in kW, the four doubles of the operator's desk tool, and the first quarters that have the peaks, which mean nothing
-/// where the horizon has no whole quarter.
+/// Whole kJ, exact, the fluctuation in kW, the four doubles of the operator's desk tool, and the first quarters that have the peaks. The horizon may cut the
+/// last quarter.
 #[derive(Clone, Copy, Debug, PartialEq)]
 pub struct Figures {
     pub before_kj: u64,

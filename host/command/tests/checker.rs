@@ -89,7 +89,7 @@ fn energies_come_with_a_curve_for_each_subnet() {
     };
     let figures = energies.figures;
     assert_eq!((figures.before_kj, figures.drawn_kj, figures.lost_kj, figures.fluctuation_kw), (2_050, 2_050, 600, 1_400));
-    assert_eq!((figures.peak_before_kj, figures.peak_drawn_kj, figures.peak_drawn_mw), (0, 0, 0.0));
+    assert_eq!((figures.peak_before_kj, figures.peak_drawn_kj, figures.peak_drawn_mw), (2_050, 2_050, 2_050.0 / 900_000.0));
     assert_eq!(
         (figures.before_mwh, figures.drawn_mwh, figures.lost_mwh),
         (2_050.0 / 3_600_000.0, 2_050.0 / 3_600_000.0, 600.0 / 3_600_000.0)

@@ -288,8 +288,8 @@ fn energies_and_curves() {
 drawn: 2050 kJ, 0.000 MWh
 lost: 600 kJ, 0.000 MWh
 fluctuation: 1400 kW
-peak quarter before recuperation: 0 kJ, no whole quarter hour within the horizon
-peak quarter drawn: 0 kJ, no whole quarter hour within the horizon
+peak quarter before recuperation: 2050 kJ, 0.002 MW, 00:00:00 to 00:01:40
+peak quarter drawn: 2050 kJ, 0.002 MW, 00:00:00 to 00:01:40
 curves: out, bytes 215
 answer: accepted
 ";
@@ -303,7 +303,7 @@ answer: accepted
     let object = folder.told("energy --horizon 100 t p c t --curves out --json", 0);
     assert!(
         object.contains(
-            r#""before_kj": 2050, "drawn_kj": 2050, "lost_kj": 600, "fluctuation_kw": 1400, "peak_before_kj": 0, "peak_drawn_kj": 0, "#
+            r#""before_kj": 2050, "drawn_kj": 2050, "lost_kj": 600, "fluctuation_kw": 1400, "peak_before_kj": 2050, "peak_drawn_kj": 2050, "#
         ),
         "{object}"
     );

@@ -426,8 +426,8 @@ fn energies_have_their_units_and_times() {
     is(&object, "energies.shown", shown);
     is(&object, "outputs.0.role", r#""curves""#);
     let object = folder.object("energy --json --horizon 100 t p c t", 0);
-    is(&object, "energies.peak_drawn_quarter", "null");
-    is(&object, "energies.shown.peak_drawn_mw", "null");
+    is(&object, "energies.peak_drawn_quarter", r#"{"number": 0, "from": "00:00:00", "to": "00:01:40"}"#);
+    is(&object, "energies.shown.peak_drawn_mw", r#""0.002""#);
 }
 
 #[test]

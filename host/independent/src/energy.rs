@@ -48,8 +48,7 @@ pub struct Report {
     pub tables: Option<Tables>,
     pub figures: Figures,
     pub desk: Desk,
-    /// The first quarters that have the two peaks, before recuperation and drawn; 0 if there is no
-    /// quarter.
+    /// The first quarters that have the two peaks, before recuperation and drawn.
     pub quarters: [usize; 2],
     pub curves: Option<Vec<i32>>,
 }
@@ -174,14 +173,19 @@ fn fluctuation(curves: &[Vec<i64>], h: usize) -> i64 {
     }
 }
 
-/// "Quarter k covers 900k to 900k+899; a last, shorter one is left out. The peak quarter [...] is
-/// the greatest quarter sum in kJ, 0 if there is no quarter."
-fn peak_quarter(by_second: &[i64]) -> i64 {
-    by_second.chunks_exact(900).map(|quarter| quarter.iter().sum()).max().unwrap_or(0)
+/// "Quarter k covers 900k to 900k+899", and by document 02's E3 "a last, shorter quarter now counts,
+/// with its own sum".
+fn quarter_sums(by_second: &[i64]) -> impl Iterator<Item = i64> + '_ {
+    by_second.chunks(900).map(|quarter| quarter.iter().sum())
 }
 
-/// The first quarter that has the greatest sum.
+/// "The peak quarter [...] is the greatest quarter sum in kJ". No sum is below 0.
+fn peak_quarter(by_second: &[i64]) -> i64 {
+    quarter_sums(by_second).fold(0, i64::max)
+}
+
+/// The first quarter that has the greatest sum: those before it have less.
 fn quarter_of(by_second: &[i64]) -> usize {
     let peak = peak_quarter(by_second);
-    by_second.chunks_exact(900).position(|quarter| quarter.iter().sum::<i64>() == peak).unwrap_or(0)
+    quarter_sums(by_second).take_while(|sum| *sum < peak).count()
 }

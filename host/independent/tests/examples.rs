@@ -17,10 +17,11 @@ fn nominal_is_accepted() {
             drawn: 2_050,
             lost: 600,
             fluctuation: 1_400,
-            peak_before: 0,
-            peak_drawn: 0
+            peak_before: 2_050,
+            peak_drawn: 2_050
         }
     );
+    assert_eq!(report.quarters, [0, 0]);
     let curves = report.curves.unwrap();
     assert_eq!(curves.len(), 100);
     assert_eq!(curves[9..15], [0, 500, 1_000, 250, -400, 0]);
@@ -224,7 +225,7 @@ fn quarters_and_doubles() {
         .with_draft(&timetable(&[row_1]))
         .with_constraints(&lists(&[subnet_of_both()]));
     texts.h = 1_000;
-    // One whole quarter: 0.5 and 1.0 fall in it, 0.25 and -0.4 in the shorter one left out.
+    // One whole quarter: 0.5 and 1.0 fall in it, 0.25 and -0.4 in the shorter one.
     let report = texts.report();
     assert_eq!((report.figures.peak_before, report.figures.peak_drawn), (1_500, 1_500));
     assert_eq!(report.figures.drawn, 1_750);
@@ -237,6 +238,12 @@ fn quarters_and_doubles() {
     texts.solution = texts.timetable.clone();
     assert_eq!(texts.report().figures.peak_drawn, 1_250);
     assert_eq!(texts.report().quarters, [1, 1]);
+    // The same in a shorter one: its own sum, and the divisor is that of a whole quarter.
+    texts.h = 903;
+    let report = texts.report();
+    assert_eq!((report.figures.peak_before, report.figures.peak_drawn), (1_250, 1_250));
+    assert_eq!(report.quarters, [1, 1]);
+    assert_eq!(report.desk.peak, 1_250.0 / 900_000.0);
 }
 
 #[test]
@@ -256,9 +263,18 @@ fn the_first_of_equal_quarters() {
     assert_eq!(quarters(2_700, &[row(1, 1_810), row(2, 910)]), (1_750, [1, 1]));
     assert_eq!(quarters(2_700, &[row(1, 10), row(2, 910)]), (1_750, [0, 0]));
     assert_eq!(quarters(1_800, &[row(1, 10), row(2, 910), row(3, 920)]), (3_500, [1, 1]));
-    // Quarter 1 is cut, and quarter 0 is empty.
-    assert_eq!(quarters(1_799, &[row(1, 910)]), (0, [0, 0]));
-    assert_eq!(quarters(899, &[row(1, 10)]), (0, [0, 0]));
+    // Quarter 1 is cut, and counts: above quarter 0, and after it where both have the same.
+    assert_eq!(quarters(1_799, &[row(1, 910)]), (1_750, [1, 1]));
+    assert_eq!(quarters(914, &[row(1, 10), row(2, 910)]), (1_750, [0, 0]));
+    assert_eq!(quarters(2_699, &[row(1, 910), row(2, 1_810)]), (1_750, [1, 1]));
+    assert_eq!(quarters(2_699, &[row(1, 10), row(2, 2_690), row(3, 2_695)]), (3_500, [2, 2]));
+    // With H of 1..899 there is one quarter, and with 900 too.
+    assert_eq!(quarters(14, &[row(1, 10)]), (1_750, [0, 0]));
+    assert_eq!(quarters(899, &[row(1, 895)]), (1_750, [0, 0]));
+    assert_eq!(quarters(900, &[row(1, 896)]), (1_750, [0, 0]));
+    // The last of the greatest H, whole and one second short.
+    assert_eq!(quarters(176_400, &[row(1, 176_396)]), (1_750, [195, 195]));
+    assert_eq!(quarters(176_399, &[row(1, 176_395)]), (1_750, [195, 195]));
 }
 
 #[test]

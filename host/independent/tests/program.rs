@@ -29,7 +29,7 @@ fn an_answer_is_a_line() {
 #[test]
 fn figures_and_texts_follow_the_answer() {
     let energy = run(&["energy", "100", "timetable.csv", "profiles.csv", "constraints.json", "timetable.csv"]);
-    let figures = "accepted\nbefore 2050 drawn 2050 lost 600 fluctuation 1400 peak_before 0 peak_drawn 0\n";
+    let figures = "accepted\nbefore 2050 drawn 2050 lost 600 fluctuation 1400 peak_before 2050 peak_drawn 2050\n";
     assert_eq!((energy.status.code(), energy.stdout), (Some(0), figures.as_bytes().to_vec()));
     let solutions = ["solution-15-40.csv", "solution-10-45.csv"];
     let merged = run(&["merge", "later", "100", "timetable.csv", "profiles.csv", "constraints.json", solutions[0], solutions[1]]);

@@ -17,21 +17,15 @@ fn decimals(kj: u64, unit: u64) -> String {
     format!("{}.{:03}", kj / unit, kj % unit * 1_000 / unit)
 }
 
-/// A peak's quarter, where the horizon has one.
-fn within(horizon: u32, quarter: u32) -> Option<u32> {
-    (horizon >= QUARTER).then_some(quarter)
+/// From when to when a quarter lasts: a last one that the horizon cuts ends with it.
+fn clocks(horizon: u32, quarter: u32) -> [String; 2] {
+    [QUARTER * quarter, horizon.min(QUARTER * (quarter + 1))].map(clock)
 }
 
 /// As the small program of document 01 words them.
 pub fn lines(f: &Figures, horizon: u32) -> String {
     let energy = |kj: u64| format!("{kj} kJ, {} MWh", decimals(kj, KJ_A_MWH));
-    let peak = |kj: u64, quarter: u32| match within(horizon, quarter) {
-        Some(quarter) => {
-            let (start, end) = (clock(QUARTER * quarter), clock(QUARTER * (quarter + 1)));
-            format!("{kj} kJ, {} MW, {start} to {end}", decimals(kj, KJ_A_MW))
-        }
-        None => format!("{kj} kJ, no whole quarter hour within the horizon"),
-    };
+    let peak = |kj: u64, quarter: u32| format!("{kj} kJ, {} MW, {}", decimals(kj, KJ_A_MW), clocks(horizon, quarter).join(" to "));
     [
         format!("before recuperation: {}\n", energy(f.before_kj)),
         format!("drawn: {}\n", energy(f.drawn_kj)),
@@ -56,27 +50,25 @@ pub fn values(object: Object, f: &Figures, horizon: u32) -> Object {
         .value("drawn_mwh", f.drawn_mwh)
         .value("lost_mwh", f.lost_mwh)
         .value("peak_drawn_mw", f.peak_drawn_mw)
-        .optional("peak_before_quarter", quarter(horizon, f.peak_before_quarter))
-        .optional("peak_drawn_quarter", quarter(horizon, f.peak_drawn_quarter))
-        .object("shown", shown(f, horizon));
+        .object("peak_before_quarter", quarter(horizon, f.peak_before_quarter))
+        .object("peak_drawn_quarter", quarter(horizon, f.peak_drawn_quarter))
+        .object("shown", shown(f));
     object.object("energies", figures)
 }
 
 /// A peak's quarter, with its times.
-fn quarter(horizon: u32, quarter: u32) -> Option<String> {
-    let quarter = within(horizon, quarter)?;
-    let object = Object::new().value("number", quarter).text("from", &clock(QUARTER * quarter));
-    Some(object.text("to", &clock(QUARTER * (quarter + 1))).close())
+fn quarter(horizon: u32, quarter: u32) -> Object {
+    let [from, to] = clocks(horizon, quarter);
+    Object::new().value("number", quarter).text("from", &from).text("to", &to)
 }
 
-fn shown(f: &Figures, horizon: u32) -> Object {
-    let peak = |kj: u64| within(horizon, 0).map(|_| decimals(kj, KJ_A_MW));
+fn shown(f: &Figures) -> Object {
     Object::new()
         .text("before_mwh", &decimals(f.before_kj, KJ_A_MWH))
         .text("drawn_mwh", &decimals(f.drawn_kj, KJ_A_MWH))
         .text("lost_mwh", &decimals(f.lost_kj, KJ_A_MWH))
-        .optional_text("peak_before_mw", peak(f.peak_before_kj).as_deref())
-        .optional_text("peak_drawn_mw", peak(f.peak_drawn_kj).as_deref())
+        .text("peak_before_mw", &decimals(f.peak_before_kj, KJ_A_MW))
+        .text("peak_drawn_mw", &decimals(f.peak_drawn_kj, KJ_A_MW))
 }
 
 /// One line a second, the subnets' kW in order, one space between.
@@ -129,11 +121,14 @@ mod tests {
     }
 
     #[test]
-    fn a_horizon_short_of_a_quarter_has_no_peak_time() {
-        let said = lines(&FIGURES, QUARTER - 1);
-        assert_eq!(said.matches("no whole quarter hour within the horizon\n").count(), 2, "{said}");
-        let object = values(Object::new(), &FIGURES, QUARTER - 1).close();
-        assert!(object.contains(r#""peak_before_quarter": null, "peak_drawn_quarter": null, "#), "{object}");
-        assert!(object.ends_with(r#""peak_before_mw": null, "peak_drawn_mw": null}}}"#), "{object}");
+    fn a_quarter_that_the_horizon_cuts_ends_with_it() {
+        let cut = 96 * QUARTER + 100;
+        let said = lines(&FIGURES, cut);
+        assert!(said.contains("07:15:00 to 07:30:00\n"), "{said}");
+        assert!(said.ends_with("peak quarter drawn: 900000 kJ, 1.000 MW, 24:00:00 to 24:01:40\n"), "{said}");
+        let object = values(Object::new(), &FIGURES, cut).close();
+        assert!(object.contains(r#""peak_drawn_quarter": {"number": 96, "from": "24:00:00", "to": "24:01:40"}, "#), "{object}");
+        let ends = [1, QUARTER - 1, QUARTER, QUARTER + 1].map(|horizon| clocks(horizon, 0)[1].clone());
+        assert_eq!(ends, ["00:00:01", "00:14:59", "00:15:00", "00:15:00"]);
     }
 }

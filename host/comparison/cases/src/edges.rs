@@ -21,6 +21,7 @@ pub fn edges() -> Vec<Named> {
     list.extend(lengths());
     list.extend(quarters());
     list.extend(peaks());
+    list.extend(last_quarters());
     list.extend(rooms());
     list
 }
@@ -226,12 +227,26 @@ fn peaks() -> Vec<Named> {
         running("the greatest in quarter 1, of four", 3_600, &["910_4_7", "2710_3_8"]),
         running("quarters 0 and 1 equal", 1_800, &["10_4_7", "910_4_7"]),
         running("quarters 1 and 2 equal", 2_700, &equal),
-        running("quarter 2 is cut and left out", 2_699, &equal),
         running("quarters 1 and 2 equal, in the other order", 2_700, &["1810_4_7", "910_4_7"]),
     ];
     // Quarter 0 has more before recuperation, quarter 1 draws more.
     list.push(running("two peaks in two quarters", 1_800, &["10_4_7", "13_3_8", "910_1_9"]));
     list
+}
+
+/// A last quarter that H cuts (document 02, E3), from one second to all but one, and whole ones beside it.
+pub fn last_quarters() -> Vec<Named> {
+    vec![
+        running("H 1: one quarter of one second", 1, &["0_1_9"]),
+        running("H 899: one quarter, a second short", 899, &["10_3_8", "898_1_9"]),
+        running("H 900: one whole quarter", 900, &["10_3_8", "899_1_9"]),
+        running("H 901: the second quarter has one second, and the most", 901, &["10_3_8", "900_1_9"]),
+        running("H 901: the second quarter has one second, and as much as the first", 901, &["10_1_9", "900_1_9"]),
+        running("H 2,699: the last quarter is cut, and has as much as the one before", 2_699, &["910_4_7", "1810_4_7"]),
+        running("H 2,699: the last quarter is cut, and has the most", 2_699, &["10_3_8", "2695_4_7"]),
+        running("H 176,399: the last quarter of all, a second short", 176_399, &["10_3_8", "176395_4_7"]),
+        running("H 176,400: the last quarter of all", 176_400, &["10_3_8", "176396_4_7"]),
+    ]
 }
 
 /// Energies of the example without its dwell, its legs chosen so; a third leg is the second once more, and profile 9 has one sample.
@@ -250,7 +265,9 @@ fn running(name: &str, h: u32, choices: &[&str]) -> Named {
             row.list = vec![row.nominal.clone()];
         }
     }
-    named(name.to_string(), Entry::Energy, &plan)
+    let mut edge = named(name.to_string(), Entry::Energy, &plan);
+    edge.call.case.rooms.curves = h as usize;
+    edge
 }
 
 /// Each room at the need, one number less, one more, and none.

@@ -170,6 +170,9 @@ mod tests {
             assert_eq!(report.figures.drawn - report.figures.lost, sum);
             assert!(report.figures.drawn <= report.figures.before);
             assert!(report.figures.peak_drawn <= report.figures.peak_before);
+            if case.h <= 900 {
+                assert_eq!((report.figures.peak_before, report.figures.peak_drawn), (report.figures.before, report.figures.drawn));
+            }
         }
     }
 
@@ -180,8 +183,8 @@ mod tests {
             let report = case.energy();
             let curves = report.curves.unwrap_or_default();
             let drawn = |second: usize| -> i64 { curves.iter().skip(second).step_by(case.h as usize).map(|p| i64::from(*p).max(0)).sum() };
-            let quarter = |quarter: usize| -> i64 { (900 * quarter..900 * quarter + 900).map(drawn).sum() };
-            let sums: Vec<i64> = (0..case.h as usize / 900).map(quarter).collect();
+            let by_second: Vec<i64> = (0..case.h as usize).map(drawn).collect();
+            let sums: Vec<i64> = by_second.chunks(900).map(|quarter| quarter.iter().sum()).collect();
             later += usize::from(report.quarters[1] > 0);
             equal += usize::from(report.figures.peak_drawn > 0 && sums.iter().filter(|sum| **sum == report.figures.peak_drawn).count() > 1);
         }

@@ -232,16 +232,16 @@ fn energies(call: &Call, report: &Report) -> String {
     let peaks = format!(r#", "peak_before_kj": {peak_before}, "peak_drawn_kj": {peak_drawn}"#);
     let Desk { before: before_mwh, drawn: drawn_mwh, lost: lost_mwh, peak } = report.desk;
     let doubles = format!(r#", "before_mwh": {before_mwh}, "drawn_mwh": {drawn_mwh}, "lost_mwh": {lost_mwh}, "peak_drawn_mw": {peak}"#);
-    let whole = |told: String| if call.case.h as usize >= QUARTER { told } else { String::from("null") };
     let quarter = |quarter: usize| {
-        let [from, to] = [quarter, quarter + 1].map(|quarter| clock(quarter * QUARTER));
-        whole(format!(r#"{{"number": {quarter}, "from": "{from}", "to": "{to}"}}"#))
+        let seconds = QUARTER.min(call.case.h as usize - quarter * QUARTER);
+        let [from, to] = [0, seconds].map(|second| clock(quarter * QUARTER + second));
+        format!(r#"{{"number": {quarter}, "from": "{from}", "to": "{to}"}}"#)
     };
     let [first, second] = report.quarters.map(quarter);
     let quarters = format!(r#", "peak_before_quarter": {first}, "peak_drawn_quarter": {second}"#);
     let [before, drawn, lost] = [before, drawn, lost].map(|kj| decimals(kj, KJ_A_MWH));
     let shown = format!(r#", "shown": {{"before_mwh": {before}, "drawn_mwh": {drawn}, "lost_mwh": {lost}"#);
-    let [first, second] = [peak_before, peak_drawn].map(|kj| whole(decimals(kj, KJ_A_MW)));
+    let [first, second] = [peak_before, peak_drawn].map(|kj| decimals(kj, KJ_A_MW));
     let shown_peaks = format!(r#", "peak_before_mw": {first}, "peak_drawn_mw": {second}}}}}"#);
     [kilojoules, peaks, doubles, quarters, shown, shown_peaks].concat()
 }

@@ -27,17 +27,19 @@ const SHOWN: [(Shown, &str); 5] = [
 /// Where the peaks of an accepted energy lie.
 #[derive(Clone, Copy, Debug, PartialEq, Eq, PartialOrd, Ord)]
 enum Peaked {
-    NoQuarter,
+    OneCut,
     First,
     Later,
+    LastCut,
     Equal,
     Apart,
 }
 
-const PEAKED: [(Peaked, &str); 5] = [
-    (Peaked::NoQuarter, "no whole quarter"),
+const PEAKED: [(Peaked, &str); 6] = [
+    (Peaked::OneCut, "one cut quarter"),
     (Peaked::First, "drawn in quarter 0"),
     (Peaked::Later, "drawn in a later quarter"),
+    (Peaked::LastCut, "drawn in a last, cut one"),
     (Peaked::Equal, "drawn in several quarters"),
     (Peaked::Apart, "two quarters"),
 ];
@@ -128,8 +130,9 @@ impl Coverage {
 
     fn count_peaks(&mut self, case: &Case, greatest: i64, [before, drawn]: [usize; 2]) {
         let mut met = vec![match drawn {
-            _ if (case.h as usize) < QUARTER => Peaked::NoQuarter,
+            _ if (case.h as usize) < QUARTER => Peaked::OneCut,
             0 => Peaked::First,
+            last if (case.h as usize) < QUARTER * (last + 1) => Peaked::LastCut,
             _ => Peaked::Later,
         }];
         if greatest > 0 && drawn_quarters(case).iter().filter(|sum| **sum == greatest).count() > 1 {
@@ -284,7 +287,7 @@ fn drawn_quarters(case: &Case) -> Vec<i64> {
     let curves = case.energy().curves.unwrap_or_default();
     let h = case.h as usize;
     let drawn = |second: usize| -> i64 { curves.iter().skip(second).step_by(h).map(|power| i64::from(*power).max(0)).sum() };
-    (0..h / QUARTER).map(|quarter| (QUARTER * quarter..QUARTER * (quarter + 1)).map(drawn).sum()).collect()
+    (0..h).step_by(QUARTER).map(|first| (first..h.min(first + QUARTER)).map(drawn).sum()).collect()
 }
 
 /// Whether an entry is lent the room.

@@ -5,6 +5,7 @@
 //! `definitions SEED COUNT DIR` writes `DIR/Lib.antt` and a module for each ten cases.
 
 use cases::draw::for_target;
+use cases::edges::last_quarters;
 use cases::quotes;
 use cases::random::Random;
 use cases::spelling::CSV;
@@ -18,7 +19,7 @@ use std::process::ExitCode;
 const CASES_A_MODULE: usize = 10;
 
 /// Statements over longer horizons take the prover too long.
-const LONGEST_HORIZON: u32 = 2_000;
+const LONGEST_HORIZON: u32 = 2_700;
 
 /// Longer curves are too long to be written out.
 const LONGEST_CURVE: u32 = 100;
@@ -71,12 +72,14 @@ fn write(dir: &str, name: &str, text: &str) -> Result<(), String> {
     std::fs::write(Path::new(dir).join(name), text).map_err(|e| format!("{name}: {e}"))
 }
 
-/// The call of a number: of each ten one is a merge, with its energies too, one an energy, and two have quotes and CR LF at their edges.
+/// The call of a number: of each ten one is a merge, with its energies too, one an energy, one an energy with H at the edges of quarters, and two have quotes
+/// and CR LF at their edges.
 fn drawn(seed: u64, number: usize) -> Call {
     let mut random = Random::of(seed, number as u64);
     let entry = match number % CASES_A_MODULE {
         9 => Entry::MergeEarlier,
         4 => Entry::Energy,
+        6 => return last_quarter(number / CASES_A_MODULE),
         2 | 7 => return random.pick(&quotes::calls()).call.clone(),
         _ => Entry::Check,
     };
@@ -87,6 +90,12 @@ fn drawn(seed: u64, number: usize) -> Call {
             return Call::of(entry, case);
         }
     }
+}
+
+/// The calls with H at the edges of quarters, by turns, as far as the prover computes them.
+fn last_quarter(turn: usize) -> Call {
+    let mut calls: Vec<Call> = last_quarters().into_iter().map(|named| named.call).filter(|call| call.case.h <= LONGEST_HORIZON).collect();
+    calls.swap_remove(turn % calls.len())
 }
 
 /// The statements of one call; how many there are. Each says the answer and every lent room, whole, or the row that is shown.

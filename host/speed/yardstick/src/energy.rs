@@ -15,6 +15,11 @@ pub struct Figures {
 
 const QUARTER: usize = 900;
 
+/// How many quarters begin before H: the last may be shorter.
+fn quarters(h: usize) -> usize {
+    (h + QUARTER - 1) / QUARTER
+}
+
 /// What the legs run with.
 pub struct Tables<'a> {
     /// The choice of each leg.
@@ -29,7 +34,7 @@ pub struct Tables<'a> {
 pub fn energy(h: usize, subnets: usize, tables: &Tables, rows: &mut Rows, curves: &mut [i32]) -> Option<Figures> {
     let curves = curves.get_mut(..subnets * h)?;
     curves.fill(0);
-    let mut before = vec![0i64; h / QUARTER + 1];
+    let mut before = vec![0i64; quarters(h)];
     for (choice, subnet) in tables.choices.chunks_exact(CONFIGURATION).zip(tables.subnets) {
         let profile = &tables.profiles[rows.of(choice[2])? as usize * PROFILE..][..PROFILE];
         let samples = &tables.samples[profile[1] as usize..][..profile[2] as usize];
@@ -56,7 +61,7 @@ fn add_before(before: &mut [i64], departure: usize, samples: &[i32]) {
 }
 
 fn figures(h: usize, curves: &[i32], before: &[i64]) -> Figures {
-    let mut drawn = vec![0i64; h / QUARTER + 1];
+    let mut drawn = vec![0i64; quarters(h)];
     let mut all = vec![0i32; h];
     let mut lost = 0;
     for curve in curves.chunks_exact(h.max(1)) {
@@ -68,14 +73,13 @@ fn figures(h: usize, curves: &[i32], before: &[i64]) -> Figures {
             *sum += power;
         }
     }
-    let whole = h / QUARTER;
     let (least, greatest) = all.iter().fold((i32::MAX, i32::MIN), |(least, greatest), power| (least.min(*power), greatest.max(*power)));
     Figures {
         before: before.iter().sum(),
         drawn: drawn.iter().sum(),
         lost,
         fluctuation: i64::from(greatest) - i64::from(least),
-        peak_before: before[..whole].iter().copied().max().unwrap_or(0),
-        peak_drawn: drawn[..whole].iter().copied().max().unwrap_or(0),
+        peak_before: before.iter().copied().max().unwrap_or(0),
+        peak_drawn: drawn.iter().copied().max().unwrap_or(0),
     }
 }

@@ -3,15 +3,16 @@
 use Prim.Native.Nat.{_-_}
 use native.Mathlib.Omega.{arith}
 use borrow.Author.Needs.{needs}
-use Rattle.energy_parts.proofs.QuarterSteps.{Counting, runQuarter, run-begins, more-fits, sum-held, quarter-added, run-ends}
+use Rattle.energy_parts.specs.Quarters.{quarterTaken}
+use Rattle.energy_parts.proofs.QuarterSteps.{Counting, run-begins, more-fits, sum-held, quarter-added, run-ends}
 use Rattle.energy_parts.proofs.quarters.add_run.Statement.{statement}
 use Rattle.energy_parts.proofs.quarters.add_run.Tie as tie
 
 abbrev Inv-loop : tie.InvT-loop
-Inv-loop run start h out₀ last k₀ out k = Counting out₀ (runQuarter start run h) out k
+Inv-loop run start out₀ last k₀ out k = Counting out₀ (quarterTaken start run) out k
 
 abbrev μ-loop : tie.MeasureT-loop
-μ-loop run start h out₀ last k₀ out k = last - k
+μ-loop run start out₀ last k₀ out k = last - k
 
 add-quarters-before : tie.Need-add-quarters-before Inv-loop μ-loop
 add-quarters-before c = search needs
@@ -56,7 +57,7 @@ loop-less : tie.Need-loop-less Inv-loop μ-loop
 loop-less c = search needs
 
 loop-again : tie.Need-loop-again Inv-loop μ-loop
-loop-again c = quarter-added _ _ _ _ (c .before .before .before .before .before .pre) _ (c .before .before .before .before .quarters-before .ensures) _ _ (c .before .before .before .loop .inv) (search needs) _ (c .before .in-quarter .ensures) (omega arith)
+loop-again c = quarter-added _ _ _ (c .before .before .before .before .before .pre) _ (c .before .before .before .before .quarters-before .ensures) _ _ (c .before .before .before .loop .inv) (search needs) _ (c .before .in-quarter .ensures) (omega arith)
 
 returns : tie.Need-returns Inv-loop μ-loop
 returns c = search (run-ends, needs)

@@ -5,11 +5,11 @@ use borrow.Author.Needs.{needs}
 use Rattle.say_words.proofs.times.put_quarter.Statement.{statement}
 use Rattle.say_words.proofs.times.put_quarter.Tie as tie
 
-cast-start : tie.Need-cast-start
-cast-start c = search needs
+cast-put-clock : tie.Need-cast-put-clock
+cast-put-clock c = search needs
 
-mul-start : tie.Need-mul-start
-mul-start c = search needs
+mul-put-clock : tie.Need-mul-put-clock
+mul-put-clock c = search needs
 
 put-clock-requires : tie.Need-put-clock-requires
 put-clock-requires c κs = search needs
@@ -20,11 +20,8 @@ slice-aggregate-put-bytes c = search needs
 put-bytes-requires : tie.Need-put-bytes-requires
 put-bytes-requires c κs = search needs
 
-cast-put-clock : tie.Need-cast-put-clock
-cast-put-clock c = search needs
-
-add-put-clock : tie.Need-add-put-clock
-add-put-clock c = search needs
+quarter-end-requires : tie.Need-quarter-end-requires
+quarter-end-requires c κs = search needs
 
 put-clock-requires-2 : tie.Need-put-clock-requires-2
 put-clock-requires-2 c κs = search needs
@@ -33,19 +30,23 @@ same-length : tie.Need-same-length
 same-length c = search needs
 
 returns : tie.Need-returns
-returns c = quarter-written _ (c .before .before .before .before .before .before .before .before .before .before .before .put-clock .ensures) (c .before .before .before .before .before .before .put-bytes .ensures) (c .before .before .put-clock2 .ensures) (omega arith)
+returns c =
+    let last = c .before .before in
+    let end = last .before .before in
+    let to = end .before .before .before in
+    let start = to .before .before .before .before .before in
+    quarter-written _ _ (start .put-clock .ensures) (to .put-bytes .ensures) (end .quarter-end .ensures) (last .put-clock2 .ensures) (omega arith)
 
 pub put-quarter-spec : {M : Type 1} → statement M
 put-quarter-spec =
     tie.close
     (tie.spec
-    cast-start
-    mul-start
+    cast-put-clock
+    mul-put-clock
     put-clock-requires
     slice-aggregate-put-bytes
     put-bytes-requires
-    cast-put-clock
-    add-put-clock
+    quarter-end-requires
     put-clock-requires-2
     same-length
     returns)

@@ -39,9 +39,9 @@ pub rules-able : {timetable legs : List ℕ} {n : ℕ} → Drafted timetable leg
 rules-able {legs = legs} {n = n} d = (legs-records legs n (d .rows) (d .draft .many) (d .draft .legs-hold), d .draft .few)
 
 module _ (counts : Counts) (timetable text legs constraints tracks constraints′ tracks′ : List ℕ)
-    {answer : Read} (read : Reads (reading text legs (counts .legs) constraints tracks) constraints tracks answer constraints′ tracks′) where
+    {answer : Read} (read : Reads (reading plainRules text legs (counts .legs) constraints tracks) constraints tracks answer constraints′ tracks′) where
   abbrev outcome : Reading Document
-  outcome = reading text legs (counts .legs) constraints tracks
+  outcome = reading plainRules text legs (counts .legs) constraints tracks
 
   by-rows : (rows : List Row) → Draft timetable legs (counts .legs) rows
       → constraintsOf (legIds rows) (length constraints / constraintWidth) (length tracks / trackWidth) plainRules text ≡ outcome

@@ -7,8 +7,11 @@ use files_tests::lists::Fault;
 use files_tests::subnets;
 use rules::answers::File;
 use rules::answers::Refusal;
+use rules::kinds::Edition;
 use rules::sizes::Horizon;
 use rules::sizes::HorizonMade;
+use rules::tokens::Lists;
+use rules::tokens::Rules;
 use tables_ids::Found;
 use tables_lent::Counts;
 use tables_lent::Filed;
@@ -85,7 +88,11 @@ pub fn read_rules(
     ensures { λ r. ⌜ RulesRead counts (now (timetable .entry)) (now (text .entry)) (now (legs .entry)) (now (constraints .entry)) (now (tracks .entry)) r (now (constraints .exit)) (now (tracks .exit)) ⌝ }
 {
     let n = counts.legs;
-    match constraints::read_constraints(text, legs, n, constraints, tracks) {
+    let rules = Rules {
+        required: Lists::ALL,
+        edition: Edition::EXAMPLE,
+    };
+    match constraints::read_constraints(rules, text, legs, n, constraints, tracks) {
         Read::Refused(number, place) => {
             Filed::Refused(Refusal::new(number, File::CONSTRAINTS, place))
         }

@@ -7,6 +7,7 @@ use crate::answers::File;
 use crate::answers::Refusal;
 use crate::figures::Figures;
 use crate::kinds::Anchor;
+use crate::kinds::Edition;
 use crate::kinds::Key;
 use crate::kinds::Kind;
 use crate::sizes::Choice;
@@ -106,7 +107,7 @@ pub fn numbers_are_the_laws() -> [u64; 23]
 }
 
 // The kinds, lists, keys, anchors and connection types.
-const NAMES: [u64; 28] = [
+const NAMES: [u64; 30] = [
     Kind::NOT_OFFERED as u64,
     Kind::HEADWAY as u64,
     Kind::SINGLE_TRACK as u64,
@@ -127,6 +128,8 @@ const NAMES: [u64; 28] = [
     Key::CONNECTION_TYPE as u64,
     Key::SUBNET_ID as u64,
     Key::TRACK_IDS as u64,
+    Edition::TABLE as u64,
+    Edition::EXAMPLE as u64,
     Anchor::NONE as u64,
     Anchor::DEPARTURE as u64,
     Anchor::ARRIVAL as u64,
@@ -137,7 +140,7 @@ const NAMES: [u64; 28] = [
     Constraint::DEPARTURE as u64,
 ];
 
-pub fn names_are_the_laws() -> [u64; 28]
+pub fn names_are_the_laws() -> [u64; 30]
     ensures { λ r. ⌜ r ≡ names ⌝ }
 {
     NAMES

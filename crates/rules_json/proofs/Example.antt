@@ -9,7 +9,7 @@ use borrow.Author.Tests.{eqb-false, not-true}
 use Rattle.rules.specs.Bytes.{bytes}
 use Rattle.rules.specs.Lists.{any, every}
 use Rattle.rules.specs.Answers.{good}
-use Rattle.rules.specs.Kinds.{headway, singleTrack, dwell, turnaround, connection, subnets, firstLeg, secondLeg, minHeadway, minDwell, minConnection, maxConnection, subnetId, byArrival, noType}
+use Rattle.rules.specs.Kinds.{exampleEdition, headway, singleTrack, dwell, turnaround, connection, subnets, firstLeg, secondLeg, minHeadway, minDwell, minConnection, maxConnection, subnetId, byArrival, noType}
 use Rattle.rules.specs.Constraints.{document, plainRules, constraintsOf}
 use Rattle.rules.proofs.Truth.{all-map}
 use Rattle.rules_theorems.specs.Lists.{Distinct}
@@ -75,7 +75,7 @@ text =
     ++ bytes " , \"max_connection_time\" : 25 , \"min_connection_time\" : 5 } ]"
     ++ bytes " , \"terminal_turnaround_constraints\" : [ ] , \"single_track_headway_constraints\" : [ ] } "
 
-pub its-text : spread (bytes " ") (pieces value) ≡ text
+pub its-text : spread (bytes " ") (pieces exampleEdition value) ≡ text
 its-text = refl
 
 -- its document: rows for legs, what a kind does not carry is 0, and the tracks with their subnet
@@ -121,4 +121,4 @@ lawful =
     }
 
 pub read : constraintsOf legs 4 2 plainRules text ≡ good (documentOf legs value)
-read = spread-read legs 4 2 value (bytes " ") lawful refl (omega arith)
+read = spread-read exampleEdition legs 4 2 value (bytes " ") lawful refl (omega arith)

@@ -6,6 +6,7 @@ use mathlib.Core.Logic.{_↔_}
 use native.Mathlib.Omega.{arith}
 use lib.ListN.{length}
 use Rattle.rules.specs.Answers.{Reading, refused, good, solutionFile}
+use Rattle.rules.specs.Kinds.{exampleEdition}
 use Rattle.rules.specs.Reading.{Rooms, Texts, Files, filesOf}
 use Rattle.rules.specs.Entries.{Tables, roomsOf, verdictOf, Whole, allRead, checkedFrom, checked}
 use Rattle.rules.specs.declared.answers.Refusal.{Refusal}
@@ -20,8 +21,8 @@ use Rattle.rules_json.proofs.Soundness.{reads-what-is-written}
 -- THE THEOREM: the texts are read as files exactly where they write them
 pub files-written : (H : ℕ) (x : Texts) (room : Rooms) (files : Files) → (filesOf H x room ≡ good files) ↔ WrittenFiles H x room files
 files-written H x room files = (
-  λ e. said-so ByAutomaton Writing (λ legs constraints tracks s d. reads-what-is-written legs constraints tracks s d .0) (files-good H x room files e),
-  λ g. good-files H x room files (said-so Writing ByAutomaton (λ legs constraints tracks s d. reads-what-is-written legs constraints tracks s d .1) g),
+  λ e. said-so ByAutomaton (Writing exampleEdition) (λ legs constraints tracks s d. reads-what-is-written exampleEdition legs constraints tracks s d .0) (files-good H x room files e),
+  λ g. good-files H x room files (said-so (Writing exampleEdition) ByAutomaton (λ legs constraints tracks s d. reads-what-is-written exampleEdition legs constraints tracks s d .1) g),
 )
 
 -- a reading that is good exactly where something holds is refused exactly where it holds of nothing

@@ -23,5 +23,6 @@ pub mod Left
 pub mod Rows
 pub mod Soundness
 pub mod OneValue
+pub mod Twins
 -- All texts together
 pub mod Files

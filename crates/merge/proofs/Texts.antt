@@ -55,10 +55,10 @@ module _ {counts : Counts} {second legs configurations choices secondChoices : L
   rows-many = ap (λ (c : Counts). c .legs) (k .left .counted)
 
   a-many : length (k .both .a) ≡ length (f .rows)
-  a-many = choices-many (k .H) (k .left .texts) (roomsOf (k .left .lent)) f (k .left .read) solutionFile (length (k .lent)) (k .first) (k .both .a) (k .both .a-read)
+  a-many = choices-many (k .left .stated) (k .left .texts) (roomsOf (k .left .lent)) f (k .left .read) solutionFile (length (k .lent)) (k .first) (k .both .a) (rw (k .left .at) (k .both .a-read))
 
   b-many : length (k .both .b) ≡ length (f .rows)
-  b-many = choices-many (k .H) (k .left .texts) (roomsOf (k .left .lent)) f (k .left .read) secondFile (length (k .lentSecond)) second (k .both .b) (k .both .b-read)
+  b-many = choices-many (k .left .stated) (k .left .texts) (roomsOf (k .left .lent)) f (k .left .read) secondFile (length (k .lentSecond)) second (k .both .b) (rw (k .left .at) (k .both .b-read))
 
   -- a solution that was read is no longer than a text may be
   pub second-short : length second ≤ mostText

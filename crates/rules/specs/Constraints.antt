@@ -12,7 +12,7 @@ use Rattle.rules.specs.Lists.{any, only, first, firstPlace, isSome}
 use Rattle.rules.specs.Answers.{refusal, tooLong, outOfRange, tooMany, alreadySeen, badJson, unknownName, repeatedOrMissing, notThere, noSubnet, noRoom, constraintsFile, Reading, refused, good, Test, _needs_}
 use Rattle.rules.specs.Bytes.{wholeOf}
 use Rattle.rules.specs.Timetable.{Row}
-use Rattle.rules.specs.Kinds.{listNamed, keyIn, typeNamed, exampleEdition, unknown, headway, singleTrack, dwell, turnaround, connection, subnets, firstLeg, secondLeg, minHeadway, minDwell, minTurnaround, minConnection, maxConnection, connectionType, subnetId, trackIds, noType, kindTable, noKind}
+use Rattle.rules.specs.Kinds.{listNamed, keyIn, typeNamed, unknown, headway, singleTrack, dwell, turnaround, connection, subnets, firstLeg, secondLeg, minHeadway, minDwell, minTurnaround, minConnection, maxConnection, connectionType, subnetId, trackIds, noType, kindTable, noKind}
 use Rattle.rules.specs.Tokens.{Token, tokensOf}
 use Rattle.rules.specs.declared.sizes.Constraint.{Constraint}
 use Rattle.rules.specs.declared.sizes.Track.{Track}
@@ -105,9 +105,6 @@ allLists = 63
 -- document 01 wants all six lists, in whatever edition
 abbrev pub rulesIn : (edition : ℕ) → Rules
 rulesIn edition = record { required = allLists; edition = edition }
-
-abbrev pub plainRules : Rules
-plainRules = rulesIn exampleEdition
 
 abbrev pub state : Rules → Phase → (list lists key keys : ℕ) → Constraint → State
 state r p list lists key keys entry =

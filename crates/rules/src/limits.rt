@@ -73,8 +73,8 @@ pub fn signed_fill_is_the_law() -> [i32; 1]
     [Fill::SIGNED]
 }
 
-// The seventeen numbers and the files.
-const NUMBERS: [u64; 23] = [
+// The numbers of refusals, and the files.
+const NUMBERS: [u64; 24] = [
     Refusal::HORIZON as u64,
     Refusal::TOO_LONG as u64,
     Refusal::HEADER as u64,
@@ -92,6 +92,7 @@ const NUMBERS: [u64; 23] = [
     Refusal::NO_SUBNET as u64,
     Refusal::ROOM as u64,
     Refusal::TRAVEL as u64,
+    Refusal::UNKNOWN_EDITION as u64,
     File::NONE as u64,
     File::TIMETABLE as u64,
     File::PROFILES as u64,
@@ -100,7 +101,7 @@ const NUMBERS: [u64; 23] = [
     File::SECOND_SOLUTION as u64,
 ];
 
-pub fn numbers_are_the_laws() -> [u64; 23]
+pub fn numbers_are_the_laws() -> [u64; 24]
     ensures { λ r. ⌜ r ≡ numbers ⌝ }
 {
     NUMBERS

@@ -23,6 +23,7 @@ pub mod Left
 pub mod Rows
 pub mod Soundness
 pub mod OneValue
-pub mod Twins
 -- All texts together
 pub mod Files
+-- A file in another edition
+pub mod Twins

@@ -33,7 +33,7 @@ module _ {H : ℕ} {counts : Counts} {legs : List ℕ} (k : Choosable H counts l
   pub choose-able : Able H legs (counts .legs)
   choose-able =
       record {
-        horizon = files-good H (k .left .texts) (roomsOf (k .left .lent)) (k .left .files) (k .left .read) .horizon .1;
+        horizon = rw (k .left .at) at (files-good (k .left .stated) (k .left .texts) (roomsOf (k .left .lent)) (k .left .files) (k .left .read) .horizon .1);
         whole = legs-records legs (counts .legs) (k .left .files .rows) (held .many) (held .front) .whole;
       }
 

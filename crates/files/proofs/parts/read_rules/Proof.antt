@@ -21,7 +21,7 @@ subnet-fault-requires c κs =
     let given = c .before .before .before .before .before .before .before .before .before .before .before .before .before .before .before .before .args in
     let asked = c .before .before .before .before .before .before .before .before .before .before .before .before .before .before .before .before .pre in
     let read-constraints = c .before .before .before .before .before .before .before .before .read-constraints in
-    fifteen-able (given .counts) _ _ _ _ _ _ _ (read-constraints .ensures) (c .before .before .records .given .1) asked
+    fifteen-able (given .stated) (given .counts) _ _ _ _ _ _ _ (read-constraints .ensures) (c .before .before .records .given .1) asked
 
 enum-known-row : tie.Need-enum-known-row
 enum-known-row c = search needs

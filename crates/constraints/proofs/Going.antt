@@ -153,6 +153,14 @@ pub record Few (seen : Counts) : Type 0 where
   pub subnets : seen .subnets ≤ mostSubnets
   pub ids : seen .ids ≤ mostSubnets
 
+-- ---- the rules of a walk are those of its first state
+
+pub began-by : {rules : Rules} {st : State} → st ≡ start rules → st .rules ≡ rules
+began-by e = ap (λ (s : State). s .rules) e
+
+pub started : {rules : Rules} {st : State} → st ≡ start rules → st ≡ start (st .rules)
+started e = e ∙ ap start (sym (began-by e))
+
 -- ---- between two tokens
 
 module _ (rules : Rules) (text legs : List ℕ) (n : ℕ) (c₀ t₀ s₀ : List ℕ) (sorts : Bool) where
@@ -425,18 +433,22 @@ module _ (rules : Rules) (text legs : List ℕ) (n : ℕ) (c₀ t₀ s₀ : List
                 ∙ ap (λ (w : List ℕ). over w t₀) (sym (flat-append trackNumbers (g .d .tracks) (one ∷ []))));
           })
 
-      -- ---- the last token
+      -- ---- the last token, by the rules that the walk began with
 
-      pub ends-good : (x : State) → r ≡ Finish x → Walks s₀ sorts (outcome rules text legs n c₀ t₀) c₀ t₀ (Good seen) next c t
-      unfolding Walks
-      ends-good x is =
-          let whole : outcome rules text legs n c₀ t₀ ≡ good (g .d) = left ∙ ap (λ (y : Step). onward Legs C T (turned y (g .d)) Rest) is in
-          subst (λ (o : Reading Document). Walks s₀ sorts o c₀ t₀ (Good seen) next c t) (sym whole)
-          (record { answer = ap Good (g .counted); places = g .places; table = g .table; tracks = g .tracks })
+      module _ {by : Rules} (same : rules ≡ by) where
+        ends-by : outcome by text legs n c₀ t₀ ≡ onward Legs C T (turned r (g .d)) Rest
+        ends-by = ap (λ (q : Rules). outcome q text legs n c₀ t₀) (sym same) ∙ left
 
-      pub ends-refused : (number place : ℕ) → r ≡ Fault number place → Walks s₀ sorts (outcome rules text legs n c₀ t₀) c₀ t₀ (Refused number place) next c t
-      unfolding Walks
-      ends-refused number place is =
-          let whole : outcome rules text legs n c₀ t₀ ≡ refused (refusal number constraintsFile place) =
-          left ∙ ap (λ (y : Step). onward Legs C T (turned y (g .d)) Rest) is in
-          subst (λ (o : Reading Document). Walks s₀ sorts o c₀ t₀ (Refused number place) next c t) (sym whole) refl
+        pub ends-good : (x : State) → r ≡ Finish x → Walks s₀ sorts (outcome by text legs n c₀ t₀) c₀ t₀ (Good seen) next c t
+        unfolding Walks
+        ends-good x is =
+            let whole : outcome by text legs n c₀ t₀ ≡ good (g .d) = ends-by ∙ ap (λ (y : Step). onward Legs C T (turned y (g .d)) Rest) is in
+            subst (λ (o : Reading Document). Walks s₀ sorts o c₀ t₀ (Good seen) next c t) (sym whole)
+            (record { answer = ap Good (g .counted); places = g .places; table = g .table; tracks = g .tracks })
+
+        pub ends-refused : (number place : ℕ) → r ≡ Fault number place → Walks s₀ sorts (outcome by text legs n c₀ t₀) c₀ t₀ (Refused number place) next c t
+        unfolding Walks
+        ends-refused number place is =
+            let whole : outcome by text legs n c₀ t₀ ≡ refused (refusal number constraintsFile place) =
+            ends-by ∙ ap (λ (y : Step). onward Legs C T (turned y (g .d)) Rest) is in
+            subst (λ (o : Reading Document). Walks s₀ sorts o c₀ t₀ (Refused number place) next c t) (sym whole) refl

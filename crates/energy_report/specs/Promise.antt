@@ -17,7 +17,7 @@ use Rattle.rules.specs.declared.outcomes.Report.{Report}
 abbrev pub noReport : Answer → Report
 noReport a = record { answer = a; figures = noFigures; desk = deskOf noFigures }
 
--- H, the texts and the solution; the tables t, the choices c and the curves p as they were lent; and as they are left
+-- what is stated, the texts and the solution; the tables t, the choices c and the curves p as they were lent; and as they are left
 pub record ReportRead (S : Stated) (x : Texts) (solution : List ℕ) (t : Tables) (c : List ℕ) (p : List ℤ) (r : Report) (t′ : Tables) (c′ : List ℕ) (p′ : List ℤ) : Type 0 where
   pub answers : r .answer ≡ reported S x solution t c p .answer
   pub figures-are : r .figures ≡ reported S x solution t c p .figures

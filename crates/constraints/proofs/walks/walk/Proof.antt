@@ -1,6 +1,6 @@
 -- `constraints::walks::walk` meets its contract: between two tokens what is left of the run gives the whole run's outcome. Assumes nothing.
 use Prim.Native.Nat.{_-_}
-use Rattle.constraints.proofs.Going.{Going, able-at, ends-good, ends-refused, few, going-emit, going-listed, going-named, going-on, going-opened, going-start, id-room, nearer, next-long, next-low, ready, stepGoes, table-long, track-open, tracks-long}
+use Rattle.constraints.proofs.Going.{Going, able-at, ends-good, ends-refused, few, going-emit, going-listed, going-named, going-on, going-opened, going-start, started, began-by, id-room, nearer, next-long, next-low, ready, stepGoes, table-long, track-open, tracks-long}
 use borrow.Author.Needs.{needs}
 use lib.ListN.{length}
 use mathlib.Core.Path.{ap}
@@ -9,11 +9,11 @@ use Rattle.constraints.proofs.walks.walk.Statement.{statement}
 use Rattle.constraints.proofs.walks.walk.Tie as tie
 
 abbrev Inv-loop : tie.InvT-loop
-Inv-loop rules text legs n constraints₀ tracks₀ next₀ sorts room seen₀ ids₀ st₀ at₀ constraints tracks next seen ids st at =
-    Going rules text legs n constraints₀ tracks₀ next₀ sorts at st seen ids next constraints tracks
+Inv-loop text legs n constraints₀ tracks₀ next₀ sorts room seen₀ ids₀ st₀ at₀ constraints tracks next seen ids st at =
+    Going (st₀ .rules) text legs n constraints₀ tracks₀ next₀ sorts at st seen ids next constraints tracks
 
 abbrev μ-loop : tie.MeasureT-loop
-μ-loop rules text legs n constraints₀ tracks₀ next₀ sorts room seen₀ ids₀ st₀ at₀ constraints tracks next seen ids st at =
+μ-loop text legs n constraints₀ tracks₀ next₀ sorts room seen₀ ids₀ st₀ at₀ constraints tracks next seen ids st at =
     length text - at
 
 of-requires : tie.Need-of-requires Inv-loop μ-loop
@@ -26,7 +26,7 @@ starting-requires : tie.Need-starting-requires Inv-loop μ-loop
 starting-requires c κs = search needs
 
 loop-holds : tie.Need-loop-holds Inv-loop μ-loop
-loop-holds c = going-start _ _ _ _ _ _ _ _ _ _ (c .starting .ensures) (c .before .none .ensures)
+loop-holds c = going-start _ _ _ _ _ _ _ _ _ _ (started (c .starting .ensures)) (c .before .none .ensures)
 
 token-at-requires : tie.Need-token-at-requires Inv-loop μ-loop
 token-at-requires c κs = able-at _ _ _ _ _ _ _ _ (c .loop .inv) ((c .before .before .before .before .before .before .before .before .before) .pre)
@@ -187,7 +187,8 @@ returns c =
     let room = c .before .before .before .before .before .before .before .before .before .before .of in
     let loop = c .before .before .before .before .before .before .before .loop in
     let token-at = c .before .before .before .before .before .before .token-at in
-    ends-good _ _ _ _ _ _ _ _ (loop .inv) _ (token-at .ensures) _ _ _ (room .ensures .0) (room .ensures .1) (c .before .before .before .turn .ensures) _ (c .enum-told .given .1)
+    let starting = c .before .before .before .before .before .before .before .before .starting in
+    ends-good _ _ _ _ _ _ _ _ (loop .inv) _ (token-at .ensures) _ _ _ (room .ensures .0) (room .ensures .1) (c .before .before .before .turn .ensures) (began-by (starting .ensures)) _ (c .enum-told .given .1)
 
 enum-known-step-6 : tie.Need-enum-known-step-6 Inv-loop μ-loop
 enum-known-step-6 c = search needs
@@ -207,7 +208,8 @@ returns-2 c =
     let loop = c .before .before .before .before .before .before .before .before .loop in
     let token-at = c .before .before .before .before .before .before .before .token-at in
     let turn = c .before .before .before .before .turn in
-    ends-refused _ _ _ _ _ _ _ _ (loop .inv) _ (token-at .ensures) _ _ _ (room .ensures .0) (room .ensures .1) (turn .ensures) _ _ (c .before .step6 .given .1)
+    let starting = c .before .before .before .before .before .before .before .before .before .starting in
+    ends-refused _ _ _ _ _ _ _ _ (loop .inv) _ (token-at .ensures) _ _ _ (room .ensures .0) (room .ensures .1) (turn .ensures) (began-by (starting .ensures)) _ _ (c .before .step6 .given .1)
 
 pub walk-spec : {M : Type 1} → statement M
 walk-spec =

@@ -13,6 +13,7 @@ use Rattle.rules.specs.Constraints.{Document, constraintsOf, subnetFault, track
 use Rattle.rules.specs.Stated.{rulesBy}
 use Rattle.rules.specs.Reading.{legIds}
 use Rattle.rules.specs.declared.stated.Stated.{Stated}
+use Rattle.rules.specs.declared.tokens.Rules.{Rules}
 use Rattle.rules.specs.declared.answers.Refusal.{Refusal}
 use Rattle.rules_theorems.proofs.FileRefusals.{Refuses, refuses, constraints-refuse}
 use Rattle.tables_ids.specs.declared.Found.{Found}
@@ -40,14 +41,14 @@ own-file (good d) q number place e = let z : _≡_ {A = ℕ} 0 1 = cc in absurd 
 pub rules-able : {timetable legs : List ℕ} {n : ℕ} → Drafted timetable legs n → Records legWidth n legs × (n ≤ mostLegs)
 rules-able {legs = legs} {n = n} d = (legs-records legs n (d .rows) (d .draft .many) (d .draft .legs-hold), d .draft .few)
 
-module _ (S : Stated) (counts : Counts) (timetable text legs constraints tracks constraints′ tracks′ : List ℕ)
-    {answer : Read} (read : Reads (reading (rulesBy S) text legs (counts .legs) constraints tracks) constraints tracks answer constraints′ tracks′) where
+module _ (S : Stated) {rules : Rules} (by : rules ≡ rulesBy S) (counts : Counts) (timetable text legs constraints tracks constraints′ tracks′ : List ℕ)
+    {answer : Read} (read : Reads (reading rules text legs (counts .legs) constraints tracks) constraints tracks answer constraints′ tracks′) where
   abbrev outcome : Reading Document
-  outcome = reading (rulesBy S) text legs (counts .legs) constraints tracks
+  outcome = reading rules text legs (counts .legs) constraints tracks
 
   by-rows : (rows : List Row) → Draft timetable legs (counts .legs) rows
       → constraintsOf (legIds rows) (length constraints / constraintWidth) (length tracks / trackWidth) (rulesBy S) text ≡ outcome
-  by-rows rows draft = rw (legs-ids legs (counts .legs) rows (draft .many) (draft .legs-hold))
+  by-rows rows draft = rw (by, legs-ids legs (counts .legs) rows (draft .many) (draft .legs-hold))
 
   pub rules-refused : {number place : ℕ} {r : Refusal} → answer ≡ NotRead number place → r ≡ refusal number constraintsFile place
       → RulesRead S counts timetable text legs constraints tracks (Refused r) constraints′ tracks′
@@ -56,7 +57,7 @@ module _ (S : Stated) (counts : Counts) (timetable text legs constraints tracks 
       part-refused r
       (rw (
         by-rows rows draft,
-        own-file outcome (constraints-refuse _ _ _ (record { atStart = λ n h. refl; atPlace = λ n p h. refl }) (rulesBy S) text) number place (sym a ∙ read .answer),
+        own-file outcome (constraints-refuse _ _ _ (record { atStart = λ n h. refl; atPlace = λ n p h. refl }) rules text) number place (sym a ∙ read .answer),
       )
       (ap refused (sym e)))
 

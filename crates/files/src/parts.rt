@@ -22,23 +22,28 @@ pub fn read_draft(
 ) -> Filed
     ensures { λ r. ⌜ DraftRead stated (now (timetable .entry)) (now (legs .entry)) (now (configurations .entry)) r (now (legs .exit)) (now (configurations .exit)) ⌝ }
 {
-    let tested = stated.test();
-    if let Known::Refused(refusal) = tested {
-        return Filed::Refused(refusal);
-    }
-    match timetable::reader::read_timetable(timetable, stated.horizon, legs, configurations) {
-        timetable::reader::Rows::Fault(number, place) => {
-            Filed::Refused(Refusal::new(number, File::TIMETABLE, place))
-        }
-        timetable::reader::Rows::Read(rows, listed) => Filed::Whole(Counts {
-            legs: rows as usize,
-            configurations: listed as usize,
-            profiles: 0,
-            samples: 0,
-            constraints: 0,
-            tracks: 0,
-            subnets: 0,
-        }),
+    let h = stated.horizon;
+    match stated.test() {
+        Known::Refused(refusal) => Filed::Refused(refusal),
+        Known::Whole => match timetable::reader::read_timetable(
+            timetable,
+            h,
+            legs,
+            configurations,
+        ) {
+            timetable::reader::Rows::Fault(number, place) => {
+                Filed::Refused(Refusal::new(number, File::TIMETABLE, place))
+            }
+            timetable::reader::Rows::Read(rows, listed) => Filed::Whole(Counts {
+                legs: rows as usize,
+                configurations: listed as usize,
+                profiles: 0,
+                samples: 0,
+                constraints: 0,
+                tracks: 0,
+                subnets: 0,
+            }),
+        },
     }
 }
 

@@ -4,6 +4,7 @@
 mod damage;
 pub mod draw;
 pub mod edges;
+pub mod editions;
 pub mod examples;
 mod plan;
 pub mod quotes;
@@ -12,8 +13,9 @@ mod rows;
 pub mod spelling;
 mod sweep;
 pub mod target;
+pub mod twin;
 
-pub use plan::Scale;
+pub use plan::{Scale, LIST_NAMES};
 
 use independent::{Call, Entry};
 use random::Random;

@@ -205,7 +205,7 @@ fn a_folder_of_instances() {
     for (name, text) in files {
         std::fs::write(instance.join(name), text).unwrap();
     }
-    let told = folder::compare(&folder, 100, &right()).unwrap();
+    let told = folder::compare(&folder, call.case.stated(), &right()).unwrap();
     assert_eq!(told.matches("the same").count(), 12, "{told}");
     assert!(told.contains("later.csv, energy: accepted 2050 2050 600"), "{told}");
     assert!(told.contains("two-columns.csv, check: refused 3 4 0"), "{told}");

@@ -40,7 +40,8 @@ impl Checker {
         // The answer does not say how many subnets there are, and the curve table keeps its contents past the last curve: a curve that is written
         // starts with a power.
         self.room.curves.iter_mut().step_by(stated.horizon.max(1) as usize).for_each(|first| *first = NO_POWER);
-        let said = answers::reported(exports::energy(stated, files.timetable, files.profiles, files.constraints, solution, &mut self.room))?;
+        let said =
+            answers::reported(exports::energy(stated, files.timetable, files.profiles, files.constraints, solution, &mut self.room))?;
         Ok(said.map(|figures| Energies { figures, curves: curves(&self.room.curves, stated.horizon) }))
     }
 

@@ -3,9 +3,7 @@
 mod common;
 
 use common::{constraints, draft, dwell, solution, turnaround, H, PROFILES};
-use wagontulip::{
-    row_at, Answer, Checker, Edition, Energies, File, Files, Kind, NoRoom, Reason, Refusal, Rooms, Stated, Table, Violation,
-};
+use wagontulip::{row_at, Answer, Checker, Edition, Energies, File, Files, Kind, NoRoom, Reason, Refusal, Rooms, Stated, Table, Violation};
 
 const STATED: Stated = Stated { horizon: H, edition: Edition::EXAMPLE };
 

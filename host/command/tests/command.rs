@@ -148,8 +148,7 @@ answer: violated
 ";
     assert_eq!(folder.told("check --horizon 100 t p c a", 1), format!("{LABEL}{words}"));
     let object = folder.told("check --json --horizon 100 t p c a", 1);
-    let start =
-        r#"{"label": "no violation shown is not no violation", "schema": 2, "command": "check", "answer": "violated", "horizon": 100, "edition": 2, "#;
+    let start = r#"{"label": "no violation shown is not no violation", "schema": 2, "command": "check", "answer": "violated", "horizon": 100, "edition": 2, "#;
     assert!(object.starts_with(start), "{object}");
 }
 
@@ -492,7 +491,9 @@ fn an_edition_may_be_stated() {
     }
     folder.told("energy --horizon 100 --edition 1 t p 1 a", 0);
     folder.told("merge --horizon 100 --edition 1 t p 1 a b --earlier earlier --later later", 0);
-    for (words, key) in [("--edition 2 t p 1 a", "min_dwell_time"), ("t p 1 a", "min_dwell_time"), ("--edition 1 t p 2 a", "min_turnaround_time")] {
+    for (words, key) in
+        [("--edition 2 t p 1 a", "min_dwell_time"), ("t p 1 a", "min_dwell_time"), ("--edition 1 t p 2 a", "min_turnaround_time")]
+    {
         let said = folder.told(&format!("check --horizon 100 {words}"), 2);
         let lines: Vec<&str> = said.lines().collect();
         assert_eq!(lines[1], "refused 10: unknown list, key or connection type");

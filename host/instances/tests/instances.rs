@@ -67,12 +67,16 @@ fn exported_solutions_are_accepted() {
 /// The other edition has another key for turnarounds and says the same; under the edition of the other it is not read.
 #[test]
 fn each_edition_is_accepted_as_itself() {
-    let texts = [Edition::Table, Edition::Example].map(|edition| Texts::of(&Plan::new(Shape::of(Style::Underground, 40).in_edition(edition))));
+    let texts =
+        [Edition::Table, Edition::Example].map(|edition| Texts::of(&Plan::new(Shape::of(Style::Underground, 40).in_edition(edition))));
     for (one, other) in [(&texts[0], &texts[1]), (&texts[1], &texts[0])] {
         assert_eq!(one.check(&one.constraints, &one.timetable), Answer::Accepted);
         assert!(matches!(one.check(&other.constraints, &one.timetable), Answer::Refused { number: 10, file: 3, .. }));
     }
-    assert_eq!(texts[0].constraints.replace("min_dwell_time", ""), texts[1].constraints.replace("min_turnaround_time", "").replace("min_dwell_time", ""));
+    assert_eq!(
+        texts[0].constraints.replace("min_dwell_time", ""),
+        texts[1].constraints.replace("min_turnaround_time", "").replace("min_dwell_time", "")
+    );
 }
 
 #[test]
@@ -95,7 +99,8 @@ fn moved_solutions_can_be_merged() {
         let texts = Texts::of(&plan);
         let [first, second] = [1, 2].map(|seed| plan.solution(&plan.choose(Choices::Moved(seed))));
         let (timetable, profiles, constraints) = (texts.timetable.as_bytes(), texts.profiles.as_bytes(), texts.constraints.as_bytes());
-        let merged = merge(Direction::Earlier, texts.stated, timetable, profiles, constraints, first.as_bytes(), second.as_bytes(), &ample());
+        let merged =
+            merge(Direction::Earlier, texts.stated, timetable, profiles, constraints, first.as_bytes(), second.as_bytes(), &ample());
         assert_eq!(merged.answer, Answer::Accepted, "{shape:?}");
     }
 }

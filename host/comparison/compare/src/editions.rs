@@ -51,7 +51,8 @@ pub enum Cell {
 
 /// The cells that an entry which judges can reach, with their names.
 pub fn cells() -> Vec<(Cell, String)> {
-    let known = MET.into_iter().flat_map(|(met, name)| KNOWN.map(|edition| (Cell::Known(met, edition), format!("edition {edition}: {name}"))));
+    let known =
+        MET.into_iter().flat_map(|(met, name)| KNOWN.map(|edition| (Cell::Known(met, edition), format!("edition {edition}: {name}"))));
     known.chain(UNKNOWN.map(|edition| (Cell::Unknown(edition), format!("21 for edition {edition}")))).collect()
 }
 

@@ -167,7 +167,8 @@ fn a_program_without_the_label_is_none() {
 fn a_command_that_says_nothing_differs() {
     let plan = Plan { whole: false, ..plan(40, "silent") };
     let outcome = compare(&Command { words: vec![String::from("true")] }, &plan).unwrap();
-    assert_eq!((outcome.calls, outcome.differences.len()), (40, 40));
+    assert!(outcome.calls > 40, "{}", outcome.calls);
+    assert_eq!(outcome.differences.len(), outcome.calls);
     std::fs::remove_dir_all(&plan.folder).unwrap();
 }
 

@@ -4,8 +4,7 @@ use super::Verb;
 
 const CHECK: &str = "wagontulip check  --horizon H [--edition N] TIMETABLE PROFILES CONSTRAINTS SOLUTION\n";
 const ENERGY: &str = "wagontulip energy --horizon H [--edition N] TIMETABLE PROFILES CONSTRAINTS SOLUTION [--curves OUT]\n";
-const MERGE: &str =
-    "wagontulip merge  --horizon H [--edition N] TIMETABLE PROFILES CONSTRAINTS FIRST SECOND --earlier OUT --later OUT\n";
+const MERGE: &str = "wagontulip merge  --horizon H [--edition N] TIMETABLE PROFILES CONSTRAINTS FIRST SECOND --earlier OUT --later OUT\n";
 const ROW: &str = "\
 wagontulip row    --place P FILE
 wagontulip row    --file N --place P TIMETABLE SOLUTION

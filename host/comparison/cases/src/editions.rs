@@ -11,12 +11,12 @@ pub const EDITIONS: [u32; 5] = [0, 1, 2, 3, 4_294_967_295];
 const ENTRIES: [Entry; 4] = [Entry::Check, Entry::Energy, Entry::MergeEarlier, Entry::MergeLater];
 
 pub fn calls() -> Vec<Named> {
-    let mut calls = Vec::new();
-    for entry in ENTRIES {
-        calls.extend(stated(entry));
-        calls.extend(keyed(entry));
-    }
-    calls
+    ENTRIES.into_iter().flat_map(calls_of).collect()
+}
+
+/// Those of one entry.
+pub fn calls_of(entry: Entry) -> Vec<Named> {
+    [stated(entry), keyed(entry)].concat()
 }
 
 /// Every edition over the files of each of the two, with a horizon that is out of range, and over no texts.
@@ -62,8 +62,7 @@ mod tests {
     /// Of a check's calls: read, 10, 11, 1 and 21.
     #[test]
     fn edges_lie_on_both_sides() {
-        let answers: Vec<Answer> =
-            calls().into_iter().filter(|named| named.call.entry == Entry::Check).map(|named| named.call.case.check().answer).collect();
+        let answers: Vec<Answer> = calls_of(Entry::Check).into_iter().map(|named| named.call.case.check().answer).collect();
         let count = |numbers: &[i64]| answers.iter().filter(|answer| answer.numbers().starts_with(numbers)).count();
         let read = count(&[0]) + count(&[1]);
         let (unknown, missing, horizon, edition) = (count(&[2, 10]), count(&[2, 11]), count(&[2, 1, 0]), count(&[2, 21, 0]));

@@ -79,7 +79,7 @@ fn drawn(seed: u64, number: usize) -> Call {
         9 => Entry::MergeEarlier,
         4 => Entry::Energy,
         2 | 7 => return random.pick(&quotes::calls()).call.clone(),
-        5 => return random.pick(&editions::calls()).call.clone(),
+        5 => return random.pick(&editions::calls_of(Entry::Check)).call.clone(),
         _ => Entry::Check,
     };
     let targets = targets(entry);

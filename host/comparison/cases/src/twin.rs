@@ -38,7 +38,8 @@ fn renamed(text: &[u8], from: &[u8], to: &[u8]) -> Vec<u8> {
         if let Some(list) = LIST_NAMES.iter().find(|list| list.as_bytes() == piece) {
             is_turnarounds = *list == TURNAROUNDS;
         }
-        if is_turnarounds && piece == from { to } else { piece }.to_vec()
+        let is_key = is_turnarounds && piece == from;
+        Vec::from(if is_key { to } else { piece })
     };
     text.split(|byte| *byte == QUOTE).map(piece).collect::<Vec<Vec<u8>>>().join(&QUOTE)
 }

@@ -86,7 +86,7 @@ pub fn fixed(entries: &[Entry]) -> Vec<Named> {
 
 /// The calls, and the twins of those that have one.
 fn compare_batch(executor: &dyn Executor, batch: &[Named], plan: &Plan, outcome: &Mutex<Outcome>) -> Result<(), String> {
-    let (calls, twins): (Vec<&Named>, Vec<Named>) = batch.iter().filter_map(|named| Some((named, twin::named(named)?))).unzip();
+    let (calls, twins) = twinned(batch);
     let mut coverage = Coverage::default();
     let mut differences = unlike(&calls, &twins, &mut coverage);
     for calls in [batch, &twins] {
@@ -100,6 +100,11 @@ fn compare_batch(executor: &dyn Executor, batch: &[Named], plan: &Plan, outcome:
         outcome.differences.push(in_words(&difference, plan, number)?);
     }
     Ok(())
+}
+
+/// The calls that have a twin, and their twins.
+fn twinned(batch: &[Named]) -> (Vec<&Named>, Vec<Named>) {
+    batch.iter().filter_map(|named| Some((named, twin::named(named)?))).unzip()
 }
 
 /// The twins whose lines are not those of their calls, by the independent program itself. So where no line differs from an expected one, twins are alike.
@@ -167,4 +172,24 @@ pub fn told(executor: &dyn Executor, plan: &Plan) -> Result<String, String> {
         return Err(format!("{told}\nno call met: {}", empty.join("; ")));
     }
     Ok(format!("{told}, no difference, no empty cell\n"))
+}
+
+#[cfg(test)]
+mod tests {
+    use super::*;
+    use independent::Case;
+
+    /// A twin has the line of its call; what is none, as where a key is not renamed, has another.
+    #[test]
+    fn a_call_that_is_no_twin_is_found() {
+        let calls = cases::editions::calls_of(Entry::Energy);
+        let (calls, twins) = twinned(&calls);
+        assert_eq!((calls.len(), unlike(&calls, &twins, &mut Coverage::default()).len()), (6, 0));
+        let unnamed = |(named, twin): (&&Named, &Named)| {
+            let case = Case { edition: twin.call.case.edition, ..named.call.case.clone() };
+            Named { name: twin.name.clone(), call: Call::of(Entry::Energy, case) }
+        };
+        let unnamed: Vec<Named> = calls.iter().zip(&twins).map(unnamed).collect();
+        assert_eq!(unlike(&calls, &unnamed, &mut Coverage::default()).len(), 4);
+    }
 }

@@ -5,10 +5,10 @@ use compare::command::Command;
 use compare::comparison::{compare, Plan};
 use compare::coverage::ROOMS;
 use compare::executor::{Executor, Nobody, Replay};
-use compare::expected::answer;
+use compare::expected::{answer, line};
 use compare::lines::{self, BEFORE, LABEL};
 use compare::{folder, input};
-use independent::{Answer, Call, Direction, Entry, Lent};
+use independent::{Answer, Call, Case, Direction, Entry, Lent};
 use std::path::PathBuf;
 
 /// The independent program in replay's place.
@@ -127,6 +127,18 @@ fn a_program_that_leaves_the_last_room_alone_differs() {
         format!("{} {last}", kept[1])
     };
     assert!(differing(&Wrong(leaving), "leaving") > 50);
+}
+
+/// A library that reads every file by one edition, and one that tests the edition before H.
+#[test]
+fn an_edition_that_is_not_looked_at_rightly_is_found() {
+    let by_one = |call: &Call, _: String| line(&Call { case: Case { edition: 2, ..call.case.clone() }, ..call.clone() }).1;
+    assert!(differing(&Wrong(by_one), "by-one") > 50);
+    let before = |call: &Call, line: String| match call.case.edition {
+        1 | 2 => line,
+        _ => line.replace("refused 1 0 0", "refused 21 0 0"),
+    };
+    assert!(differing(&Wrong(before), "before") > 5);
 }
 
 #[test]

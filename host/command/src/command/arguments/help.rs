@@ -29,7 +29,8 @@ Shows the row that starts at a place, as a refusal tells one: of any CSV file, o
 
 const STATED: &str = "
   --horizon H     seconds of the horizon
-  --edition N     of CONSTRAINTS: 1 where its turnarounds have the key min_dwell_time, 2 where they have min_turnaround_time; 2 where it is not given
+  --edition N     of CONSTRAINTS: 1 where its turnarounds have min_dwell_time, 2 where they have min_turnaround_time; where no
+                  edition is given, 2 is stated
 ";
 const CURVES: &str = "  --curves OUT    write the power of every second: one line a second, the subnets' kW in order
 ";

@@ -14,5 +14,5 @@ mod text;
 
 pub use aim::{Aim, Violated};
 pub use plan::{Choices, Leg, Offer, Plan, Record};
-pub use shape::{Ids, Shape, Style};
+pub use shape::{Edition, Ids, Shape, Style};
 pub use text::exported;

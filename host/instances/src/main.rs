@@ -1,14 +1,14 @@
 //! Writes an instance to a folder, with solutions and with one variant for each violation, and prints the answers to expect.
 
-use instances::{exported, Aim, Choices, Ids, Plan, Shape, Style};
+use instances::{exported, Aim, Choices, Edition, Ids, Plan, Shape, Style};
 use std::fs;
 use std::path::Path;
 use std::process::ExitCode;
 
 const USAGE: &str = "\
-instances FOLDER [--style underground|railway] [--legs N] [--seed S] [--shuffled] [--exported]
+instances FOLDER [--style underground|railway] [--legs N] [--seed S] [--edition 1|2] [--shuffled] [--exported]
 
-Without --legs, the largest instance of the style. With --exported, CSV files as a spreadsheet exports them: every field in quotes, CR LF at every line.
+Without --legs, the largest instance of the style; without --edition, 2, in which a turnaround has min_turnaround_time. With --exported, CSV files as a spreadsheet exports them: every field in quotes, CR LF at every line.
 ";
 
 fn main() -> ExitCode {
@@ -36,12 +36,14 @@ struct Asked<'a> {
 fn asked(words: &[String]) -> Option<Asked<'_>> {
     let (folder, options) = words.split_first()?;
     let (mut style, mut legs, mut seed, mut ids, mut exported) = (Style::Underground, None, 1, Ids::InOrder, false);
+    let mut edition = Edition::Example;
     let mut options = options.iter();
     while let Some(option) = options.next() {
         match option.as_str() {
             "--style" => style = self::style(options.next()?)?,
             "--legs" => legs = Some(options.next()?.parse().ok().filter(|legs| *legs > 1)?),
             "--seed" => seed = options.next()?.parse().ok()?,
+            "--edition" => edition = self::edition(options.next()?)?,
             "--shuffled" => ids = Ids::Shuffled,
             "--exported" => exported = true,
             _ => return None,
@@ -52,7 +54,7 @@ fn asked(words: &[String]) -> Option<Asked<'_>> {
         (None, Style::Underground) => Shape::largest_underground(),
         (None, Style::Railway) => Shape::largest_railway(),
     };
-    Some(Asked { folder: Path::new(folder), shape: shape.seeded(seed).with_ids(ids), exported })
+    Some(Asked { folder: Path::new(folder), shape: shape.seeded(seed).with_ids(ids).in_edition(edition), exported })
 }
 
 fn style(name: &str) -> Option<Style> {
@@ -61,6 +63,10 @@ fn style(name: &str) -> Option<Style> {
         "railway" => Some(Style::Railway),
         _ => None,
     }
+}
+
+fn edition(number: &str) -> Option<Edition> {
+    [Edition::Table, Edition::Example].into_iter().find(|edition| edition.number().to_string() == number)
 }
 
 fn write(asked: &Asked) -> Result<String, String> {
@@ -72,7 +78,7 @@ fn write(asked: &Asked) -> Result<String, String> {
     put_csv("timetable.csv", &plan.timetable())?;
     put_csv("profiles.csv", &plan.profiles_text())?;
     put("constraints.json", &plan.constraints())?;
-    let mut expected = format!("horizon {}\n", plan.horizon());
+    let mut expected = format!("horizon {}\nedition {}\n", plan.horizon(), shape.edition.number());
     for (name, choices) in
         [("moved", Choices::Moved(shape.seed)), ("also-moved", Choices::Moved(shape.seed + 1)), ("faster", Choices::Faster(shape.seed))]
     {

@@ -4,6 +4,7 @@
 mod damage;
 pub mod draw;
 pub mod edges;
+pub mod editions;
 pub mod examples;
 mod plan;
 pub mod quotes;
@@ -12,8 +13,9 @@ mod rows;
 pub mod spelling;
 mod sweep;
 pub mod target;
+pub mod twin;
 
-pub use plan::Scale;
+pub use plan::{Scale, LIST_NAMES};
 
 use independent::{Call, Entry};
 use random::Random;
@@ -176,7 +178,7 @@ mod tests {
     #[test]
     fn seeded_peaks_lie_in_later_quarters_and_some_quarters_are_equal() {
         let (mut later, mut equal) = (0, 0);
-        for case in cases(16, 3_000).iter().filter(|case| (1_800..=2_700).contains(&case.h)) {
+        for case in cases(20, 3_000).iter().filter(|case| (1_800..=2_700).contains(&case.h)) {
             let report = case.energy();
             let curves = report.curves.unwrap_or_default();
             let drawn = |second: usize| -> i64 { curves.iter().skip(second).step_by(case.h as usize).map(|p| i64::from(*p).max(0)).sum() };

@@ -1,6 +1,6 @@
 -- The examples of document 01 ("Examples to hold the definitions to"). The marked ones stand in one table with one statement, from texts to answers, and the checker
 -- computes them; then come the unmarked ones, and one for each error that document 01 says tempts.
-use Prim.Native.Nat.{ℕ}
+use Prim.Native.Nat.{ℕ, _-_, _^_}
 use Prim.Native.String.{String}
 use mathlib.Core.Path.{_≡_, refl}
 use mathlib.Core.Bool.{Bool, true, false}
@@ -331,7 +331,7 @@ editions =
     -- any other edition is 21, after 1 and before every text
     ∷ states (stated 100 0) [] [] (Refused (refusal unknownEdition noFile 0))
     ∷ states (stated 100 3) [] [] (Refused (refusal unknownEdition noFile 0))
-    ∷ states (stated 100 4_294_967_295) [] [] (Refused (refusal unknownEdition noFile 0))
+    ∷ states (stated 100 (2 ^ 32 - 1)) [] [] (Refused (refusal unknownEdition noFile 0))
     ∷ states (stated 0 3) [] [] (Refused (refusal badHorizon noFile 0))
     ∷ []
 

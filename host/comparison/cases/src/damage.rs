@@ -44,7 +44,7 @@ pub fn draw(random: &mut Random, target: Target, merging: bool) -> Damage {
 }
 
 /// Every damage.
-const ANY: [Damage; 47] = [
+const ANY: [Damage; 48] = [
     P(unknown_profile),
     P(sample_count_changed),
     P(leg_id_repeated),
@@ -64,6 +64,7 @@ const ANY: [Damage; 47] = [
     P(key_dropped),
     P(key_repeated),
     P(key_renamed),
+    P(key_of_the_other_edition),
     P(value_changed),
     P(connection_type_changed),
     P(subnets_added),
@@ -156,7 +157,14 @@ fn likely_refused(number: u32, file: u32) -> Vec<Damage> {
             T(string_spoiled),
             P(value_changed),
         ],
-        10 => vec![P(list_renamed), P(key_renamed), P(connection_type_changed), T(edition_changed), T(byte_replaced)],
+        10 => vec![
+            P(list_renamed),
+            P(key_renamed),
+            P(key_of_the_other_edition),
+            P(connection_type_changed),
+            T(edition_changed),
+            T(byte_replaced),
+        ],
         11 => vec![P(list_dropped), P(list_repeated), P(key_dropped), P(key_repeated)],
         12 => vec![P(unknown_profile), P(leg_id_unknown), P(value_changed)],
         13 => vec![P(sample_count_changed), P(csv_number_changed)],

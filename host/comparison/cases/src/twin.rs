@@ -24,22 +24,26 @@ pub fn named(named: &Named) -> Option<Named> {
 
 /// The case in the other edition of the two.
 pub fn exchanged(mut case: Case) -> Case {
-    let [table, example] = KEYS;
-    let ((_, from), (edition, to)) = if case.edition == table.0 as u32 { (table, example) } else { (example, table) };
-    case.texts[CONSTRAINTS] = renamed(&case.texts[CONSTRAINTS], from.as_bytes(), to.as_bytes());
-    case.edition = edition as u32;
+    let [(table, _), (example, _)] = KEYS.map(|(edition, key)| (edition as u32, key));
+    case.texts[CONSTRAINTS] = renamed(&case.texts[CONSTRAINTS]);
+    case.edition = if case.edition == table { example } else { table };
     case
 }
 
-/// The key's name in the list of kind 4, which goes up to the name of another list. In a text that reads, every second piece between quotes is a string.
-fn renamed(text: &[u8], from: &[u8], to: &[u8]) -> Vec<u8> {
+/// The two names change places in the list of kind 4, which goes up to the name of another list. In a text that reads, every second piece between quotes is a
+/// string, and one of the names alone is there.
+fn renamed(text: &[u8]) -> Vec<u8> {
+    let [dwell, turnaround] = KEYS.map(|(_, key)| key.as_bytes());
     let mut is_turnarounds = false;
     let piece = |piece: &'_ [u8]| {
         if let Some(list) = LIST_NAMES.iter().find(|list| list.as_bytes() == piece) {
             is_turnarounds = *list == TURNAROUNDS;
         }
-        let is_key = is_turnarounds && piece == from;
-        Vec::from(if is_key { to } else { piece })
+        Vec::from(match piece {
+            name if is_turnarounds && name == dwell => turnaround,
+            name if is_turnarounds && name == turnaround => dwell,
+            other => other,
+        })
     };
     text.split(|byte| *byte == QUOTE).map(piece).collect::<Vec<Vec<u8>>>().join(&QUOTE)
 }

@@ -5,10 +5,11 @@
 //! `definitions SEED COUNT DIR` writes `DIR/Lib.antt` and a module for each ten cases.
 
 use cases::draw::for_target;
+use cases::quotes;
 use cases::random::Random;
 use cases::spelling::CSV;
 use cases::target::{targets, Target};
-use cases::{editions, quotes, Scale};
+use cases::{editions, Scale};
 use independent::{Call, Case, Edition, Entry, Lent, Said};
 use std::fmt::Write as _;
 use std::path::Path;

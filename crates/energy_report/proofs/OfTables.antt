@@ -9,7 +9,7 @@ use mathlib.Core.List.{List}
 use native.Mathlib.Nat.{mul-le-mul}
 use lib.ListN.{length}
 use lib.IntN.{ℤ}
-use Rattle.rules.specs.Limits.{profileWidth, trackWidth, mostSubnets, mostHorizon}
+use Rattle.rules.specs.Limits.{profileWidth, trackWidth, mostSubnets, leastHorizon, mostHorizon}
 use Rattle.rules.specs.Answers.{refusal, noRoom, noFile, good, solutionFile}
 use Rattle.rules.specs.Lists.{over}
 use Rattle.rules.specs.Profiles.{profilesFrom, profileNumbers}
@@ -26,6 +26,7 @@ use Rattle.rules.specs.declared.outcomes.Report.{Report}
 use Rattle.tables_ids.specs.Column.{Records, Rising}
 use Rattle.tables_ids.proofs.Curves.{profiles-length}
 use Rattle.files_tests.proofs.Holding.{front-records}
+use Rattle.rules_theorems.specs.Sized.{SizedFiles}
 use Rattle.rules_theorems.proofs.Sized.{accepted-sized}
 use Rattle.rules_theorems.specs.Files.{ByAutomaton, GoodFiles}
 use Rattle.rules_theorems.proofs.GoodFiles.{files-good, all-good}
@@ -82,8 +83,9 @@ module _ {H : ℕ} {counts : filed.Counts.Counts} {choices legs profiles : List 
     pub left-readable : Readable H (given k choices legs profiles samples tracks)
     left-readable =
         let g = files-good (l .stated) (l .texts) (roomsOf (l .lent)) (w .files) read in
-        let range = rw (l .at) at (g .horizon) in
-        let sizes = rw (l .at) at (accepted-sized (l .stated) (l .texts) (l .solution) (roomsOf (l .lent)) (length (l .lentChoices)) w (l .read) (l .fair)) in
+        let range = subst (λ (h : ℕ). (leastHorizon ≤ h) × (h ≤ mostHorizon)) (l .at) (g .horizon) in
+        let sizes = subst (λ (h : ℕ). SizedFiles h (w .files) (w .choices)) (l .at)
+        (accepted-sized (l .stated) (l .texts) (l .solution) (roomsOf (l .lent)) (length (l .lentChoices)) w (l .read) (l .fair)) in
         let few = good-is-lawful (legIds (w .files .rows)) _ _ _ (l .texts .constraints) (w .files .document) (g .constraints) .tables .subnets-in-limit in
         subst (Readable H) (sym same)
         (reading-readable (w .files) (w .choices) k counted (l .lent) (l .lentChoices) H (range .0) (range .1) few

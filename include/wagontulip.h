@@ -56,7 +56,7 @@ enum {
 
 /* The places of a refusal's values. */
 enum {
-    WAGONTULIP_NUMBER = 1,       /* 1 to 17, by document 01's table */
+    WAGONTULIP_NUMBER = 1,       /* 1 to 17, by document 01's table, and 21: an edition that is not known (file 0, place 0), tested after 1 */
     WAGONTULIP_REFUSED_FILE = 2, /* 0 none, 1 timetable, 2 profiles, 3 constraints, 4 solution, 5 second solution */
     WAGONTULIP_PLACE = 3         /* a byte of that file, from 0, or the file's length, which is no byte of it: then its end comes too soon */
 };
@@ -109,15 +109,24 @@ void wagontulip_rooms(uint64_t rooms[WAGONTULIP_NUMBERS]);
  * subnet (2). Curve: H numbers in kW for each subnet, one subnet after the other.
  */
 
-/* Is the solution accepted? `h` is the horizon in seconds. */
-void wagontulip_check(uint32_t h, const uint8_t *timetable, size_t timetable_length, const uint8_t *profiles, size_t profiles_length,
+/*
+ * What is stated beside the texts, by every function that reads constraints: `h`, the horizon in seconds, and `edition`, that of constraints.json. Any number
+ * may be stated: the function judges it, `h` first (refusal 1), then `edition` (21), before every text. A key of the other edition is refusal 10.
+ */
+enum {
+    WAGONTULIP_TABLE_EDITION = 1,  /* `min_dwell_time` for turnarounds, by Table 3 of document 000 */
+    WAGONTULIP_EXAMPLE_EDITION = 2 /* `min_turnaround_time`, by that document's example and by 001 */
+};
+
+/* Is the solution accepted? */
+void wagontulip_check(uint32_t h, uint32_t edition, const uint8_t *timetable, size_t timetable_length, const uint8_t *profiles, size_t profiles_length,
                       const uint8_t *constraints, size_t constraints_length, const uint8_t *solution, size_t solution_length, uint32_t *legs,
                       size_t legs_room, uint32_t *configurations, size_t configurations_room, uint32_t *profile_table, size_t profile_table_room,
                       int32_t *samples, size_t samples_room, uint32_t *constraint_table, size_t constraint_table_room, uint32_t *tracks,
                       size_t tracks_room, uint32_t *choices, size_t choices_room, uint64_t answer[WAGONTULIP_NUMBERS]);
 
 /* The same, and where the solution is accepted its energies, with the power curves in `curves`. */
-void wagontulip_energy(uint32_t h, const uint8_t *timetable, size_t timetable_length, const uint8_t *profiles, size_t profiles_length,
+void wagontulip_energy(uint32_t h, uint32_t edition, const uint8_t *timetable, size_t timetable_length, const uint8_t *profiles, size_t profiles_length,
                        const uint8_t *constraints, size_t constraints_length, const uint8_t *solution, size_t solution_length, uint32_t *legs,
                        size_t legs_room, uint32_t *configurations, size_t configurations_room, uint32_t *profile_table, size_t profile_table_room,
                        int32_t *samples, size_t samples_room, uint32_t *constraint_table, size_t constraint_table_room, uint32_t *tracks,
@@ -125,18 +134,18 @@ void wagontulip_energy(uint32_t h, const uint8_t *timetable, size_t timetable_le
                        uint64_t answer[WAGONTULIP_NUMBERS]);
 
 /* From two accepted solutions, the timetable of the earlier choice at each leg (the first file's at equal departures), written to `text`. */
-void wagontulip_merge_earlier(uint32_t h, const uint8_t *timetable, size_t timetable_length, const uint8_t *profiles, size_t profiles_length,
-                              const uint8_t *constraints, size_t constraints_length, const uint8_t *first, size_t first_length,
-                              const uint8_t *second, size_t second_length, uint32_t *legs, size_t legs_room, uint32_t *configurations,
+void wagontulip_merge_earlier(uint32_t h, uint32_t edition, const uint8_t *timetable, size_t timetable_length, const uint8_t *profiles,
+                              size_t profiles_length, const uint8_t *constraints, size_t constraints_length, const uint8_t *first,
+                              size_t first_length, const uint8_t *second, size_t second_length, uint32_t *legs, size_t legs_room, uint32_t *configurations,
                               size_t configurations_room, uint32_t *profile_table, size_t profile_table_room, int32_t *samples, size_t samples_room,
                               uint32_t *constraint_table, size_t constraint_table_room, uint32_t *tracks, size_t tracks_room, uint32_t *choices,
                               size_t choices_room, uint32_t *second_choices, size_t second_choices_room, uint8_t *text, size_t text_room,
                               uint64_t answer[WAGONTULIP_NUMBERS]);
 
 /* The same of the later choice at each leg (the second file's at equal departures). */
-void wagontulip_merge_later(uint32_t h, const uint8_t *timetable, size_t timetable_length, const uint8_t *profiles, size_t profiles_length,
-                            const uint8_t *constraints, size_t constraints_length, const uint8_t *first, size_t first_length,
-                            const uint8_t *second, size_t second_length, uint32_t *legs, size_t legs_room, uint32_t *configurations,
+void wagontulip_merge_later(uint32_t h, uint32_t edition, const uint8_t *timetable, size_t timetable_length, const uint8_t *profiles,
+                            size_t profiles_length, const uint8_t *constraints, size_t constraints_length, const uint8_t *first,
+                            size_t first_length, const uint8_t *second, size_t second_length, uint32_t *legs, size_t legs_room, uint32_t *configurations,
                             size_t configurations_room, uint32_t *profile_table, size_t profile_table_room, int32_t *samples, size_t samples_room,
                             uint32_t *constraint_table, size_t constraint_table_room, uint32_t *tracks, size_t tracks_room, uint32_t *choices,
                             size_t choices_room, uint32_t *second_choices, size_t second_choices_room, uint8_t *text, size_t text_room,

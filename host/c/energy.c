@@ -1,7 +1,7 @@
 /*
  * Wagontulip from C: the energies of a solution.
  *
- *     energy H TIMETABLE PROFILES CONSTRAINTS SOLUTION
+ *     energy H EDITION TIMETABLE PROFILES CONSTRAINTS SOLUTION
  *
  * prints the label and the answer's sixteen numbers. Exit status: the answer's code, or 3 where there is none.
  */
@@ -36,15 +36,15 @@ static struct text read_text(const char *name, uint64_t most) {
     return text;
 }
 
-/* H, a whole number with no needless zero. One past 32 bits is out of range, as the greatest of 32 bits is. */
-static uint32_t horizon(const char *word) {
+/* A whole number with no needless zero. One past 32 bits is out of range or not known, as the greatest of 32 bits is. */
+static uint32_t number(const char *name, const char *word) {
     size_t digits = strspn(word, "0123456789");
     if (digits == 0 || word[digits] != '\0' || (digits > 1 && word[0] == '0')) {
-        fprintf(stderr, "H is no whole number\n");
+        fprintf(stderr, "%s is no whole number\n", name);
         exit(COULD_NOT_RUN);
     }
-    unsigned long long h = strtoull(word, NULL, 10);
-    return h > UINT32_MAX ? UINT32_MAX : (uint32_t)h;
+    unsigned long long value = strtoull(word, NULL, 10);
+    return value > UINT32_MAX ? UINT32_MAX : (uint32_t)value;
 }
 
 /* Room for so many 32-bit numbers, at least one. */
@@ -58,22 +58,23 @@ static void *lend(uint64_t numbers) {
 }
 
 int main(int count, char **words) {
-    if (count != 6) {
-        fprintf(stderr, "energy H TIMETABLE PROFILES CONSTRAINTS SOLUTION\n");
+    if (count != 7) {
+        fprintf(stderr, "energy H EDITION TIMETABLE PROFILES CONSTRAINTS SOLUTION\n");
         return COULD_NOT_RUN;
     }
     uint64_t rooms[WAGONTULIP_NUMBERS];
     uint64_t answer[WAGONTULIP_NUMBERS];
     wagontulip_rooms(rooms);
 
-    uint32_t h = horizon(words[1]);
+    uint32_t h = number("H", words[1]);
+    uint32_t edition = number("EDITION", words[2]);
     uint64_t most = rooms[WAGONTULIP_TEXT_ROOM];
-    struct text timetable = read_text(words[2], most);
-    struct text profiles = read_text(words[3], most);
-    struct text constraints = read_text(words[4], most);
-    struct text solution = read_text(words[5], most);
-    wagontulip_energy(h, timetable.bytes, timetable.length, profiles.bytes, profiles.length, constraints.bytes, constraints.length, solution.bytes,
-                      solution.length, lend(rooms[WAGONTULIP_LEGS_ROOM]), rooms[WAGONTULIP_LEGS_ROOM], lend(rooms[WAGONTULIP_CONFIGURATIONS_ROOM]),
+    struct text timetable = read_text(words[3], most);
+    struct text profiles = read_text(words[4], most);
+    struct text constraints = read_text(words[5], most);
+    struct text solution = read_text(words[6], most);
+    wagontulip_energy(h, edition, timetable.bytes, timetable.length, profiles.bytes, profiles.length, constraints.bytes, constraints.length,
+                      solution.bytes, solution.length, lend(rooms[WAGONTULIP_LEGS_ROOM]), rooms[WAGONTULIP_LEGS_ROOM], lend(rooms[WAGONTULIP_CONFIGURATIONS_ROOM]),
                       rooms[WAGONTULIP_CONFIGURATIONS_ROOM], lend(rooms[WAGONTULIP_PROFILES_ROOM]), rooms[WAGONTULIP_PROFILES_ROOM],
                       lend(rooms[WAGONTULIP_SAMPLES_ROOM]), rooms[WAGONTULIP_SAMPLES_ROOM], lend(rooms[WAGONTULIP_CONSTRAINTS_ROOM]),
                       rooms[WAGONTULIP_CONSTRAINTS_ROOM], lend(rooms[WAGONTULIP_TRACKS_ROOM]), rooms[WAGONTULIP_TRACKS_ROOM],

@@ -14,8 +14,8 @@ enum { HEADER_DIFFERS = 3, ROOM_TOO_SHORT = 16, TIMETABLE = 1, FIRST_ROW = 114 }
 
 static int refused(const char *timetable, size_t length, uint64_t number, uint64_t place) {
     uint64_t answer[WAGONTULIP_NUMBERS];
-    wagontulip_check(100, (const uint8_t *)timetable, length, NULL, 0, NULL, 0, NULL, 0, NULL, 0, NULL, 0, NULL, 0, NULL, 0, NULL, 0, NULL, 0, NULL, 0,
-                     answer);
+    wagontulip_check(100, WAGONTULIP_EXAMPLE_EDITION, (const uint8_t *)timetable, length, NULL, 0, NULL, 0, NULL, 0, NULL, 0, NULL, 0, NULL, 0, NULL, 0,
+                     NULL, 0, NULL, 0, NULL, 0, answer);
     return answer[0] == WAGONTULIP_REFUSED && answer[WAGONTULIP_NUMBER] == number && answer[WAGONTULIP_REFUSED_FILE] == TIMETABLE &&
            answer[WAGONTULIP_PLACE] == place;
 }

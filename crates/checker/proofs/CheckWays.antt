@@ -10,6 +10,7 @@ use Rattle.rules.specs.Reading.{Texts}
 use Rattle.rules.specs.Verdict.{Verdict, accepted, violated, answerOf}
 use Rattle.rules.specs.Entries.{Tables, Whole, roomsOf, filled, filledTables, verdictOf, allRead, checked}
 use Rattle.rules.specs.Promises.{Checks}
+use Rattle.rules.specs.declared.stated.Stated.{Stated}
 use Rattle.checker_judge.specs.declared.Judged.{Judged}
 use Rattle.checker_judge.specs.Promise.{ReadAndJudged}
 use Rattle.tables_lent.specs.After.{tablesAfter, choicesAfter}
@@ -20,9 +21,9 @@ verdict-kept : (file : ℕ) (v : Verdict) → isRefusal (answerOf file v) ≡ fa
 verdict-kept file accepted = refl
 verdict-kept file (violated k n i m) = refl
 
-module _ (H : ℕ) (x : Texts) (s : List ℕ) (t : Tables) (c : List ℕ) {j : Judged} {t′ : Tables} {c′ : List ℕ} (read : ReadAndJudged H x s t c j t′ c′) where
+module _ (S : Stated) (x : Texts) (s : List ℕ) (t : Tables) (c : List ℕ) {j : Judged} {t′ : Tables} {c′ : List ℕ} (read : ReadAndJudged S x s t c j t′ c′) where
   abbrev all : Reading Whole
-  all = allRead H x s (roomsOf t) (length c)
+  all = allRead S x s (roomsOf t) (length c)
 
   -- what the answer leaves of what was read: b says whether it is a refusal
   abbrev kept : Bool → Tables
@@ -32,11 +33,11 @@ module _ (H : ℕ) (x : Texts) (s : List ℕ) (t : Tables) (c : List ℕ) {j : J
   kept-choices b = cond b (filled unsignedFill c′) c′
 
   pub check-ends : SameLengths t′ t → length c′ ≡ length c → {t″ : Tables} → t″ ≡ tablesAfter (j .answer) t′ → {c″ : List ℕ} → c″ ≡ choicesAfter (j .answer) c′
-      → Checks H x s t c (record { answer = j .answer }) t″ c″
+      → Checks S x s t c (record { answer = j .answer }) t″ c″
   unfolding checked
   check-ends same many {t″} tables {c″} choices = go all refl
     where
-      go : (o : Reading Whole) → all ≡ o → Checks H x s t c (record { answer = j .answer }) t″ c″
+      go : (o : Reading Whole) → all ≡ o → Checks S x s t c (record { answer = j .answer }) t″ c″
       go (refused r) e =
           let says : isRefusal (j .answer) ≡ true = ap isRefusal (read .answers) ∙ rw e in
           record {

@@ -11,6 +11,7 @@ use Rattle.rules.specs.Merge.{mergeOf}
 use Rattle.rules.specs.Entries.{Tables, roomsOf, filled, bothRead, merged}
 use Rattle.rules.specs.Entries as entries
 use Rattle.rules.specs.Promises.{Merges}
+use Rattle.rules.specs.declared.stated.Stated.{Stated}
 use Rattle.rules.specs.declared.outcomes.Merged.{Merged}
 use Rattle.rules.specs.declared.outcomes.Direction.{Direction}
 use Rattle.rules_theorems.specs.Demands.{EmptiedMerge}
@@ -22,25 +23,25 @@ use Rattle.merge.proofs.Standing.{text-zeroed}
 use Rattle.checker.proofs.Refusing.{is-refused}
 
 -- t, c, d, w: as they were lent; t′, c′, d′, w′: as the reading left them; t″, c″, d″, w″: as the answer leaves them
-module _ (direction : Direction) (H : ℕ) (x : Texts) (first second : List ℕ) (t : Tables) (c d w : List ℕ)
-    {r : Merged} {t′ : Tables} {c′ d′ w′ : List ℕ} (read : MergeRead direction H x first second t c d w r t′ c′ d′ w′) where
+module _ (direction : Direction) (S : Stated) (x : Texts) (first second : List ℕ) (t : Tables) (c d w : List ℕ)
+    {r : Merged} {t′ : Tables} {c′ d′ w′ : List ℕ} (read : MergeRead direction S x first second t c d w r t′ c′ d′ w′) where
   abbrev outcome : entries.Merged
-  outcome = merged (mergeOf direction) H x first second t c d w
+  outcome = merged (mergeOf direction) S x first second t c d w
 
   emptied : isRefusal (r .answer) ≡ true → EmptiedMerge t c d w outcome
   emptied h =
-      merge-demand-one H x first t c (mergeOf direction) second d w .emptied
+      merge-demand-one S x first t c (mergeOf direction) second d w .emptied
       (is-refused (outcome .answer) (ap isRefusal (sym (read .solved .made .answer)) ∙ h))
 
   zeroed : isAccepted (r .answer) ≡ false → filled byteFill w ≡ outcome .text
   unfolding merged
   zeroed h =
       sym
-      (text-zeroed t c d w second (mergeOf direction) (bothRead H x first second (roomsOf t) (length c) (length d)) (ap isAccepted (sym (read .solved .made .answer)) ∙ h))
+      (text-zeroed t c d w second (mergeOf direction) (bothRead S x first second (roomsOf t) (length c) (length d)) (ap isAccepted (sym (read .solved .made .answer)) ∙ h))
 
   pub merge-ends : SameLengths t′ t → length c′ ≡ length c → length d′ ≡ length d → length w′ ≡ length w
       → {t″ : Tables} → t″ ≡ tablesAfter (r .answer) t′ → {c″ : List ℕ} → c″ ≡ choicesAfter (r .answer) c′ → {d″ : List ℕ} → d″ ≡ choicesAfter (r .answer) d′
-      → {w″ : List ℕ} → w″ ≡ textAfter (r .answer) w′ → Merges direction H x first second t c d w r t″ c″ d″ w″
+      → {w″ : List ℕ} → w″ ≡ textAfter (r .answer) w′ → Merges direction S x first second t c d w r t″ c″ d″ w″
   merge-ends same many many₂ long tables choices second-choices text =
       record {
         answer = read .solved .made .answer;

@@ -13,6 +13,7 @@ use Rattle.rules.specs.Reading.{Texts}
 use Rattle.rules.specs.Verdict.{Verdict, accepted, violated}
 use Rattle.rules.specs.Entries.{Tables, Whole, roomsOf, filled, verdictOf, allRead, reportAccepted, reportJudged, reportFrom, reported}
 use Rattle.rules.specs.Promises.{Reports}
+use Rattle.rules.specs.declared.stated.Stated.{Stated}
 use Rattle.rules.specs.declared.outcomes.Report.{Report}
 use Rattle.rules_theorems.specs.Demands.{EmptiedReport}
 use Rattle.rules_theorems.proofs.DemandOne.{report-demand-one}
@@ -22,32 +23,32 @@ use Rattle.tables_lent.proofs.Filled.{SameLengths, tables-after, choices-after,
 use Rattle.checker.proofs.Refusing.{is-refused}
 
 -- short of acceptance the curves are filled
-curves-filled : (H : ℕ) (x : Texts) (s : List ℕ) (t : Tables) (c : List ℕ) (p : List ℤ) → isAccepted (reported H x s t c p .answer) ≡ false
-    → reported H x s t c p .curves ≡ filled signedFill p
+curves-filled : (S : Stated) (x : Texts) (s : List ℕ) (t : Tables) (c : List ℕ) (p : List ℤ) → isAccepted (reported S x s t c p .answer) ≡ false
+    → reported S x s t c p .curves ≡ filled signedFill p
 unfolding reported
-curves-filled H x s t c p = go (allRead H x s (roomsOf t) (length c))
+curves-filled S x s t c p = go (allRead S x s (roomsOf t) (length c))
   where
-    fitted : (fits : Bool) (w : Whole) → isAccepted (reportAccepted fits H w t c p .answer) ≡ false → reportAccepted fits H w t c p .curves ≡ filled signedFill p
+    fitted : (fits : Bool) (w : Whole) → isAccepted (reportAccepted fits (S .horizon) w t c p .answer) ≡ false → reportAccepted fits (S .horizon) w t c p .curves ≡ filled signedFill p
     fitted true w h = let z : _≡_ {A = ℕ} 0 1 = cc in absurd (omega arith)
     fitted false w h = refl
 
-    judged : (v : Verdict) (w : Whole) → isAccepted (reportJudged v H w t c p .answer) ≡ false → reportJudged v H w t c p .curves ≡ filled signedFill p
-    judged accepted w h = fitted (leb (w .files .document .opened * H) (length p)) w h
+    judged : (v : Verdict) (w : Whole) → isAccepted (reportJudged v (S .horizon) w t c p .answer) ≡ false → reportJudged v (S .horizon) w t c p .curves ≡ filled signedFill p
+    judged accepted w h = fitted (leb (w .files .document .opened * S .horizon) (length p)) w h
     judged (violated k n i m) w h = refl
 
-    go : (m : Reading Whole) → isAccepted (reportFrom m H t c p .answer) ≡ false → reportFrom m H t c p .curves ≡ filled signedFill p
+    go : (m : Reading Whole) → isAccepted (reportFrom m (S .horizon) t c p .answer) ≡ false → reportFrom m (S .horizon) t c p .curves ≡ filled signedFill p
     go (refused r) h = refl
     go (good w) h = judged (verdictOf (w .files) (w .choices)) w h
 
 -- t, c, p: as they were lent; t′, c′, p′: as the reading left them; t″, c″, p″: as the answer leaves them
-module _ {H : ℕ} {x : Texts} {s : List ℕ} {t : Tables} {c : List ℕ} {p : List ℤ} {r : Report} {t′ : Tables} {c′ : List ℕ} {p′ : List ℤ}
-    (read : ReportRead H x s t c p r t′ c′ p′) where
-  emptied : isRefusal (r .answer) ≡ true → EmptiedReport t c p (reported H x s t c p)
-  emptied h = report-demand-one H x s t c p .emptied (is-refused (reported H x s t c p .answer) (ap isRefusal (sym (read .answers)) ∙ h))
+module _ {S : Stated} {x : Texts} {s : List ℕ} {t : Tables} {c : List ℕ} {p : List ℤ} {r : Report} {t′ : Tables} {c′ : List ℕ} {p′ : List ℤ}
+    (read : ReportRead S x s t c p r t′ c′ p′) where
+  emptied : isRefusal (r .answer) ≡ true → EmptiedReport t c p (reported S x s t c p)
+  emptied h = report-demand-one S x s t c p .emptied (is-refused (reported S x s t c p .answer) (ap isRefusal (sym (read .answers)) ∙ h))
 
   pub report-ends : SameLengths t′ t → length c′ ≡ length c → length p′ ≡ length p
       → {t″ : Tables} → t″ ≡ tablesAfter (r .answer) t′ → {c″ : List ℕ} → c″ ≡ choicesAfter (r .answer) c′ → {p″ : List ℤ} → p″ ≡ curvesAfter (r .answer) p′
-      → Reports H x s t c p r t″ c″ p″
+      → Reports S x s t c p r t″ c″ p″
   report-ends same many long tables choices curves =
       record {
         answer = read .answers;
@@ -56,5 +57,5 @@ module _ {H : ℕ} {x : Texts} {s : List ℕ} {t : Tables} {c : List ℕ} {p : L
         desk = read .desk-is;
         tables = tables-after (r .answer) t same tables (λ h. sym (emptied h .tables)) (λ h. read .writes h .0);
         choices = choices-after (r .answer) c many choices (λ h. sym (emptied h .choices)) (λ h. read .writes h .1);
-        curves = curves-after (r .answer) p long curves (read .lays) (λ h. sym (curves-filled H x s t c p (ap isAccepted (sym (read .answers)) ∙ h)));
+        curves = curves-after (r .answer) p long curves (read .lays) (λ h. sym (curves-filled S x s t c p (ap isAccepted (sym (read .answers)) ∙ h)));
       }

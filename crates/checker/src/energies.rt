@@ -2,11 +2,12 @@
 ghost use Rattle.rules.specs.Lent.{given, before, after};
 ghost use Rattle.rules.specs.Promises.{Reports};
 use rules::outcomes::Report;
+use rules::stated::Stated;
 use tables_lent::acceptance;
 use tables_lent::refusals;
 
 pub fn energy(
-    h: u32,
+    stated: Stated,
     timetable: &[u8],
     profiles: &[u8],
     constraints: &[u8],
@@ -20,12 +21,12 @@ pub fn energy(
     choices: &mut [u32],
     curves: &mut [i32],
 ) -> Report
-    ensures { λ r. ⌜ Reports h (given timetable profiles constraints) (now (solution .entry))
+    ensures { λ r. ⌜ Reports stated (given timetable profiles constraints) (now (solution .entry))
         (before legs configurations «profile_table» samples «constraint_table» tracks) (now (choices .entry)) (now (curves .entry))
         r (after legs configurations «profile_table» samples «constraint_table» tracks) (now (choices .exit)) (now (curves .exit)) ⌝ }
 {
     let report = energy_report::read_and_report(
-        h,
+        stated,
         timetable,
         profiles,
         constraints,

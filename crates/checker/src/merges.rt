@@ -3,13 +3,14 @@ ghost use Rattle.rules.specs.Lent.{given, before, after};
 ghost use Rattle.rules.specs.Promises.{Merges};
 use rules::outcomes::Direction;
 use rules::outcomes::Merged;
+use rules::stated::Stated;
 use tables_lent::acceptance;
 use tables_lent::refusals;
 
 // At equal departures the earlier merge takes the first file's choice, and the later the second's. C, which has no `Direction`, has a name for each.
 pub fn merge(
     direction: Direction,
-    h: u32,
+    stated: Stated,
     timetable: &[u8],
     profiles: &[u8],
     constraints: &[u8],
@@ -25,13 +26,13 @@ pub fn merge(
     second_choices: &mut [u32],
     text: &mut [u8],
 ) -> Merged
-    ensures { λ r. ⌜ Merges direction h (given timetable profiles constraints) (now (first .entry)) (now (second .entry))
+    ensures { λ r. ⌜ Merges direction stated (given timetable profiles constraints) (now (first .entry)) (now (second .entry))
         (before legs configurations «profile_table» samples «constraint_table» tracks) (now (choices .entry)) (now («second_choices» .entry)) (now (text .entry))
         r (after legs configurations «profile_table» samples «constraint_table» tracks) (now (choices .exit)) (now («second_choices» .exit)) (now (text .exit)) ⌝ }
 {
     let merged = merge::read_and_merge(
         direction,
-        h,
+        stated,
         timetable,
         profiles,
         constraints,

@@ -2,10 +2,11 @@
 ghost use Rattle.rules.specs.Lent.{given, before, after};
 ghost use Rattle.rules.specs.Promises.{Checks};
 use rules::outcomes::Checked;
+use rules::stated::Stated;
 use tables_lent::refusals;
 
 pub fn check(
-    h: u32,
+    stated: Stated,
     timetable: &[u8],
     profiles: &[u8],
     constraints: &[u8],
@@ -18,12 +19,12 @@ pub fn check(
     tracks: &mut [u32],
     choices: &mut [u32],
 ) -> Checked
-    ensures { λ r. ⌜ Checks h (given timetable profiles constraints) (now (solution .entry))
+    ensures { λ r. ⌜ Checks stated (given timetable profiles constraints) (now (solution .entry))
         (before legs configurations «profile_table» samples «constraint_table» tracks) (now (choices .entry))
         r (after legs configurations «profile_table» samples «constraint_table» tracks) (now (choices .exit)) ⌝ }
 {
     let judged = checker_judge::read_and_judge(
-        h,
+        stated,
         timetable,
         profiles,
         constraints,

@@ -1,11 +1,12 @@
 -- Each way out of reading the files and a solution, and judging it. Assumes nothing.
 use Prim.Native.Nat.{ℕ}
-use mathlib.Core.Path.{_≡_, sym, ap, _∙_}
+use mathlib.Core.Path.{_≡_, refl, sym, ap, _∙_}
 use mathlib.Core.List.{List}
 use lib.ListN.{length}
 use Rattle.rules.specs.Answers.{solutionFile, Reading, refused, good}
 use Rattle.rules.specs.Reading.{Texts, filesOf, choicesRead}
 use Rattle.rules.specs.Entries.{Tables, Whole, roomsOf, writtenTables, writtenChoices, allRead, checked}
+use Rattle.rules.specs.declared.stated.Stated.{Stated}
 use Rattle.rules.specs.declared.sizes.Configuration.{Configuration}
 use Rattle.rules.specs.declared.answers.Refusal.{Refusal}
 use Rattle.rules.specs.declared.answers.Answer.{Answer}
@@ -24,40 +25,40 @@ use Rattle.solution_verdict.proofs.Choosing.{was-chosen, not-chosen}
 use Rattle.checker_judge.specs.declared.Judged.{Judged}
 use Rattle.checker_judge.specs.Promise.{ReadAndJudged}
 
-module _ (H : ℕ) (x : Texts) (s : List ℕ) (t : Tables) (c : List ℕ) where
+module _ (S : Stated) (x : Texts) (s : List ℕ) (t : Tables) (c : List ℕ) where
   abbrev all : Reading Whole
-  all = allRead H x s (roomsOf t) (length c)
+  all = allRead S x s (roomsOf t) (length c)
 
-  stopped : {j : Judged} {t′ : Tables} {c′ : List ℕ} (r : Refusal) → all ≡ refused r → j .answer ≡ Refused r → ReadAndJudged H x s t c j t′ c′
+  stopped : {j : Judged} {t′ : Tables} {c′ : List ℕ} (r : Refusal) → all ≡ refused r → j .answer ≡ Refused r → ReadAndJudged S x s t c j t′ c′
   unfolding checked
   stopped r e a = record { answers = a ∙ rw e; writes = λ w g. never-good r w (sym e ∙ g) }
 
-  module _ {a : Filed} {t′ : Tables} (f : FilesRead H x t a t′) where
-    pub files-stop : {j : Judged} {t″ : Tables} {c′ : List ℕ} {r : Refusal} → a ≡ Filings.Refused r → j .answer ≡ Refused r → ReadAndJudged H x s t c j t″ c′
+  module _ {a : Filed} {t′ : Tables} (f : FilesRead S x t a t′) where
+    pub files-stop : {j : Judged} {t″ : Tables} {c′ : List ℕ} {r : Refusal} → a ≡ Filings.Refused r → j .answer ≡ Refused r → ReadAndJudged S x s t c j t″ c′
     unfolding allRead
-    files-stop {r = r} e b = stopped r (rw (not-filed (filesOf H x (roomsOf t)) r (sym e ∙ f .answers))) b
+    files-stop {r = r} e b = stopped r (rw (not-filed (filesOf S x (roomsOf t)) r (sym e ∙ f .answers))) b
 
     module _ {k : Counts} (e : a ≡ Filings.Whole k) where
-      filed : WasFiled (filesOf H x (roomsOf t)) k
-      filed = was-filed (filesOf H x (roomsOf t)) k (sym e ∙ f .answers)
+      filed : WasFiled (filesOf S x (roomsOf t)) k
+      filed = was-filed (filesOf S x (roomsOf t)) k (sym e ∙ f .answers)
 
       tables-are : t′ ≡ writtenTables (filed .files) t
       tables-are = f .writes (filed .files) (filed .was)
 
-      abbrev left : Left H k
-      left = record { texts = x; lent = t; files = filed .files; read = filed .was; counted = filed .counted }
+      abbrev left : Left (S .horizon) k
+      left = record { stated = S; at = refl; texts = x; lent = t; files = filed .files; read = filed .was; counted = filed .counted }
 
-      abbrev choosable : Choosable H k (t′ .legs)
+      abbrev choosable : Choosable (S .horizon) k (t′ .legs)
       choosable = record { left = left; legs-are = ap (λ (t : Tables). t .legs) tables-are }
 
-      pub files-choosable : Choosable H k (t′ .legs)
+      pub files-choosable : Choosable (S .horizon) k (t′ .legs)
       files-choosable = choosable
 
-      module _ {b : Chosen} {c′ : List ℕ} (h : Chooses H solutionFile k s (t′ .legs) c b c′) where
+      module _ {b : Chosen} {c′ : List ℕ} (h : Chooses (S .horizon) solutionFile k s (t′ .legs) c b c′) where
         abbrev choice : Reading (List Configuration)
-        choice = choicesRead H (filed .files) solutionFile (length c) s
+        choice = choicesRead (S .horizon) (filed .files) solutionFile (length c) s
 
-        pub choice-stop : {j : Judged} {t″ : Tables} {c″ : List ℕ} {r : Refusal} → b ≡ Choosings.Refused r → j .answer ≡ Refused r → ReadAndJudged H x s t c j t″ c″
+        pub choice-stop : {j : Judged} {t″ : Tables} {c″ : List ℕ} {r : Refusal} → b ≡ Choosings.Refused r → j .answer ≡ Refused r → ReadAndJudged S x s t c j t″ c″
         unfolding allRead
         choice-stop {r = r} q d = stopped r (rw (filed .was, not-chosen choice r (sym q ∙ h .answers choosable))) d
 
@@ -71,7 +72,7 @@ module _ (H : ℕ) (x : Texts) (s : List ℕ) (t : Tables) (c : List ℕ) where
           abbrev ready : Ready k (t′ .legs) (t′ .configurations) (t′ .constraints) c′
           ready =
               record {
-                H = H;
+                H = S .horizon;
                 tables =
                     record {
                       left = left;
@@ -92,10 +93,10 @@ module _ (H : ℕ) (x : Texts) (s : List ℕ) (t : Tables) (c : List ℕ) where
           choice-ready = ready
 
           whole : all ≡ good (record { files = filed .files; choices = picked .0 })
-          whole = good-all H x s (roomsOf t) (length c) (filed .files) (picked .0) (filed .was) (picked .1)
+          whole = good-all S x s (roomsOf t) (length c) (filed .files) (picked .0) (filed .was) (picked .1)
 
           pub choice-judged : {answer : Answer} → Judges k (t′ .legs) (t′ .configurations) (t′ .constraints) c′ solutionFile answer
-              → ReadAndJudged H x s t c (record { answer = answer; counts = k }) t′ c′
+              → ReadAndJudged S x s t c (record { answer = answer; counts = k }) t′ c′
           unfolding checked
           choice-judged v =
               record {

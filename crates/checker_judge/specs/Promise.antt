@@ -6,10 +6,11 @@ use lib.ListN.{length}
 use Rattle.rules.specs.Answers.{good}
 use Rattle.rules.specs.Reading.{Texts}
 use Rattle.rules.specs.Entries.{Tables, Whole, roomsOf, writtenTables, writtenChoices, allRead, checked}
+use Rattle.rules.specs.declared.stated.Stated.{Stated}
 use Rattle.tables_lent.specs.Filing.{countsOf}
 use Rattle.checker_judge.specs.declared.Judged.{Judged}
 
-pub record ReadAndJudged (H : ℕ) (x : Texts) (solution : List ℕ) (t : Tables) (c : List ℕ) (r : Judged) (t′ : Tables) (c′ : List ℕ) : Type 0 where
-  pub answers : r .answer ≡ checked H x solution t c .answer
-  pub writes : (w : Whole) → allRead H x solution (roomsOf t) (length c) ≡ good w
+pub record ReadAndJudged (S : Stated) (x : Texts) (solution : List ℕ) (t : Tables) (c : List ℕ) (r : Judged) (t′ : Tables) (c′ : List ℕ) : Type 0 where
+  pub answers : r .answer ≡ checked S x solution t c .answer
+  pub writes : (w : Whole) → allRead S x solution (roomsOf t) (length c) ≡ good w
       → (t′ ≡ writtenTables (w .files) t) × (c′ ≡ writtenChoices (w .choices) c) × (r .counts ≡ countsOf (w .files))

@@ -5,6 +5,7 @@ ghost use Rattle.checker_judge.specs.Promise.{ReadAndJudged};
 use rules::answers::Answer;
 use rules::answers::File;
 use rules::answers::Refusal;
+use rules::stated::Stated;
 use solution_verdict::Chosen;
 use tables_lent::Counts;
 use tables_lent::Filed;
@@ -34,7 +35,7 @@ fn refused(refusal: Refusal) -> Judged
 
 // The files, a solution, and its verdict.
 pub fn read_and_judge(
-    h: u32,
+    stated: Stated,
     timetable: &[u8],
     profiles: &[u8],
     constraints: &[u8],
@@ -47,12 +48,12 @@ pub fn read_and_judge(
     tracks: &mut [u32],
     choices: &mut [u32],
 ) -> Judged
-    ensures { λ r. ⌜ ReadAndJudged h (given timetable profiles constraints) (now (solution .entry))
+    ensures { λ r. ⌜ ReadAndJudged stated (given timetable profiles constraints) (now (solution .entry))
         (before legs configurations «profile_table» samples «constraint_table» tracks) (now (choices .entry))
         r (after legs configurations «profile_table» samples «constraint_table» tracks) (now (choices .exit)) ⌝ }
 {
     let filed = files::read_files(
-        h,
+        stated,
         timetable,
         profiles,
         constraints,
@@ -67,7 +68,7 @@ pub fn read_and_judge(
         Filed::Refused(refusal) => refused(refusal),
         Filed::Whole(counts) => match solution_verdict::choose(
             solution,
-            h,
+            stated.horizon,
             File::SOLUTION,
             counts,
             legs,

@@ -15,6 +15,7 @@ use Rattle.rules.specs.Reading.{Texts}
 use Rattle.rules.specs.Verdict.{Verdict, accepted, violated, answerOf}
 use Rattle.rules.specs.Merge.{unequalFrom, chosen, textOf}
 use Rattle.rules.specs.Entries.{Tables, roomsOf, filled, writtenTables, writtenChoices, noFigures, verdictOf, Whole, allRead, checkedFrom, checked, reportAccepted, reportJudged, reportFrom, reported, Both, bothRead, Merged, mergeFitted, mergeTravel, mergeSecond, mergeFirst, mergeFrom, merged}
+use Rattle.rules.specs.declared.stated.Stated.{Stated}
 use Rattle.rules.specs.declared.sizes.Configuration.{Configuration}
 use Rattle.rules.specs.declared.answers.Refusal.{Refusal}
 use Rattle.rules.specs.declared.answers.Violation.{Violation}
@@ -35,130 +36,130 @@ refused-not-violated e = let z : _≡_ {A = ℕ} 0 1 = cc in absurd (omega arith
 
 -- ---- a check
 
-module _ (H : ℕ) (x : Texts) (s : List ℕ) (t : Tables) (c : List ℕ) where
+module _ (S : Stated) (x : Texts) (s : List ℕ) (t : Tables) (c : List ℕ) where
   -- one that is not refused has read
-  pub check-read : (IsRefused (checked H x s t c .answer) → ⊥) → (w : Whole) × (allRead H x s (roomsOf t) (length c) ≡ good w)
+  pub check-read : (IsRefused (checked S x s t c .answer) → ⊥) → (w : Whole) × (allRead S x s (roomsOf t) (length c) ≡ good w)
   unfolding checked
-  check-read = go (allRead H x s (roomsOf t) (length c)) refl
+  check-read = go (allRead S x s (roomsOf t) (length c)) refl
     where
-      go : (m : Reading Whole) → allRead H x s (roomsOf t) (length c) ≡ m → (IsRefused (checkedFrom m t c .answer) → ⊥)
-          → (w : Whole) × (allRead H x s (roomsOf t) (length c) ≡ good w)
+      go : (m : Reading Whole) → allRead S x s (roomsOf t) (length c) ≡ m → (IsRefused (checkedFrom m t c .answer) → ⊥)
+          → (w : Whole) × (allRead S x s (roomsOf t) (length c) ≡ good w)
       go (refused r) e n = absurd (n (r, refl))
       go (good w) e n = (w, e)
 
-  module _ (w : Whole) (e : allRead H x s (roomsOf t) (length c) ≡ good w) where
-    pub check-tables : checked H x s t c .tables ≡ writtenTables (w .files) t
+  module _ (w : Whole) (e : allRead S x s (roomsOf t) (length c) ≡ good w) where
+    pub check-tables : checked S x s t c .tables ≡ writtenTables (w .files) t
     unfolding checked
     check-tables = rw e
 
-    pub check-choices : checked H x s t c .choices ≡ writtenChoices (w .choices) c
+    pub check-choices : checked S x s t c .choices ≡ writtenChoices (w .choices) c
     unfolding checked
     check-choices = rw e
 
   -- ---- a report
 
   module _ (p : List ℤ) where
-    pub report-read : (IsRefused (reported H x s t c p .answer) → ⊥) → (w : Whole) × (allRead H x s (roomsOf t) (length c) ≡ good w)
+    pub report-read : (IsRefused (reported S x s t c p .answer) → ⊥) → (w : Whole) × (allRead S x s (roomsOf t) (length c) ≡ good w)
     unfolding reported
-    report-read = go (allRead H x s (roomsOf t) (length c)) refl
+    report-read = go (allRead S x s (roomsOf t) (length c)) refl
       where
-        go : (m : Reading Whole) → allRead H x s (roomsOf t) (length c) ≡ m → (IsRefused (reportFrom m H t c p .answer) → ⊥)
-            → (w : Whole) × (allRead H x s (roomsOf t) (length c) ≡ good w)
+        go : (m : Reading Whole) → allRead S x s (roomsOf t) (length c) ≡ m → (IsRefused (reportFrom m (S .horizon) t c p .answer) → ⊥)
+            → (w : Whole) × (allRead S x s (roomsOf t) (length c) ≡ good w)
         go (refused r) e n = absurd (n (r, refl))
         go (good w) e n = (w, e)
 
     -- short of acceptance
-    pub report-short : (reported H x s t c p .answer ≡ Accepted → ⊥) → (reported H x s t c p .curves ≡ filled signedFill p) × (reported H x s t c p .figures ≡ noFigures)
+    pub report-short : (reported S x s t c p .answer ≡ Accepted → ⊥) → (reported S x s t c p .curves ≡ filled signedFill p) × (reported S x s t c p .figures ≡ noFigures)
     unfolding reported
-    report-short = go (allRead H x s (roomsOf t) (length c))
+    report-short = go (allRead S x s (roomsOf t) (length c))
       where
-        fitted : (fits : Bool) (w : Whole) → (reportAccepted fits H w t c p .answer ≡ Accepted → ⊥)
-            → (reportAccepted fits H w t c p .curves ≡ filled signedFill p) × (reportAccepted fits H w t c p .figures ≡ noFigures)
+        fitted : (fits : Bool) (w : Whole) → (reportAccepted fits (S .horizon) w t c p .answer ≡ Accepted → ⊥)
+            → (reportAccepted fits (S .horizon) w t c p .curves ≡ filled signedFill p) × (reportAccepted fits (S .horizon) w t c p .figures ≡ noFigures)
         fitted true w n = absurd (n refl)
         fitted false w n = (refl, refl)
 
-        judged : (v : Verdict) (w : Whole) → (reportJudged v H w t c p .answer ≡ Accepted → ⊥)
-            → (reportJudged v H w t c p .curves ≡ filled signedFill p) × (reportJudged v H w t c p .figures ≡ noFigures)
-        judged accepted w n = fitted (leb (w .files .document .opened * H) (length p)) w n
+        judged : (v : Verdict) (w : Whole) → (reportJudged v (S .horizon) w t c p .answer ≡ Accepted → ⊥)
+            → (reportJudged v (S .horizon) w t c p .curves ≡ filled signedFill p) × (reportJudged v (S .horizon) w t c p .figures ≡ noFigures)
+        judged accepted w n = fitted (leb (w .files .document .opened * S .horizon) (length p)) w n
         judged (violated k m i d) w n = (refl, refl)
 
-        go : (m : Reading Whole) → (reportFrom m H t c p .answer ≡ Accepted → ⊥)
-            → (reportFrom m H t c p .curves ≡ filled signedFill p) × (reportFrom m H t c p .figures ≡ noFigures)
+        go : (m : Reading Whole) → (reportFrom m (S .horizon) t c p .answer ≡ Accepted → ⊥)
+            → (reportFrom m (S .horizon) t c p .curves ≡ filled signedFill p) × (reportFrom m (S .horizon) t c p .figures ≡ noFigures)
         go (refused r) n = (refl, refl)
         go (good w) n = judged (verdictOf (w .files) (w .choices)) w n
 
     module _ (w : Whole) where
       abbrev fits : Bool
-      fits = leb (w .files .document .opened * H) (length p)
+      fits = leb (w .files .document .opened * S .horizon) (length p)
 
-      judged-accepted : (v : Verdict) → reportJudged v H w t c p .answer ≡ Accepted → (v ≡ accepted) × (fits ≡ true)
+      judged-accepted : (v : Verdict) → reportJudged v (S .horizon) w t c p .answer ≡ Accepted → (v ≡ accepted) × (fits ≡ true)
       judged-accepted accepted e = (refl, fitted fits e)
         where
-          fitted : (b : Bool) → reportAccepted b H w t c p .answer ≡ Accepted → b ≡ true
+          fitted : (b : Bool) → reportAccepted b (S .horizon) w t c p .answer ≡ Accepted → b ≡ true
           fitted true e = refl
           fitted false e = refused-not-accepted e
       judged-accepted (violated k m i d) e = violated-not-accepted e
 
-      judged-violated : (v : Verdict) (y : Violation) → (reportJudged v H w t c p .answer ≡ Violated y) ↔ (answerOf solutionFile v ≡ Violated y)
+      judged-violated : (v : Verdict) (y : Violation) → (reportJudged v (S .horizon) w t c p .answer ≡ Violated y) ↔ (answerOf solutionFile v ≡ Violated y)
       judged-violated accepted y = (λ e. fitted fits e, λ e. violated-not-accepted (sym e))
         where
-          fitted : (b : Bool) → reportAccepted b H w t c p .answer ≡ Violated y → Accepted ≡ Violated y
+          fitted : (b : Bool) → reportAccepted b (S .horizon) w t c p .answer ≡ Violated y → Accepted ≡ Violated y
           fitted true e = e
           fitted false e = refused-not-violated e
       judged-violated (violated k m i d) y = (λ e. e, λ e. e)
 
-      judged-stands : (v : Verdict) → (IsRefused (reportJudged v H w t c p .answer) → ⊥)
-          → (reportJudged v H w t c p .tables ≡ writtenTables (w .files) t) × (reportJudged v H w t c p .choices ≡ writtenChoices (w .choices) c)
+      judged-stands : (v : Verdict) → (IsRefused (reportJudged v (S .horizon) w t c p .answer) → ⊥)
+          → (reportJudged v (S .horizon) w t c p .tables ≡ writtenTables (w .files) t) × (reportJudged v (S .horizon) w t c p .choices ≡ writtenChoices (w .choices) c)
       judged-stands accepted n = fitted fits n
         where
-          fitted : (b : Bool) → (IsRefused (reportAccepted b H w t c p .answer) → ⊥)
-              → (reportAccepted b H w t c p .tables ≡ writtenTables (w .files) t) × (reportAccepted b H w t c p .choices ≡ writtenChoices (w .choices) c)
+          fitted : (b : Bool) → (IsRefused (reportAccepted b (S .horizon) w t c p .answer) → ⊥)
+              → (reportAccepted b (S .horizon) w t c p .tables ≡ writtenTables (w .files) t) × (reportAccepted b (S .horizon) w t c p .choices ≡ writtenChoices (w .choices) c)
           fitted true n = (refl, refl)
           fitted false n = absurd (n (_, refl))
       judged-stands (violated k m i d) n = (refl, refl)
 
-      judged-decided : (v : Verdict) → fits ≡ true → IsRefused (reportJudged v H w t c p .answer) → ⊥
+      judged-decided : (v : Verdict) → fits ≡ true → IsRefused (reportJudged v (S .horizon) w t c p .answer) → ⊥
       judged-decided accepted e = fitted fits e
         where
-          fitted : (b : Bool) → b ≡ true → IsRefused (reportAccepted b H w t c p .answer) → ⊥
+          fitted : (b : Bool) → b ≡ true → IsRefused (reportAccepted b (S .horizon) w t c p .answer) → ⊥
           fitted true e = accepted-not-refused
           fitted false e = absurd (true≢false (sym e))
       judged-decided (violated k m i d) e = violated-not-refused _
 
-      module _ (e : allRead H x s (roomsOf t) (length c) ≡ good w) where
+      module _ (e : allRead S x s (roomsOf t) (length c) ≡ good w) where
         abbrev verdict : Verdict
         verdict = verdictOf (w .files) (w .choices)
 
-        says : reported H x s t c p ≡ reportJudged verdict H w t c p
+        says : reported S x s t c p ≡ reportJudged verdict (S .horizon) w t c p
         unfolding reported
         says = rw e
 
         -- accepted exactly where the verdict is and the curves fit
-        pub report-accepted : (reported H x s t c p .answer ≡ Accepted) ↔ ((verdict ≡ accepted) × (fits ≡ true))
+        pub report-accepted : (reported S x s t c p .answer ≡ Accepted) ↔ ((verdict ≡ accepted) × (fits ≡ true))
         report-accepted = (λ h. judged-accepted verdict (rw says at h), λ h. rw (says, h .0, h .1))
 
-        pub report-laid : reported H x s t c p .answer ≡ Accepted → reported H x s t c p ≡ reportAccepted true H w t c p
+        pub report-laid : reported S x s t c p .answer ≡ Accepted → reported S x s t c p ≡ reportAccepted true (S .horizon) w t c p
         report-laid h = let k = judged-accepted verdict (rw says at h) in rw (says, k .0, k .1)
 
-        pub report-violated : (y : Violation) → (reported H x s t c p .answer ≡ Violated y) ↔ (answerOf solutionFile verdict ≡ Violated y)
+        pub report-violated : (y : Violation) → (reported S x s t c p .answer ≡ Violated y) ↔ (answerOf solutionFile verdict ≡ Violated y)
         report-violated y = rw says (judged-violated verdict y)
 
-        pub report-decided : fits ≡ true → IsRefused (reported H x s t c p .answer) → ⊥
+        pub report-decided : fits ≡ true → IsRefused (reported S x s t c p .answer) → ⊥
         report-decided = rw says (judged-decided verdict)
 
-        pub report-stands : (IsRefused (reported H x s t c p .answer) → ⊥)
-            → (reported H x s t c p .tables ≡ writtenTables (w .files) t) × (reported H x s t c p .choices ≡ writtenChoices (w .choices) c)
+        pub report-stands : (IsRefused (reported S x s t c p .answer) → ⊥)
+            → (reported S x s t c p .tables ≡ writtenTables (w .files) t) × (reported S x s t c p .choices ≡ writtenChoices (w .choices) c)
         report-stands = rw says (judged-stands verdict)
 
 -- ---- a merge, by whatever rule it chooses
 
-module _ (merge : List Configuration → List Configuration → List Configuration) (H : ℕ) (x : Texts) (s₁ s₂ : List ℕ) (t : Tables) (c d text : List ℕ) where
-  pub merge-read : (IsRefused (merged merge H x s₁ s₂ t c d text .answer) → ⊥) → (b : Both) × (bothRead H x s₁ s₂ (roomsOf t) (length c) (length d) ≡ good b)
+module _ (merge : List Configuration → List Configuration → List Configuration) (S : Stated) (x : Texts) (s₁ s₂ : List ℕ) (t : Tables) (c d text : List ℕ) where
+  pub merge-read : (IsRefused (merged merge S x s₁ s₂ t c d text .answer) → ⊥) → (b : Both) × (bothRead S x s₁ s₂ (roomsOf t) (length c) (length d) ≡ good b)
   unfolding merged
-  merge-read = go (bothRead H x s₁ s₂ (roomsOf t) (length c) (length d)) refl
+  merge-read = go (bothRead S x s₁ s₂ (roomsOf t) (length c) (length d)) refl
     where
-      go : (m : Reading Both) → bothRead H x s₁ s₂ (roomsOf t) (length c) (length d) ≡ m → (IsRefused (mergeFrom t c d text s₂ merge m .answer) → ⊥)
-          → (b : Both) × (bothRead H x s₁ s₂ (roomsOf t) (length c) (length d) ≡ good b)
+      go : (m : Reading Both) → bothRead S x s₁ s₂ (roomsOf t) (length c) (length d) ≡ m → (IsRefused (mergeFrom t c d text s₂ merge m .answer) → ⊥)
+          → (b : Both) × (bothRead S x s₁ s₂ (roomsOf t) (length c) (length d) ≡ good b)
       go (refused r) e n = absurd (n (r, refl))
       go (good b) e n = (b, e)
 
@@ -166,9 +167,9 @@ module _ (merge : List Configuration → List Configuration → List Configurati
   abbrev Short : Merged → Type 0
   Short m = (m .answer ≡ Accepted → ⊥) → (m .text ≡ filled byteFill text) × (m .length ≡ 0)
 
-  pub merge-short : Short (merged merge H x s₁ s₂ t c d text)
+  pub merge-short : Short (merged merge S x s₁ s₂ t c d text)
   unfolding merged
-  merge-short = go (bothRead H x s₁ s₂ (roomsOf t) (length c) (length d))
+  merge-short = go (bothRead S x s₁ s₂ (roomsOf t) (length c) (length d))
     where
       fitted : (fits : Bool) (written : List ℕ) (b : Both) → Short (mergeFitted t c d text fits written b)
       fitted true written b n = absurd (n refl)
@@ -290,26 +291,26 @@ module _ (merge : List Configuration → List Configuration → List Configurati
         first accepted n = second two n
         first (violated k m i z) n = (refl, refl, refl)
 
-    module _ (e : bothRead H x s₁ s₂ (roomsOf t) (length c) (length d) ≡ good b) where
-      joins : merged merge H x s₁ s₂ t c d text ≡ mergeFirst t c d text s₂ merge one b
+    module _ (e : bothRead S x s₁ s₂ (roomsOf t) (length c) (length d) ≡ good b) where
+      joins : merged merge S x s₁ s₂ t c d text ≡ mergeFirst t c d text s₂ merge one b
       unfolding merged
       joins = rw e
 
       -- accepted exactly where both verdicts are, no travel times differ, and the text fits
-      pub merge-accepted : (merged merge H x s₁ s₂ t c d text .answer ≡ Accepted) ↔ ((one ≡ accepted) × (two ≡ accepted) × (unequal ≡ none) × (room ≡ true))
+      pub merge-accepted : (merged merge S x s₁ s₂ t c d text .answer ≡ Accepted) ↔ ((one ≡ accepted) × (two ≡ accepted) × (unequal ≡ none) × (room ≡ true))
       merge-accepted = (λ h. first-accepted one (rw joins at h), λ h. rw (joins, h .0, h .1, h .2, h .3))
 
-      pub merge-written : merged merge H x s₁ s₂ t c d text .answer ≡ Accepted → merged merge H x s₁ s₂ t c d text ≡ mergeFitted t c d text true written b
+      pub merge-written : merged merge S x s₁ s₂ t c d text .answer ≡ Accepted → merged merge S x s₁ s₂ t c d text ≡ mergeFitted t c d text true written b
       merge-written h = let k = first-accepted one (rw joins at h) in rw (joins, k .0, k .1, k .2, k .3)
 
       -- a violation is the first's, or where the first is accepted the second's
-      pub merge-violated : (y : Violation) → (merged merge H x s₁ s₂ t c d text .answer ≡ Violated y)
+      pub merge-violated : (y : Violation) → (merged merge S x s₁ s₂ t c d text .answer ≡ Violated y)
           ↔ ((answerOf solutionFile one ≡ Violated y) ⊎ ((one ≡ accepted) × (answerOf secondFile two ≡ Violated y)))
       merge-violated y = rw joins (first-violated one y)
 
       -- where the travel times are equal and the text fits, nothing is refused
-      pub merge-decided : (one ≡ accepted → two ≡ accepted → (unequal ≡ none) × (room ≡ true)) → IsRefused (merged merge H x s₁ s₂ t c d text .answer) → ⊥
+      pub merge-decided : (one ≡ accepted → two ≡ accepted → (unequal ≡ none) × (room ≡ true)) → IsRefused (merged merge S x s₁ s₂ t c d text .answer) → ⊥
       merge-decided = rw joins (first-decided one)
 
-      pub merge-stands : Stands (merged merge H x s₁ s₂ t c d text)
+      pub merge-stands : Stands (merged merge S x s₁ s₂ t c d text)
       merge-stands = rw joins (first-stands one)

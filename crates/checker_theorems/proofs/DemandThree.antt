@@ -10,6 +10,7 @@ use Rattle.rules.specs.Verdict.{accepted}
 use Rattle.rules.specs.Energy.{samplesIn, homesOf, power}
 use Rattle.rules.specs.Merge.{earlier, later, mergeOf, SameTravel}
 use Rattle.rules.specs.Entries.{Tables, roomsOf, verdictOf}
+use Rattle.rules.specs.declared.stated.Stated.{Stated}
 use Rattle.rules.specs.declared.sizes.Configuration.{Configuration}
 use Rattle.rules.specs.declared.answers.Answer.the-variants.{Accepted}
 use Rattle.rules.specs.declared.outcomes.Direction.{Direction}
@@ -27,14 +28,14 @@ use Rattle.checker_theorems.proofs.DemandOne.{refused-as}
 use Rattle.checker_theorems.proofs.DemandTwo.{are-offered, fair, merge-fair, text-reads, demand-two}
 
 -- a solution that was read in some room as choices that are accepted
-record Known (H : ℕ) (x : Texts) (f : Files) (solution : List ℕ) (cs : List Configuration) : Type 0 where
+record Known (S : Stated) (x : Texts) (f : Files) (solution : List ℕ) (cs : List Configuration) : Type 0 where
   pub t : Tables
   pub c : List ℕ
-  pub reads : Reads H x solution t c f cs
+  pub reads : Reads S x solution t c f cs
   pub verdict : verdictOf f cs ≡ accepted
 
-module _ (H : ℕ) (x : Texts) (f : Files) where
-  known : {solution : List ℕ} {cs : List Configuration} → Accepts H x solution f cs → Known H x f solution cs
+module _ (S : Stated) (x : Texts) (f : Files) where
+  known : {solution : List ℕ} {cs : List Configuration} → Accepts S x solution f cs → Known S x f solution cs
   known {solution} {cs} k =
       let o = k .outcome in
       record {
@@ -43,104 +44,104 @@ module _ (H : ℕ) (x : Texts) (f : Files) where
         reads = k .reads;
         verdict =
             answer-accepted solutionFile (verdictOf f cs) .0
-            (sym (checked-answer H x solution (o .lent) (o .lentChoices) (record { files = f; choices = cs }) (k .reads)) ∙ sym (o .keeps .answer) ∙ k .accepted);
+            (sym (checked-answer S x solution (o .lent) (o .lentChoices) (record { files = f; choices = cs }) (k .reads)) ∙ sym (o .keeps .answer) ∙ k .accepted);
       }
 
-  module _ {solution : List ℕ} {cs : List Configuration} (k : Known H x f solution cs) where
-    files-read : filesOf H x (roomsOf (k .t)) ≡ good f
-    files-read = all-good H x solution (roomsOf (k .t)) (length (k .c)) (record { files = f; choices = cs }) (k .reads) .0
+  module _ {solution : List ℕ} {cs : List Configuration} (k : Known S x f solution cs) where
+    files-read : filesOf S x (roomsOf (k .t)) ≡ good f
+    files-read = all-good S x solution (roomsOf (k .t)) (length (k .c)) (record { files = f; choices = cs }) (k .reads) .0
 
-    choices-read : choicesRead H f solutionFile (length (k .c)) solution ≡ good cs
-    choices-read = all-good H x solution (roomsOf (k .t)) (length (k .c)) (record { files = f; choices = cs }) (k .reads) .1
+    choices-read : choicesRead (S .horizon) f solutionFile (length (k .c)) solution ≡ good cs
+    choices-read = all-good S x solution (roomsOf (k .t)) (length (k .c)) (record { files = f; choices = cs }) (k .reads) .1
 
     is-fair : AcceptableIn f cs
-    is-fair = fair f cs H x (roomsOf (k .t)) files-read .0 (k .verdict)
+    is-fair = fair f cs S x (roomsOf (k .t)) files-read .0 (k .verdict)
 
     -- its room has a place for any choices that the draft offers
-    has-room : Room H x f (k .t) (k .c)
+    has-room : Room S x f (k .t) (k .c)
     has-room =
         record {
           tables = files-read;
           choices =
               rw (offered-length (f .rows) cs (are-offered f cs (k .verdict)))
-              (choices-room H f (length (k .c)) solution cs (choices-good H f solutionFile (length (k .c)) solution cs choices-read));
+              (choices-room (S .horizon) f (length (k .c)) solution cs (choices-good (S .horizon) f solutionFile (length (k .c)) solution cs choices-read));
         }
 
     -- a report over it that is accepted has read the same
-    report-says : (o : EnergyOutcome H x solution) → o .result .answer ≡ Accepted → Reads H x solution (o .lent) (o .lentChoices) f cs
+    report-says : (o : EnergyOutcome S x solution) → o .result .answer ≡ Accepted → Reads S x solution (o .lent) (o .lentChoices) f cs
     report-says o h =
-        let w = report-read H x solution (o .lent) (o .lentChoices) (o .lentCurves) (λ r. accepted-not-refused (refused-as (sym (o .keeps .answer) ∙ h) r)) in
-        w .1 ∙ ap good (all-alike H x solution (roomsOf (o .lent)) (roomsOf (k .t)) (length (o .lentChoices)) (length (k .c)) (w .0) (record { files = f; choices = cs }) (w .1) (k .reads))
+        let w = report-read S x solution (o .lent) (o .lentChoices) (o .lentCurves) (λ r. accepted-not-refused (refused-as (sym (o .keeps .answer) ∙ h) r)) in
+        w .1 ∙ ap good (all-alike S x solution (roomsOf (o .lent)) (roomsOf (k .t)) (length (o .lentChoices)) (length (k .c)) (w .0) (record { files = f; choices = cs }) (w .1) (k .reads))
 
     -- and so its powers are those of the choices
-    powers-of : (o : EnergyOutcome H x solution) → o .result .answer ≡ Accepted → (subnet second : ℕ) → subnet < f .document .opened → second < H
+    powers-of : (o : EnergyOutcome S x solution) → o .result .answer ≡ Accepted → (subnet second : ℕ) → subnet < f .document .opened → second < S .horizon
         → powerAt o subnet second ≡ power (samplesIn (f .curves)) (homesOf (f .document .tracks) (f .rows)) cs subnet second
-    powers-of o h = demand-two H x f .energy o (report-says o h) .powers h
+    powers-of o h = demand-two S x f .energy o (report-says o h) .powers h
 
-  module _ (a b : List ℕ) (s r : List Configuration) (one : Known H x f a s) (two : Known H x f b r) (same : SameTravel s r) where
-    module _ {direction : Direction} (m : MergeOutcome direction H x a b) where
+  module _ (a b : List ℕ) (s r : List Configuration) (one : Known S x f a s) (two : Known S x f b r) (same : SameTravel s r) where
+    module _ {direction : Direction} (m : MergeOutcome direction S x a b) where
       -- a merge whose room suffices has read both
-      reads-both : Suffices m f (mergeOf direction s r) → BothRead H x a b (m .lent) (m .lentChoices) (m .lentSecond) f s r
+      reads-both : Suffices m f (mergeOf direction s r) → BothRead S x a b (m .lent) (m .lentChoices) (m .lentSecond) f s r
       reads-both enough =
-          good-both H x a b (roomsOf (m .lent)) (length (m .lentChoices)) (length (m .lentSecond)) f s r (enough .room .tables)
-          (choices-anywhere H f solutionFile solutionFile (length (one .c)) (length (m .lentChoices)) a s (enough .room .choices) (choices-read one))
-          (choices-anywhere H f solutionFile secondFile (length (two .c)) (length (m .lentSecond)) b r (enough .second) (choices-read two))
+          good-both S x a b (roomsOf (m .lent)) (length (m .lentChoices)) (length (m .lentSecond)) f s r (enough .room .tables)
+          (choices-anywhere (S .horizon) f solutionFile solutionFile (length (one .c)) (length (m .lentChoices)) a s (enough .room .choices) (choices-read one))
+          (choices-anywhere (S .horizon) f solutionFile secondFile (length (two .c)) (length (m .lentSecond)) b r (enough .second) (choices-read two))
 
       merge-wrote : Suffices m f (mergeOf direction s r) → Wrote m f (mergeOf direction s r)
       merge-wrote enough =
-          let judged = demand-two H x f .merge m (reads-both enough) in
+          let judged = demand-two S x f .merge m (reads-both enough) in
           let h = judged .accepted .1 (is-fair one, is-fair two, same, enough .text) in
           record { accepted = h; written = judged .written h }
 
       -- and so has one that is accepted
-      merge-says : m .result .answer ≡ Accepted → BothRead H x a b (m .lent) (m .lentChoices) (m .lentSecond) f s r
+      merge-says : m .result .answer ≡ Accepted → BothRead S x a b (m .lent) (m .lentChoices) (m .lentSecond) f s r
       merge-says h =
           let w =
-          merge-read (mergeOf direction) H x a b (m .lent) (m .lentChoices) (m .lentSecond) (m .lentText)
+          merge-read (mergeOf direction) S x a b (m .lent) (m .lentChoices) (m .lentSecond) (m .lentText)
           (λ q. accepted-not-refused (refused-as (sym (m .keeps .answer) ∙ h) q)) in
           w .1
           ∙ ap good
-          (both-alike H x a b (roomsOf (m .lent)) (roomsOf (one .t)) (length (m .lentChoices)) (length (m .lentSecond)) (length (one .c)) (length (two .c)) (w .0) f s r
+          (both-alike S x a b (roomsOf (m .lent)) (roomsOf (one .t)) (length (m .lentChoices)) (length (m .lentSecond)) (length (one .c)) (length (two .c)) (w .0) f s r
           (w .1) (files-read one) (choices-read one) (choices-read two))
 
       judges : m .result .answer ≡ Accepted → MergeJudges m f s r
-      judges h = demand-two H x f .merge m (merge-says h)
+      judges h = demand-two S x f .merge m (merge-says h)
 
       -- what it wrote is known: it reads in the first solution's room
-      new-known : m .result .answer ≡ Accepted → Known H x f (writtenBy m) (mergeOf direction s r)
+      new-known : m .result .answer ≡ Accepted → Known S x f (writtenBy m) (mergeOf direction s r)
       new-known h =
           let v = merge-fair direction f s r same (one .verdict) (two .verdict) in
           record {
             t = one .t;
             c = one .c;
-            reads = subst (λ e. Reads H x e (one .t) (one .c) f (mergeOf direction s r)) (sym (judges h .written h)) (text-reads (mergeOf direction s r) v (one .t) (one .c) (has-room one));
+            reads = subst (λ e. Reads S x e (one .t) (one .c) f (mergeOf direction s r)) (sym (judges h .written h)) (text-reads (mergeOf direction s r) v (one .t) (one .c) (has-room one));
             verdict = v;
           }
 
       -- a report over it is accepted in any room that suffices
-      reports-accept : m .result .answer ≡ Accepted → (k : EnergyOutcome H x (writtenBy m)) → Room H x f (k .lent) (k .lentChoices) → CurvesFit H f (k .lentCurves)
+      reports-accept : m .result .answer ≡ Accepted → (k : EnergyOutcome S x (writtenBy m)) → Room S x f (k .lent) (k .lentChoices) → CurvesFit (S .horizon) f (k .lentCurves)
           → k .result .answer ≡ Accepted
       reports-accept h k room fits =
           let v = merge-fair direction f s r same (one .verdict) (two .verdict) in
           let reads =
-          subst (λ e. Reads H x e (k .lent) (k .lentChoices) f (mergeOf direction s r)) (sym (judges h .written h))
+          subst (λ e. Reads S x e (k .lent) (k .lentChoices) f (mergeOf direction s r)) (sym (judges h .written h))
           (text-reads (mergeOf direction s r) v (k .lent) (k .lentChoices) room) in
-          demand-two H x f .energy k reads .accepted .1 (is-fair (new-known h), fits)
+          demand-two S x f .energy k reads .accepted .1 (is-fair (new-known h), fits)
 
-  module _ (a b : List ℕ) (s r : List Configuration) (one : Known H x f a s) (two : Known H x f b r) (same : SameTravel s r) where
-    earlier-again : (n : MergeOutcome Later H x a b) → n .result .answer ≡ Accepted → (m : MergeOutcome Earlier H x a (writtenBy n)) → Suffices m f s → Wrote m f s
+  module _ (a b : List ℕ) (s r : List Configuration) (one : Known S x f a s) (two : Known S x f b r) (same : SameTravel s r) where
+    earlier-again : (n : MergeOutcome Later S x a b) → n .result .answer ≡ Accepted → (m : MergeOutcome Earlier S x a (writtenBy n)) → Suffices m f s → Wrote m f s
     earlier-again n h m enough =
         let back = absorption s r (travel-lengths s r same) .0 in
         subst (λ cs. Wrote m f cs) back
         (merge-wrote a (writtenBy n) s (later s r) one (new-known a b s r one two same n h) (merge-travel s r same .1) m (subst (λ cs. Suffices m f cs) (sym back) enough))
 
-    later-again : (m : MergeOutcome Earlier H x a b) → m .result .answer ≡ Accepted → (n : MergeOutcome Later H x a (writtenBy m)) → Suffices n f s → Wrote n f s
+    later-again : (m : MergeOutcome Earlier S x a b) → m .result .answer ≡ Accepted → (n : MergeOutcome Later S x a (writtenBy m)) → Suffices n f s → Wrote n f s
     later-again m h n enough =
         let back = absorption s r (travel-lengths s r same) .1 in
         subst (λ cs. Wrote n f cs) back
         (merge-wrote a (writtenBy m) s (earlier s r) one (new-known a b s r one two same m h) (merge-travel s r same .0) n (subst (λ cs. Suffices n f cs) (sym back) enough))
 
-    holds : MergesHold H x a b f s r
+    holds : MergesHold S x a b f s r
     holds =
         record {
           written = merge-wrote a b s r one two same;
@@ -155,5 +156,5 @@ module _ (H : ℕ) (x : Texts) (f : Files) where
         }
 
 -- THE DEMAND
-pub demand-three : (H : ℕ) (x : Texts) (a b : List ℕ) (f : Files) (s r : List Configuration) → DemandThree H x a b f s r
-demand-three H x a b f s r one two same = holds H x f a b s r (known H x f one) (known H x f two) same
+pub demand-three : (S : Stated) (x : Texts) (a b : List ℕ) (f : Files) (s r : List Configuration) → DemandThree S x a b f s r
+demand-three S x a b f s r one two same = holds S x f a b s r (known S x f one) (known S x f two) same

@@ -21,6 +21,7 @@ use Rattle.rules.specs.Verdict.{All, offered, Offered, Verdict, accepted, viola
 use Rattle.rules.specs.Energy.{samplesIn, homesOf, power, curvesOf}
 use Rattle.rules.specs.Merge.{mergeOf, SameTravel, unequalFrom, chosen, textOf}
 use Rattle.rules.specs.Entries.{Tables, roomsOf, verdictOf, Whole, Reported, Both, Merged, merged}
+use Rattle.rules.specs.declared.stated.Stated.{Stated}
 use Rattle.rules.specs.declared.sizes.Configuration.{Configuration}
 use Rattle.rules.specs.declared.answers.Violation.{Violation}
 use Rattle.rules.specs.declared.answers.Answer.the-variants.{Accepted, Violated}
@@ -74,10 +75,10 @@ module _ (f : Files) (cs : List Configuration) where
   pub are-offered : verdictOf f cs ≡ accepted → Offered (offered (f .rows)) cs
   are-offered v = verdict-accepted (offered (f .rows)) (ordered (f .document .constraints)) cs .1 v .offered
 
-  module _ (H : ℕ) (x : Texts) (room : Rooms) (read : filesOf H x room ≡ good f) where
+  module _ (S : Stated) (x : Texts) (room : Rooms) (read : filesOf S x room ≡ good f) where
     pub fair : (verdictOf f cs ≡ accepted) ↔ AcceptableIn f cs
     fair =
-        let order = acceptable-in-order f cs (files-kinds H x room f read) in
+        let order = acceptable-in-order f cs (files-kinds S x room f read) in
         let all = verdict-accepted (offered (f .rows)) (ordered (f .document .constraints)) cs in
         (λ v. order .1 (all .1 v), λ h. all .0 (order .0 h))
 
@@ -107,14 +108,14 @@ curves-at H f cs t subnet second h k =
 
 -- ---- each entry
 
-module _ {H : ℕ} {x : Texts} {f : Files} where
-  check-judges : {solution : List ℕ} {cs : List Configuration} (k : CheckOutcome H x solution) → Reads H x solution (k .lent) (k .lentChoices) f cs → CheckJudges k f cs
+module _ {S : Stated} {x : Texts} {f : Files} where
+  check-judges : {solution : List ℕ} {cs : List Configuration} (k : CheckOutcome S x solution) → Reads S x solution (k .lent) (k .lentChoices) f cs → CheckJudges k f cs
   check-judges {solution} {cs} k e =
       let w : Whole = record { files = f; choices = cs } in
-      let says = k .keeps .answer ∙ checked-answer H x solution (k .lent) (k .lentChoices) w e in
-      let read = all-good H x solution (roomsOf (k .lent)) (length (k .lentChoices)) w e .0 in
-      let kinds = files-kinds H x (roomsOf (k .lent)) f read in
-      let good-for = fair f cs H x (roomsOf (k .lent)) read in
+      let says = k .keeps .answer ∙ checked-answer S x solution (k .lent) (k .lentChoices) w e in
+      let read = all-good S x solution (roomsOf (k .lent)) (length (k .lentChoices)) w e .0 in
+      let kinds = files-kinds S x (roomsOf (k .lent)) f read in
+      let good-for = fair f cs S x (roomsOf (k .lent)) read in
       let judged = answer-accepted solutionFile (verdictOf f cs) in
       record {
         accepted = (λ h. good-for .0 (judged .0 (sym says ∙ h)), λ h. says ∙ judged .1 (good-for .1 h));
@@ -122,16 +123,16 @@ module _ {H : ℕ} {x : Texts} {f : Files} where
         not-refused = λ h. verdict-not-refused solutionFile (verdictOf f cs) (refused-as says h);
       }
 
-  energy-judges : {solution : List ℕ} {cs : List Configuration} (k : EnergyOutcome H x solution) → Reads H x solution (k .lent) (k .lentChoices) f cs → EnergyJudges k f cs
+  energy-judges : {solution : List ℕ} {cs : List Configuration} (k : EnergyOutcome S x solution) → Reads S x solution (k .lent) (k .lentChoices) f cs → EnergyJudges k f cs
   energy-judges {solution} {cs} k e =
       let w : Whole = record { files = f; choices = cs } in
       let says = k .keeps .answer in
-      let read = all-good H x solution (roomsOf (k .lent)) (length (k .lentChoices)) w e .0 in
-      let kinds = files-kinds H x (roomsOf (k .lent)) f read in
-      let good-for = fair f cs H x (roomsOf (k .lent)) read in
-      let judged = report-accepted H x solution (k .lent) (k .lentChoices) (k .lentCurves) w e in
-      let laid = report-laid H x solution (k .lent) (k .lentChoices) (k .lentCurves) w e in
-      let named = report-violated H x solution (k .lent) (k .lentChoices) (k .lentCurves) w e in
+      let read = all-good S x solution (roomsOf (k .lent)) (length (k .lentChoices)) w e .0 in
+      let kinds = files-kinds S x (roomsOf (k .lent)) f read in
+      let good-for = fair f cs S x (roomsOf (k .lent)) read in
+      let judged = report-accepted S x solution (k .lent) (k .lentChoices) (k .lentCurves) w e in
+      let laid = report-laid S x solution (k .lent) (k .lentChoices) (k .lentCurves) w e in
+      let named = report-violated S x solution (k .lent) (k .lentChoices) (k .lentCurves) w e in
       record {
         accepted = (
           λ h. let q = judged .0 (sym says ∙ h) in (good-for .0 (q .0), leb-true _ _ (q .1)),
@@ -141,52 +142,52 @@ module _ {H : ℕ} {x : Texts} {f : Files} where
           λ h. verdict-names f cs kinds solutionFile v .0 (named v .0 (sym says ∙ h)),
           λ h. says ∙ named v .1 (verdict-names f cs kinds solutionFile v .1 h),
         );
-        not-refused = λ fits h. report-decided H x solution (k .lent) (k .lentChoices) (k .lentCurves) w e (le-leb _ _ fits) (refused-as says h);
+        not-refused = λ fits h. report-decided S x solution (k .lent) (k .lentChoices) (k .lentCurves) w e (le-leb _ _ fits) (refused-as says h);
         energies = λ h. k .keeps .figures ∙ ap (λ (q : Reported). q .figures) (laid (sym says ∙ h));
         powers = λ h subnet second g u.
-            ap (λ curves. getD curves (subnet * H + second) (pos 0)) (k .keeps .curves ∙ ap (λ (q : Reported). q .curves) (laid (sym says ∙ h)))
-            ∙ curves-at H f cs (k .lentCurves) subnet second g u;
+            ap (λ curves. getD curves (subnet * S .horizon + second) (pos 0)) (k .keeps .curves ∙ ap (λ (q : Reported). q .curves) (laid (sym says ∙ h)))
+            ∙ curves-at (S .horizon) f cs (k .lentCurves) subnet second g u;
       }
 
   -- a text of accepted choices
-  pub text-reads : (cs : List Configuration) → verdictOf f cs ≡ accepted → (t : Tables) (c : List ℕ) → Room H x f t c → Reads H x (textOf (chosen (f .rows) cs)) t c f cs
+  pub text-reads : (cs : List Configuration) → verdictOf f cs ≡ accepted → (t : Tables) (c : List ℕ) → Room S x f t c → Reads S x (textOf (chosen (f .rows) cs)) t c f cs
   text-reads cs v t c room =
-      good-all H x (textOf (chosen (f .rows) cs)) (roomsOf t) (length c) f cs (room .tables)
-      (files-choices-back H x (roomsOf t) f solutionFile (length c) cs (room .tables) (are-offered f cs v) (room .choices))
+      good-all S x (textOf (chosen (f .rows) cs)) (roomsOf t) (length c) f cs (room .tables)
+      (files-choices-back S x (roomsOf t) f solutionFile (length c) cs (room .tables) (are-offered f cs v) (room .choices))
 
-  pub text-reads-back : (cs : List Configuration) → verdictOf f cs ≡ accepted → ReadsBack H x f cs (textOf (chosen (f .rows) cs))
+  pub text-reads-back : (cs : List Configuration) → verdictOf f cs ≡ accepted → ReadsBack S x f cs (textOf (chosen (f .rows) cs))
   text-reads-back cs v k room =
       let w : Whole = record { files = f; choices = cs } in
       let text = textOf (chosen (f .rows) cs) in
       let reads = text-reads cs v (k .lent) (k .lentChoices) room in (
-        k .keeps .answer ∙ checked-answer H x text (k .lent) (k .lentChoices) w reads ∙ answer-accepted solutionFile (verdictOf f cs) .1 v,
-        ap (take (length (flat configurationNumbers cs))) (k .keeps .choices ∙ check-choices H x text (k .lent) (k .lentChoices) w reads)
+        k .keeps .answer ∙ checked-answer S x text (k .lent) (k .lentChoices) w reads ∙ answer-accepted solutionFile (verdictOf f cs) .1 v,
+        ap (take (length (flat configurationNumbers cs))) (k .keeps .choices ∙ check-choices S x text (k .lent) (k .lentChoices) w reads)
             ∙ over-front (flat configurationNumbers cs) (k .lentChoices),
       )
 
-  module _ {direction : Direction} {a b : List ℕ} {s r : List Configuration} (k : MergeOutcome direction H x a b)
-      (e : BothRead H x a b (k .lent) (k .lentChoices) (k .lentSecond) f s r) where
+  module _ {direction : Direction} {a b : List ℕ} {s r : List Configuration} (k : MergeOutcome direction S x a b)
+      (e : BothRead S x a b (k .lent) (k .lentChoices) (k .lentSecond) f s r) where
     abbrev both : Both
     both = record { files = f; first = s; second = r }
 
     abbrev said : Merged
-    said = merged (mergeOf direction) H x a b (k .lent) (k .lentChoices) (k .lentSecond) (k .lentText)
+    said = merged (mergeOf direction) S x a b (k .lent) (k .lentChoices) (k .lentSecond) (k .lentText)
 
     abbrev new : List ℕ
     new = textOf (chosen (f .rows) (mergeOf direction s r))
 
-    files : filesOf H x (roomsOf (k .lent)) ≡ good f
-    files = both-good H x a b (roomsOf (k .lent)) (length (k .lentChoices)) (length (k .lentSecond)) both e .0
+    files : filesOf S x (roomsOf (k .lent)) ≡ good f
+    files = both-good S x a b (roomsOf (k .lent)) (length (k .lentChoices)) (length (k .lentSecond)) both e .0
 
     kinds : All OfKind (f .document .constraints)
-    kinds = files-kinds H x (roomsOf (k .lent)) f files
+    kinds = files-kinds S x (roomsOf (k .lent)) f files
 
     -- where all is as it should be the text limit suffices
     short : verdictOf f (mergeOf direction s r) ≡ accepted → length new ≤ mostText
     short v =
-        let g = files-good H x (roomsOf (k .lent)) f files in
-        text-short H (g .horizon .1) (chosen (f .rows) (mergeOf direction s r))
-        (chosen-lawful H (f .rows) (mergeOf direction s r) (g .timetable .lawful) (are-offered f (mergeOf direction s r) v))
+        let g = files-good S x (roomsOf (k .lent)) f files in
+        text-short (S .horizon) (g .horizon .1) (chosen (f .rows) (mergeOf direction s r))
+        (chosen-lawful (S .horizon) (f .rows) (mergeOf direction s r) (g .timetable .lawful) (are-offered f (mergeOf direction s r) v))
 
     lengths : verdictOf f s ≡ accepted → verdictOf f r ≡ accepted → length s ≡ length r
     lengths v w = sym (offered-length (f .rows) s (are-offered f s v)) ∙ offered-length (f .rows) r (are-offered f r w)
@@ -207,51 +208,51 @@ module _ {H : ℕ} {x : Texts} {f : Files} where
       where
         there : said .answer ≡ Accepted → AllRight
         there h =
-            let q = merge-accepted (mergeOf direction) H x a b (k .lent) (k .lentChoices) (k .lentSecond) (k .lentText) both e .0 h in
+            let q = merge-accepted (mergeOf direction) S x a b (k .lent) (k .lentChoices) (k .lentSecond) (k .lentText) both e .0 h in
             (q .0, q .1, unequal-none s r (lengths (q .0) (q .1)) .0 (q .2), leb-true _ _ (and-first (leb (length new) (length (k .lentText))) (leb (length new) mostText) (q .3)))
 
         back : AllRight → said .answer ≡ Accepted
         back h =
             let q = fits (h .0) (h .1) (h .2) (h .3) in
-            merge-accepted (mergeOf direction) H x a b (k .lent) (k .lentChoices) (k .lentSecond) (k .lentText) both e .1 (h .0, h .1, q .0, q .1)
+            merge-accepted (mergeOf direction) S x a b (k .lent) (k .lentChoices) (k .lentSecond) (k .lentText) both e .1 (h .0, h .1, q .0, q .1)
 
     wrote : said .answer ≡ Accepted → writtenBy k ≡ new
     wrote h =
-        let is = merge-written (mergeOf direction) H x a b (k .lent) (k .lentChoices) (k .lentSecond) (k .lentText) both e h in
+        let is = merge-written (mergeOf direction) S x a b (k .lent) (k .lentChoices) (k .lentSecond) (k .lentText) both e h in
         ap₂ take (k .keeps .length ∙ ap (λ (q : Merged). q .length) is) (k .keeps .text ∙ ap (λ (q : Merged). q .text) is) ∙ over-front new (k .lentText)
 
     merge-judges : MergeJudges k f s r
     merge-judges =
         let says = k .keeps .answer in
-        let good-for : (cs : List Configuration) → (verdictOf f cs ≡ accepted) ↔ AcceptableIn f cs = λ cs. fair f cs H x (roomsOf (k .lent)) files in
+        let good-for : (cs : List Configuration) → (verdictOf f cs ≡ accepted) ↔ AcceptableIn f cs = λ cs. fair f cs S x (roomsOf (k .lent)) files in
         record {
           accepted = (
             λ h. let q = right .0 (sym says ∙ h) in (good-for s .0 (q .0), good-for r .0 (q .1), q .2, q .3),
             λ h. says ∙ right .1 (good-for s .1 (h .0), good-for r .1 (h .1), h .2, h .3),
           );
           violated = λ v. (
-            λ h. there v (merge-violated (mergeOf direction) H x a b (k .lent) (k .lentChoices) (k .lentSecond) (k .lentText) both e v .0 (sym says ∙ h)),
-            λ h. says ∙ merge-violated (mergeOf direction) H x a b (k .lent) (k .lentChoices) (k .lentSecond) (k .lentText) both e v .1 (back v h),
+            λ h. there v (merge-violated (mergeOf direction) S x a b (k .lent) (k .lentChoices) (k .lentSecond) (k .lentText) both e v .0 (sym says ∙ h)),
+            λ h. says ∙ merge-violated (mergeOf direction) S x a b (k .lent) (k .lentChoices) (k .lentSecond) (k .lentText) both e v .1 (back v h),
           );
           not-refused = λ same room h.
-              merge-decided (mergeOf direction) H x a b (k .lent) (k .lentChoices) (k .lentSecond) (k .lentText) both e (λ v w. fits v w same room) (refused-as says h);
+              merge-decided (mergeOf direction) S x a b (k .lent) (k .lentChoices) (k .lentSecond) (k .lentText) both e (λ v w. fits v w same room) (refused-as says h);
           written = λ h. wrote (sym says ∙ h);
           reads-back = λ h.
               let q = right .0 (sym says ∙ h) in
-              subst (λ text. ReadsBack H x f (mergeOf direction s r) text) (sym (wrote (sym says ∙ h)))
+              subst (λ text. ReadsBack S x f (mergeOf direction s r) text) (sym (wrote (sym says ∙ h)))
               (text-reads-back (mergeOf direction s r) (merge-fair direction f s r (q .2) (q .0) (q .1)));
         }
       where
         there : (v : Violation) → (answerOf solutionFile (verdictOf f s) ≡ Violated v) ⊎ ((verdictOf f s ≡ accepted) × (answerOf secondFile (verdictOf f r) ≡ Violated v))
             → FirstFailure f s solutionFile v ⊎ (AcceptableIn f s × FirstFailure f r secondFile v)
         there v (inl h) = inl (verdict-names f s kinds solutionFile v .0 h)
-        there v (inr h) = inr (fair f s H x (roomsOf (k .lent)) files .0 (h .0), verdict-names f r kinds secondFile v .0 (h .1))
+        there v (inr h) = inr (fair f s S x (roomsOf (k .lent)) files .0 (h .0), verdict-names f r kinds secondFile v .0 (h .1))
 
         back : (v : Violation) → FirstFailure f s solutionFile v ⊎ (AcceptableIn f s × FirstFailure f r secondFile v)
             → (answerOf solutionFile (verdictOf f s) ≡ Violated v) ⊎ ((verdictOf f s ≡ accepted) × (answerOf secondFile (verdictOf f r) ≡ Violated v))
         back v (inl h) = inl (verdict-names f s kinds solutionFile v .1 h)
-        back v (inr h) = inr (fair f s H x (roomsOf (k .lent)) files .1 (h .0), verdict-names f r kinds secondFile v .1 (h .1))
+        back v (inr h) = inr (fair f s S x (roomsOf (k .lent)) files .1 (h .0), verdict-names f r kinds secondFile v .1 (h .1))
 
 -- THE DEMAND
-pub demand-two : (H : ℕ) (x : Texts) (f : Files) → DemandTwo H x f
-demand-two H x f = record { check = check-judges; energy = energy-judges; merge = merge-judges }
+pub demand-two : (S : Stated) (x : Texts) (f : Files) → DemandTwo S x f
+demand-two S x f = record { check = check-judges; energy = energy-judges; merge = merge-judges }

@@ -4,3 +4,5 @@ pub mod Answers
 pub mod DemandOne
 pub mod DemandTwo
 pub mod DemandThree
+-- Files in two editions
+pub mod Twins

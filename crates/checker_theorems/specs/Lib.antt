@@ -1,1 +1,3 @@
 pub mod Demands
+-- Files in two editions
+pub mod Twins

@@ -13,8 +13,9 @@ use Rattle.rules.specs.Lists.{flat, over}
 use Rattle.rules.specs.Tokens.{tokensOf}
 use Rattle.rules.specs.Kinds.{headway, singleTrack, dwell, turnaround}
 use Rattle.rules.specs.Answers.{refusal, tooLong, constraintsFile, Reading, refused, good}
-use Rattle.rules.specs.Constraints.{Document, empty, start, plainRules, run, constraintsOf, ordered, constraintNumbers, trackNumbers}
+use Rattle.rules.specs.Constraints.{Document, empty, start, run, constraintsOf, ordered, constraintNumbers, trackNumbers}
 use Rattle.rules.specs.declared.sizes.Constraint.{Constraint}
+use Rattle.rules.specs.declared.tokens.Rules.{Rules}
 use Rattle.rules.specs.Verdict.{All}
 use Rattle.rules_theorems.specs.LawfulDocument.{LawfulConstraint, LawfulDocument}
 use Rattle.rules_theorems.proofs.All.{all-at}
@@ -49,28 +50,28 @@ never r number place seen p q = let z : _≡_ {A = ℕ} 0 1 = cc in absurd (omeg
 read-one : {x y : Document} → good x ≡ good y → x ≡ y
 read-one q = cc
 
-module _ (text legs : List ℕ) (n : ℕ) (c t : List ℕ) where
+module _ (rules : Rules) (text legs : List ℕ) (n : ℕ) (c t : List ℕ) where
   -- ---- a text that is too long
 
-  pub reads-long : mostText < length text → Reads (reading text legs n c t) c t (NotRead tooLong 0) c t
+  pub reads-long : mostText < length text → Reads (reading rules text legs n c t) c t (NotRead tooLong 0) c t
   unfolding constraintsOf
   reads-long h =
-      let whole : reading text legs n c t ≡ refused (refusal tooLong constraintsFile 0) = rw (lt-leb (length text) mostText h) in
+      let whole : reading rules text legs n c t ≡ refused (refusal tooLong constraintsFile 0) = rw (lt-leb (length text) mostText h) in
       record { answer = sym (ap readOf whole); tables = λ d e. impossible (sym whole ∙ e) }
     where
       impossible : {A : Type 0} {d : Document} → refused (refusal tooLong constraintsFile 0) ≡ good d → A
       impossible q = let z : _≡_ {A = ℕ} 0 1 = cc in absurd (omega arith)
 
   module _ (short : length text ≤ mostText) where
-    same : reading text legs n c t ≡ outcome text legs n c t
+    same : reading rules text legs n c t ≡ outcome rules text legs n c t
     unfolding constraintsOf
     same = rw (le-leb (length text) mostText short)
 
     -- ---- a document that was read
 
-    module _ (d : Document) (whole : outcome text legs n c t ≡ good d) where
+    module _ (d : Document) (whole : outcome rules text legs n c t ≡ good d) where
       lawful : LawfulDocument (column legWidth n legs) (length c / constraintWidth) (length t / trackWidth) d
-      lawful = good-is-lawful (column legWidth n legs) (length c / constraintWidth) (length t / trackWidth) plainRules text d (same ∙ whole)
+      lawful = good-is-lawful (column legWidth n legs) (length c / constraintWidth) (length t / trackWidth) rules text d (same ∙ whole)
 
       known : All OfKind (d .constraints)
       known = kinds-known (column legWidth n legs) (d .constraints) (lawful .tables .constraints-lawful .each)
@@ -123,10 +124,10 @@ module _ (text legs : List ℕ) (n : ℕ) (c t : List ℕ) where
 
     -- ---- the first walk
 
-    module _ (r : Walked) (counts c₁ t₁ : List ℕ) (w : Walks none false (outcome text legs n c t) c t r counts c₁ t₁) where
-      pub reads-refused : (number place : ℕ) → r ≡ Refused number place → Reads (reading text legs n c t) c t (NotRead number place) c₁ t₁
+    module _ (r : Walked) (counts c₁ t₁ : List ℕ) (w : Walks none false (outcome rules text legs n c t) c t r counts c₁ t₁) where
+      pub reads-refused : (number place : ℕ) → r ≡ Refused number place → Reads (reading rules text legs n c t) c t (NotRead number place) c₁ t₁
       unfolding Walks
-      reads-refused number place is = rw same (go (outcome text legs n c t) w)
+      reads-refused number place is = rw same (go (outcome rules text legs n c t) w)
         where
           go : (o : Reading Document) → Walks none false o c t r counts c₁ t₁ → Reads o c t (NotRead number place) c₁ t₁
           go (refused x) q =
@@ -136,9 +137,9 @@ module _ (text legs : List ℕ) (n : ℕ) (c t : List ℕ) where
       module _ (seen : Counts) (is : r ≡ Good seen) where
         pub few-counted : beforeLast counts ≤ mostConstraints
         unfolding Walks
-        few-counted = go (outcome text legs n c t) refl w
+        few-counted = go (outcome rules text legs n c t) refl w
           where
-            go : (o : Reading Document) → outcome text legs n c t ≡ o → Walks none false o c t r counts c₁ t₁
+            go : (o : Reading Document) → outcome rules text legs n c t ≡ o → Walks none false o c t r counts c₁ t₁
                 → beforeLast counts ≤ mostConstraints
             go (refused x) e q = never r (x .number) (x .place) seen q is
             go (good d) e q = few d e counts (q .places)
@@ -147,19 +148,19 @@ module _ (text legs : List ℕ) (n : ℕ) (c t : List ℕ) where
 
         pub long-enough : length c₁ ≡ length c → Records constraintWidth (seen .constraints) c₁
         unfolding Walks
-        long-enough long-c = go (outcome text legs n c t) refl w
+        long-enough long-c = go (outcome rules text legs n c t) refl w
           where
-            go : (o : Reading Document) → outcome text legs n c t ≡ o → Walks none false o c t r counts c₁ t₁ → Records constraintWidth (seen .constraints) c₁
+            go : (o : Reading Document) → outcome rules text legs n c t ≡ o → Walks none false o c t r counts c₁ t₁ → Records constraintWidth (seen .constraints) c₁
             go (refused x) e q = never r (x .number) (x .place) seen q is
             go (good d) e q =
                 let seen-is : seen ≡ countsOf d = cc (q .answer, is) in
                 record { one = omega arith; whole = rw seen-is (omega (arith, room d e)) }
 
-        pub reads-once : Upward (seen .constraints) c₁ → Reads (reading text legs n c t) c t (Whole (seen .constraints) (seen .tracks) (seen .subnets)) c₁ t₁
+        pub reads-once : Upward (seen .constraints) c₁ → Reads (reading rules text legs n c t) c t (Whole (seen .constraints) (seen .tracks) (seen .subnets)) c₁ t₁
         unfolding Walks
-        reads-once up = rw same (go (outcome text legs n c t) refl w)
+        reads-once up = rw same (go (outcome rules text legs n c t) refl w)
           where
-            go : (o : Reading Document) → outcome text legs n c t ≡ o → Walks none false o c t r counts c₁ t₁
+            go : (o : Reading Document) → outcome rules text legs n c t ≡ o → Walks none false o c t r counts c₁ t₁
                 → Reads o c t (Whole (seen .constraints) (seen .tracks) (seen .subnets)) c₁ t₁
             go (refused x) e p = never r (x .number) (x .place) seen p is
             go (good d) e p =
@@ -173,18 +174,18 @@ module _ (text legs : List ℕ) (n : ℕ) (c t : List ℕ) where
         -- ---- and the second
 
         pub reads-whole : (starts : List ℕ) (r₂ : Walked) (next c₂ t₂ : List ℕ) → starts ≡ startsOf counts → length c₁ ≡ length c → length t₁ ≡ length t
-            → Walks starts true (outcome text legs n c₁ t₁) c₁ t₁ r₂ next c₂ t₂
-            → Reads (reading text legs n c t) c t (Whole (seen .constraints) (seen .tracks) (seen .subnets)) c₂ t₂
+            → Walks starts true (outcome rules text legs n c₁ t₁) c₁ t₁ r₂ next c₂ t₂
+            → Reads (reading rules text legs n c t) c t (Whole (seen .constraints) (seen .tracks) (seen .subnets)) c₂ t₂
         unfolding Walks
-        reads-whole starts r₂ next c₂ t₂ at long-c long-t second = rw same (go (outcome text legs n c t) refl w again)
+        reads-whole starts r₂ next c₂ t₂ at long-c long-t second = rw same (go (outcome rules text legs n c t) refl w again)
           where
-            again : Walks (startsOf counts) true (outcome text legs n c t) c₁ t₁ r₂ next c₂ t₂
+            again : Walks (startsOf counts) true (outcome rules text legs n c t) c₁ t₁ r₂ next c₂ t₂
             again =
-                subst (λ (k : ℕ). Walks (startsOf counts) true (run (column legWidth n legs) (length c / constraintWidth) (k / trackWidth) (start plainRules) empty (tokensOf text)) c₁ t₁ r₂ next c₂ t₂) long-t
-                (subst (λ (k : ℕ). Walks (startsOf counts) true (run (column legWidth n legs) (k / constraintWidth) (length t₁ / trackWidth) (start plainRules) empty (tokensOf text)) c₁ t₁ r₂ next c₂ t₂) long-c
-                (subst (λ (l : List ℕ). Walks l true (outcome text legs n c₁ t₁) c₁ t₁ r₂ next c₂ t₂) at second))
+                subst (λ (k : ℕ). Walks (startsOf counts) true (run (column legWidth n legs) (length c / constraintWidth) (k / trackWidth) (start rules) empty (tokensOf text)) c₁ t₁ r₂ next c₂ t₂) long-t
+                (subst (λ (k : ℕ). Walks (startsOf counts) true (run (column legWidth n legs) (k / constraintWidth) (length t₁ / trackWidth) (start rules) empty (tokensOf text)) c₁ t₁ r₂ next c₂ t₂) long-c
+                (subst (λ (l : List ℕ). Walks l true (outcome rules text legs n c₁ t₁) c₁ t₁ r₂ next c₂ t₂) at second))
 
-            go : (o : Reading Document) → outcome text legs n c t ≡ o → Walks none false o c t r counts c₁ t₁
+            go : (o : Reading Document) → outcome rules text legs n c t ≡ o → Walks none false o c t r counts c₁ t₁
                 → Walks (startsOf counts) true o c₁ t₁ r₂ next c₂ t₂ → Reads o c t (Whole (seen .constraints) (seen .tracks) (seen .subnets)) c₂ t₂
             go (refused x) e p q = never r (x .number) (x .place) seen p is
             go (good d) e p q =

@@ -11,11 +11,12 @@ use Rattle.rules.specs.Limits.{mostConstraints, mostSubnets, mostTracks, legWid
 use Rattle.rules.specs.Lists.{flat, over}
 use Rattle.rules.specs.Answers.{refusal, constraintsFile, Reading, refused, good}
 use Rattle.rules.specs.Tokens.{Token}
-use Rattle.rules.specs.Constraints.{Document, empty, withConstraint, withSubnet, withId, withTrack, start, plainRules, Turn, fault, on, finish, act, actionOf, turnOf, onward, run, past, constraintNumbers, trackNumbers}
+use Rattle.rules.specs.Constraints.{Document, empty, withConstraint, withSubnet, withId, withTrack, start, Turn, fault, on, finish, act, actionOf, turnOf, onward, run, past, constraintNumbers, trackNumbers}
 use Rattle.rules.specs.declared.tokens.Class.{Class}
 use Rattle.rules.specs.declared.tokens.Class.the-variants.{OpenBrace, CloseBrace, OpenBracket, CloseBracket, Colon, Comma, Quoted, Run, End, Unclosed, Forbidden}
 use Rattle.rules.specs.declared.tokens.Phase.{Phase}
 use Rattle.rules.specs.declared.tokens.Phase.the-variants.{Document as Text, FirstName, Name, NameColon, ListOpen, AfterList, FirstRecord, Record, AfterRecord, FirstKey, NextKey, KeyColon, Value, AfterValue, FirstTrack, NextTrack, AfterTrack, Done}
+use Rattle.rules.specs.declared.tokens.Rules.{Rules}
 use Rattle.rules.specs.declared.tokens.State.{State}
 use Rattle.rules.specs.Verdict.{All}
 use Rattle.rules_theorems.specs.LawfulDocument.{LawfulDocument, LawfulTrack}
@@ -152,9 +153,17 @@ pub record Few (seen : Counts) : Type 0 where
   pub subnets : seen .subnets ≤ mostSubnets
   pub ids : seen .ids ≤ mostSubnets
 
+-- ---- the rules of a walk are those of its first state
+
+pub began-by : {rules : Rules} {st : State} → st ≡ start rules → st .rules ≡ rules
+began-by e = ap (λ (s : State). s .rules) e
+
+pub started : {rules : Rules} {st : State} → st ≡ start rules → st ≡ start (st .rules)
+started e = e ∙ ap start (sym (began-by e))
+
 -- ---- between two tokens
 
-module _ (text legs : List ℕ) (n : ℕ) (c₀ t₀ s₀ : List ℕ) (sorts : Bool) where
+module _ (rules : Rules) (text legs : List ℕ) (n : ℕ) (c₀ t₀ s₀ : List ℕ) (sorts : Bool) where
   abbrev Legs : List ℕ
   Legs = column legWidth n legs
 
@@ -167,7 +176,7 @@ module _ (text legs : List ℕ) (n : ℕ) (c₀ t₀ s₀ : List ℕ) (sorts : B
   -- d is what has been read; what is left of the run gives the whole run's outcome
   pub record Going (at : ℕ) (st : State) (seen : Counts) (ids next c t : List ℕ) : Type 0 where
     pub d : Document
-    pub runs : outcome text legs n c₀ t₀ ≡ run Legs C T st d (tokensAt text at)
+    pub runs : outcome rules text legs n c₀ t₀ ≡ run Legs C T st d (tokensAt text at)
     pub keeps : Keeps Legs C T st d
     pub inside : at ≤ length text
     pub counted : seen ≡ countsOf d
@@ -177,14 +186,14 @@ module _ (text legs : List ℕ) (n : ℕ) (c₀ t₀ s₀ : List ℕ) (sorts : B
     pub table : c ≡ written sorts s₀ c₀ (d .constraints)
     pub tracks : t ≡ over (flat trackNumbers (d .tracks)) t₀
 
-  pub going-start : (st : State) (seen : Counts) → st ≡ start plainRules → seen ≡ countsOf empty
+  pub going-start : (st : State) (seen : Counts) → st ≡ start rules → seen ≡ countsOf empty
       → Going 0 st seen (replicate mostSubnets 0) s₀ c₀ t₀
   unfolding over
   going-start st seen e q =
       record {
         d = empty;
         runs = rw (e, tokens-start text);
-        keeps = rw e (start-keeps Legs C T plainRules);
+        keeps = rw e (start-keeps Legs C T rules);
         inside = omega arith;
         counted = q;
         ids-long = refl;
@@ -268,7 +277,7 @@ module _ (text legs : List ℕ) (n : ℕ) (c₀ t₀ s₀ : List ℕ) (sorts : B
       taken : turned r (g .d) ≡ turnOf Legs C T st (g .d) (found text tk)
       taken = rw (room-c, room-t) at (acts (g .d) tied)
 
-      left : outcome text legs n c₀ t₀ ≡ onward Legs C T (turned r (g .d)) Rest
+      left : outcome rules text legs n c₀ t₀ ≡ onward Legs C T (turned r (g .d)) Rest
       unfolding run
       left = g .runs ∙ ap (run Legs C T st (g .d)) (s .tokens) ∙ ap (λ (x : Turn). onward Legs C T x Rest) (sym taken)
 
@@ -276,7 +285,7 @@ module _ (text legs : List ℕ) (n : ℕ) (c₀ t₀ s₀ : List ℕ) (sorts : B
       in-text = omega (arith, past-found text tk (s .starts), s .within)
 
       record Next (x : State) (d′ : Document) : Type 0 where
-        runs : outcome text legs n c₀ t₀ ≡ run Legs C T x d′ (tokensAt text (tk .next))
+        runs : outcome rules text legs n c₀ t₀ ≡ run Legs C T x d′ (tokensAt text (tk .next))
         keeps : Keeps Legs C T x d′
         onward : at < tk .next
 
@@ -424,18 +433,22 @@ module _ (text legs : List ℕ) (n : ℕ) (c₀ t₀ s₀ : List ℕ) (sorts : B
                 ∙ ap (λ (w : List ℕ). over w t₀) (sym (flat-append trackNumbers (g .d .tracks) (one ∷ []))));
           })
 
-      -- ---- the last token
+      -- ---- the last token, by the rules that the walk began with
 
-      pub ends-good : (x : State) → r ≡ Finish x → Walks s₀ sorts (outcome text legs n c₀ t₀) c₀ t₀ (Good seen) next c t
-      unfolding Walks
-      ends-good x is =
-          let whole : outcome text legs n c₀ t₀ ≡ good (g .d) = left ∙ ap (λ (y : Step). onward Legs C T (turned y (g .d)) Rest) is in
-          subst (λ (o : Reading Document). Walks s₀ sorts o c₀ t₀ (Good seen) next c t) (sym whole)
-          (record { answer = ap Good (g .counted); places = g .places; table = g .table; tracks = g .tracks })
+      module _ {by : Rules} (same : rules ≡ by) where
+        ends-by : outcome by text legs n c₀ t₀ ≡ onward Legs C T (turned r (g .d)) Rest
+        ends-by = ap (λ (q : Rules). outcome q text legs n c₀ t₀) (sym same) ∙ left
 
-      pub ends-refused : (number place : ℕ) → r ≡ Fault number place → Walks s₀ sorts (outcome text legs n c₀ t₀) c₀ t₀ (Refused number place) next c t
-      unfolding Walks
-      ends-refused number place is =
-          let whole : outcome text legs n c₀ t₀ ≡ refused (refusal number constraintsFile place) =
-          left ∙ ap (λ (y : Step). onward Legs C T (turned y (g .d)) Rest) is in
-          subst (λ (o : Reading Document). Walks s₀ sorts o c₀ t₀ (Refused number place) next c t) (sym whole) refl
+        pub ends-good : (x : State) → r ≡ Finish x → Walks s₀ sorts (outcome by text legs n c₀ t₀) c₀ t₀ (Good seen) next c t
+        unfolding Walks
+        ends-good x is =
+            let whole : outcome by text legs n c₀ t₀ ≡ good (g .d) = ends-by ∙ ap (λ (y : Step). onward Legs C T (turned y (g .d)) Rest) is in
+            subst (λ (o : Reading Document). Walks s₀ sorts o c₀ t₀ (Good seen) next c t) (sym whole)
+            (record { answer = ap Good (g .counted); places = g .places; table = g .table; tracks = g .tracks })
+
+        pub ends-refused : (number place : ℕ) → r ≡ Fault number place → Walks s₀ sorts (outcome by text legs n c₀ t₀) c₀ t₀ (Refused number place) next c t
+        unfolding Walks
+        ends-refused number place is =
+            let whole : outcome by text legs n c₀ t₀ ≡ refused (refusal number constraintsFile place) =
+            ends-by ∙ ap (λ (y : Step). onward Legs C T (turned y (g .d)) Rest) is in
+            subst (λ (o : Reading Document). Walks s₀ sorts o c₀ t₀ (Refused number place) next c t) (sym whole) refl

@@ -8,7 +8,8 @@ use Rattle.rules.specs.Limits.{mostText, mostLegs, mostConstraints, legWidth, c
 use Rattle.rules.specs.Lists.{flat, over}
 use Rattle.rules.specs.Answers.{Reading, refused, good}
 use Rattle.rules.specs.Tokens.{tokensOf}
-use Rattle.rules.specs.Constraints.{Document, empty, start, plainRules, run, constraintsOf, ordered, constraintNumbers, trackNumbers}
+use Rattle.rules.specs.Constraints.{Document, empty, start, run, constraintsOf, ordered, constraintNumbers, trackNumbers}
+use Rattle.rules.specs.declared.tokens.Rules.{Rules}
 use Rattle.tables_ids.specs.Column.{Sought, column}
 use Rattle.constraints_states.specs.Steps.{countsOf}
 use Rattle.constraints_tables.specs.Places.{nexts, written}
@@ -20,9 +21,9 @@ use Rattle.constraints.specs.declared.Read.the-variants.{Whole, Refused 
 -- ---- a walk
 
 -- what a text of at most the greatest length says, with these legs and this room
-abbrev pub outcome : (text legs : List ℕ) (n : ℕ) (constraints tracks : List ℕ) → Reading Document
-outcome text legs n constraints tracks =
-    run (column legWidth n legs) (length constraints / constraintWidth) (length tracks / trackWidth) (start plainRules) empty (tokensOf text)
+abbrev pub outcome : (rules : Rules) (text legs : List ℕ) (n : ℕ) (constraints tracks : List ℕ) → Reading Document
+outcome rules text legs n constraints tracks =
+    run (column legWidth n legs) (length constraints / constraintWidth) (length tracks / trackWidth) (start rules) empty (tokensOf text)
 
 -- the next places and the tables c and t before, those and c′ and t′ after
 pub record Filled (starts : List ℕ) (sorts : Bool) (d : Document) (c t : List ℕ) (r : Walked) (next c′ t′ : List ℕ) : Type 0 where
@@ -48,9 +49,9 @@ abbrev pub readOf : Reading Document → Read
 readOf (refused x) = NotRead (x .number) (x .place)
 readOf (good d) = Whole (length (d .constraints)) (length (d .tracks)) (d .opened)
 
-abbrev pub reading : (text legs : List ℕ) (n : ℕ) (constraints tracks : List ℕ) → Reading Document
-reading text legs n constraints tracks =
-    constraintsOf (column legWidth n legs) (length constraints / constraintWidth) (length tracks / trackWidth) plainRules text
+abbrev pub reading : (rules : Rules) (text legs : List ℕ) (n : ℕ) (constraints tracks : List ℕ) → Reading Document
+reading rules text legs n constraints tracks =
+    constraintsOf (column legWidth n legs) (length constraints / constraintWidth) (length tracks / trackWidth) rules text
 
 -- by kind and then by file; tracks in file order; what lies past them keeps its contents
 pub record Tables (d : Document) (c t c′ t′ : List ℕ) : Type 0 where

@@ -9,6 +9,7 @@ use constraints_tables::starts_of;
 use rules::answers::Refusal;
 use rules::sizes::Leg;
 use rules::sizes::Text;
+use rules::tokens::Rules;
 use tables_ids::rising_of;
 use walks::Walked;
 use walks::walk;
@@ -27,6 +28,7 @@ pub enum Read {
 // The first walk judges the text, writes tracks and constraints as they come and counts those of each kind.
 // Files mostly have them by kind; where a file does not, a second walk sorts them.
 pub fn read_constraints(
+    rules: Rules,
     text: &[u8],
     legs: &[u32],
     n: usize,
@@ -34,7 +36,7 @@ pub fn read_constraints(
     tracks: &mut [u32],
 ) -> Read
     requires { ⌜ Apart legWidth n (now legs) × (n ≤ mostLegs) ⌝ }
-    ensures { λ r. ⌜ Reads (reading (now (text .entry)) (now (legs .entry)) n (now (constraints .entry)) (now (tracks .entry))) (now (constraints .entry)) (now (tracks .entry)) r (now (constraints .exit)) (now (tracks .exit)) ⌝ }
+    ensures { λ r. ⌜ Reads (reading rules (now (text .entry)) (now (legs .entry)) n (now (constraints .entry)) (now (tracks .entry))) (now (constraints .entry)) (now (tracks .entry)) r (now (constraints .exit)) (now (tracks .exit)) ⌝ }
 {
     if Text::MOST < text.len() {
         return Read::Refused(Refusal::TOO_LONG, 0);
@@ -42,6 +44,7 @@ pub fn read_constraints(
     let rising = rising_of(legs, Leg::WIDTH, n);
     let mut counts = [0usize; PLACES];
     match walk(
+        rules,
         text,
         legs,
         n,
@@ -58,7 +61,17 @@ pub fn read_constraints(
                 return Read::Whole(read, seen.tracks, seen.subnets);
             }
             let mut next = starts_of(counts);
-            walk(text, legs, n, rising, constraints, tracks, &mut next, true);
+            walk(
+                rules,
+                text,
+                legs,
+                n,
+                rising,
+                constraints,
+                tracks,
+                &mut next,
+                true,
+            );
             Read::Whole(seen.constraints, seen.tracks, seen.subnets)
         }
     }

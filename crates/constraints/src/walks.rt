@@ -10,6 +10,7 @@ use constraints_states::states::starting;
 use constraints_tokens::token_at;
 use constraints_turn::turn;
 use rules::sizes::Subnet;
+use rules::tokens::Rules;
 
 pub enum Walked {
     Good(Counts),
@@ -19,6 +20,7 @@ pub enum Walked {
 
 // Tracks are written as they come, and so are constraints; in a walk that sorts, each constraint at the next place of its kind.
 pub fn walk(
+    rules: Rules,
     text: &[u8],
     legs: &[u32],
     n: usize,
@@ -29,13 +31,13 @@ pub fn walk(
     sorts: bool,
 ) -> Walked
     requires { ⌜ Able (now text) (now legs) n rising (now next) ⌝ }
-    ensures { λ r. ⌜ Walks (now (next .entry)) sorts (outcome (now (text .entry)) (now (legs .entry)) n (now (constraints .entry)) (now (tracks .entry)))
+    ensures { λ r. ⌜ Walks (now (next .entry)) sorts (outcome rules (now (text .entry)) (now (legs .entry)) n (now (constraints .entry)) (now (tracks .entry)))
         (now (constraints .entry)) (now (tracks .entry)) r (now (next .exit)) (now (constraints .exit)) (now (tracks .exit)) ⌝ }
 {
     let room = Room::of(constraints.len(), tracks.len());
     let mut seen = Counts::none();
     let mut ids = [0u32; Subnet::MOST];
-    let mut st = starting();
+    let mut st = starting(rules);
     let mut at: usize = 0;
     loop {
         let t = token_at(text, at);

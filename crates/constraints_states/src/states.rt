@@ -9,12 +9,9 @@ use rules::tokens::Rules;
 use rules::tokens::State;
 
 // Before the first token.
-pub fn starting() -> State
-    ensures { λ r. ⌜ r ≡ law.start law.plainRules ⌝ }
+pub fn starting(rules: Rules) -> State
+    ensures { λ r. ⌜ r ≡ law.start rules ⌝ }
 {
-    let rules = Rules {
-        required: Lists::ALL,
-    };
     let phase = Phase::Document;
     let entry = Constraint {
         kind: 0,

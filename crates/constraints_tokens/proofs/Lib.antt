@@ -1,3 +1,4 @@
 pub mod Scan
 pub mod Here
 pub mod Chosen
+pub mod Editions

@@ -1,8 +1,9 @@
 // The names of lists, of keys and of connection types, by spelling; 0 where a word is none of them.
 ghost use mathlib.Core.Path.{_≡_};
 ghost use lib.ListN.{drop};
-ghost use Rattle.rules.specs.Kinds.{dwell, turnaround, minHeadway, maxConnection, listNames, numberFrom, bitFrom, listNamed, keyNamed, typeNamed};
+ghost use Rattle.rules.specs.Kinds.{dwell, turnaround, minHeadway, maxConnection, listNames, numberFrom, bitFrom, listNamed, keyNamed, keyIn, typeNamed};
 ghost use Rattle.constraints_tokens.specs.Groups.{afterLegs, afterLeast};
+use rules::kinds::Edition;
 use rules::kinds::Key;
 use rules::kinds::Kind;
 use rules::sizes::Constraint;
@@ -90,6 +91,26 @@ pub fn key_named(word: &[u8]) -> u16
         return Key::SECOND_LEG;
     }
     seconds_key(word)
+}
+
+// The key that a word names in a record of a list: in kind 4's records the two names change places by edition 1.
+pub fn key_in(edition: u32, list: u8, word: &[u8]) -> u16
+    ensures { λ r. ⌜ r ≡ keyIn edition list (now (word .entry)) ⌝ }
+{
+    let key = key_named(word);
+    if edition != Edition::TABLE {
+        return key;
+    }
+    if list != Kind::TURNAROUND {
+        return key;
+    }
+    if key == Key::MIN_DWELL {
+        return Key::MIN_TURNAROUND;
+    }
+    if key == Key::MIN_TURNAROUND {
+        return Key::MIN_DWELL;
+    }
+    key
 }
 
 // The connection types.

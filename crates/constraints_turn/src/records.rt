@@ -3,7 +3,7 @@ ghost use mathlib.Core.Path.{_≡_};
 ghost use mathlib.Core.List.{List};
 ghost use Prim.Native.Nat.{ℕ, _≤_};
 ghost use lib.ListN.{length};
-ghost use Rattle.rules.specs.Kinds.{headway, subnets, listNamed, keyNamed};
+ghost use Rattle.rules.specs.Kinds.{headway, subnets, listNamed, keyIn};
 ghost use Rattle.rules.specs.Constraints as law;
 ghost use Rattle.rules.specs.Constraints.{Document};
 ghost use Rattle.rules.specs.Tokens.{Token};
@@ -96,9 +96,10 @@ fn keys_of(list: u8) -> u16
 
 // A key of another kind is unknown here.
 pub fn key_name(word: &[u8], st: State, place: u32) -> Step
-    ensures { λ r. ⌜ Always place (λ legs constraints tracks d t. law.keyName legs constraints tracks (keyNamed (now (word .entry))) st d t) r ⌝ }
+    ensures { λ r. ⌜ Always place (λ legs constraints tracks d t. law.keyName legs constraints tracks (keyIn (st .rules .edition) (st .list) (now (word .entry))) st d t) r ⌝ }
 {
-    let key = names::key_named(word);
+    let rules = st.rules;
+    let key = names::key_in(rules.edition, st.list, word);
     let keys = keys_of(st.list);
     if keys & key == 0 {
         return Step::Fault(Refusal::UNKNOWN, place);

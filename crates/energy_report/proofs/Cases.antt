@@ -12,6 +12,7 @@ use Rattle.rules.specs.Reading.{Texts}
 use Rattle.rules.specs.Verdict.{Verdict, accepted, violated, answerOf}
 use Rattle.rules.specs.Energy.{deskOf}
 use Rattle.rules.specs.Entries.{Tables, roomsOf, writtenTables, writtenChoices, verdictOf, Whole, allRead, Checked, checkedFrom, checked, noFigures, Reported, reportAccepted, reportJudged, reportFrom, reported}
+use Rattle.rules.specs.declared.stated.Stated.{Stated}
 
 -- short of acceptance, a report says what a check does, and leaves the tables as a check does
 pub record Short (k : Checked) (r : Reported) : Type 0 where
@@ -21,24 +22,24 @@ pub record Short (k : Checked) (r : Reported) : Type 0 where
   pub tables : r .tables ≡ k .tables
   pub choices : r .choices ≡ k .choices
 
-module _ (H : ℕ) (x : Texts) (s : List ℕ) (t : Tables) (c : List ℕ) (p : List ℤ) where
-  pub report-short : isAccepted (checked H x s t c .answer) ≡ false → Short (checked H x s t c) (reported H x s t c p)
+module _ (S : Stated) (x : Texts) (s : List ℕ) (t : Tables) (c : List ℕ) (p : List ℤ) where
+  pub report-short : isAccepted (checked S x s t c .answer) ≡ false → Short (checked S x s t c) (reported S x s t c p)
   unfolding checked reported
-  report-short = go (allRead H x s (roomsOf t) (length c))
+  report-short = go (allRead S x s (roomsOf t) (length c))
     where
       judgedAs : Verdict → Whole → Checked
       judgedAs v w = record { answer = answerOf solutionFile v; tables = writtenTables (w .files) t; choices = writtenChoices (w .choices) c }
 
-      judged : (v : Verdict) (w : Whole) → isAccepted (answerOf solutionFile v) ≡ false → Short (judgedAs v w) (reportJudged v H w t c p)
+      judged : (v : Verdict) (w : Whole) → isAccepted (answerOf solutionFile v) ≡ false → Short (judgedAs v w) (reportJudged v (S .horizon) w t c p)
       judged accepted w h = let z : _≡_ {A = ℕ} 0 1 = cc in absurd (omega arith)
       judged (violated k n i m) w h = record { answer = refl; figures = refl; desk = refl; tables = refl; choices = refl }
 
-      go : (m : Reading Whole) → isAccepted (checkedFrom m t c .answer) ≡ false → Short (checkedFrom m t c) (reportFrom m H t c p)
+      go : (m : Reading Whole) → isAccepted (checkedFrom m t c .answer) ≡ false → Short (checkedFrom m t c) (reportFrom m (S .horizon) t c p)
       go (refused r) h = record { answer = refl; figures = refl; desk = refl; tables = refl; choices = refl }
       go (good w) h = judged (verdictOf (w .files) (w .choices)) w h
 
   -- after acceptance the curve table has room, or not
-  module _ (w : Whole) (read : allRead H x s (roomsOf t) (length c) ≡ good w) (fair : verdictOf (w .files) (w .choices) ≡ accepted) where
-    pub report-fits : (fits : Bool) → leb (w .files .document .opened * H) (length p) ≡ fits → reported H x s t c p ≡ reportAccepted fits H w t c p
+  module _ (w : Whole) (read : allRead S x s (roomsOf t) (length c) ≡ good w) (fair : verdictOf (w .files) (w .choices) ≡ accepted) where
+    pub report-fits : (fits : Bool) → leb (w .files .document .opened * S .horizon) (length p) ≡ fits → reported S x s t c p ≡ reportAccepted fits (S .horizon) w t c p
     unfolding reported
     report-fits fits e = rw (read, fair, e)

@@ -9,7 +9,7 @@ use mathlib.Core.List.{List}
 use native.Mathlib.Nat.{mul-le-mul}
 use lib.ListN.{length}
 use lib.IntN.{ℤ}
-use Rattle.rules.specs.Limits.{profileWidth, trackWidth, mostSubnets, mostHorizon}
+use Rattle.rules.specs.Limits.{profileWidth, trackWidth, mostSubnets, leastHorizon, mostHorizon}
 use Rattle.rules.specs.Answers.{refusal, noRoom, noFile, good, solutionFile}
 use Rattle.rules.specs.Lists.{over}
 use Rattle.rules.specs.Profiles.{profilesFrom, profileNumbers}
@@ -26,6 +26,7 @@ use Rattle.rules.specs.declared.outcomes.Report.{Report}
 use Rattle.tables_ids.specs.Column.{Records, Rising}
 use Rattle.tables_ids.proofs.Curves.{profiles-length}
 use Rattle.files_tests.proofs.Holding.{front-records}
+use Rattle.rules_theorems.specs.Sized.{SizedFiles}
 use Rattle.rules_theorems.proofs.Sized.{accepted-sized}
 use Rattle.rules_theorems.specs.Files.{ByAutomaton, GoodFiles}
 use Rattle.rules_theorems.proofs.GoodFiles.{files-good, all-good}
@@ -56,13 +57,13 @@ module _ {H : ℕ} {counts : filed.Counts.Counts} {choices legs profiles : List 
       front-records trackNumbers trackWidth (omega arith) (λ t. refl) (w .files .document .tracks) (l .lent .tracks) (ap (λ c. c .tracks) (l .counted)) (l .tracks-are)
 
   module _ {k : Counts} (n : Risen counts profiles tracks k) where
-    abbrev read : filesOf H (l .texts) (roomsOf (l .lent)) ≡ good (w .files)
-    read = all-good H (l .texts) (l .solution) (roomsOf (l .lent)) (length (l .lentChoices)) w (l .read) .0
+    abbrev read : filesOf (l .stated) (l .texts) (roomsOf (l .lent)) ≡ good (w .files)
+    read = all-good (l .stated) (l .texts) (l .solution) (roomsOf (l .lent)) (length (l .lentChoices)) w (l .read) .0
 
     rows-many : length (w .choices) ≡ length (w .files .rows)
     rows-many =
-        choices-many H (l .texts) (roomsOf (l .lent)) (w .files) read solutionFile (length (l .lentChoices)) (l .solution) (w .choices)
-        (all-good H (l .texts) (l .solution) (roomsOf (l .lent)) (length (l .lentChoices)) w (l .read) .1)
+        choices-many (l .stated) (l .texts) (roomsOf (l .lent)) (w .files) read solutionFile (length (l .lentChoices)) (l .solution) (w .choices)
+        (all-good (l .stated) (l .texts) (l .solution) (roomsOf (l .lent)) (length (l .lentChoices)) w (l .read) .1)
 
     counted : Counted (w .files) (w .choices) k
     counted =
@@ -81,11 +82,13 @@ module _ {H : ℕ} {counts : filed.Counts.Counts} {choices legs profiles : List 
     -- what the energies ask for
     pub left-readable : Readable H (given k choices legs profiles samples tracks)
     left-readable =
-        let g = files-good H (l .texts) (roomsOf (l .lent)) (w .files) read in
-        let sizes = accepted-sized H (l .texts) (l .solution) (roomsOf (l .lent)) (length (l .lentChoices)) w (l .read) (l .fair) in
+        let g = files-good (l .stated) (l .texts) (roomsOf (l .lent)) (w .files) read in
+        let range = subst (λ (h : ℕ). (leastHorizon ≤ h) × (h ≤ mostHorizon)) (l .at) (g .horizon) in
+        let sizes = subst (λ (h : ℕ). SizedFiles h (w .files) (w .choices)) (l .at)
+        (accepted-sized (l .stated) (l .texts) (l .solution) (roomsOf (l .lent)) (length (l .lentChoices)) w (l .read) (l .fair)) in
         let few = good-is-lawful (legIds (w .files .rows)) _ _ _ (l .texts .constraints) (w .files .document) (g .constraints) .tables .subnets-in-limit in
         subst (Readable H) (sym same)
-        (reading-readable (w .files) (w .choices) k counted (l .lent) (l .lentChoices) H (g .horizon .0) (g .horizon .1) few
+        (reading-readable (w .files) (w .choices) k counted (l .lent) (l .lentChoices) H (range .0) (range .1) few
         (subst (Rising profileWidth (k .profiles .count) (k .profiles .rising)) (l .profiles-are) (n .profiles-rise))
         (subst (Rising trackWidth (k .tracks .count) (k .tracks .rising)) (l .tracks-are) (n .tracks-rise)) (sizes .sized) (sizes .fits))
 
@@ -115,15 +118,15 @@ risen-room r n = rw (n .subnets) (r .room)
 
 module _ {H : ℕ} {counts : filed.Counts.Counts} {choices legs profiles : List ℕ} {samples : List ℤ} {tracks : List ℕ}
     (l : Left H counts choices legs profiles samples tracks) where
-  abbrev good-files : GoodFiles ByAutomaton H (l .texts) (roomsOf (l .lent)) (l .whole .files)
-  good-files = files-good H (l .texts) (roomsOf (l .lent)) (l .whole .files) (all-good H (l .texts) (l .solution) (roomsOf (l .lent)) (length (l .lentChoices)) (l .whole) (l .read) .0)
+  abbrev good-files : GoodFiles ByAutomaton (l .stated) (l .texts) (roomsOf (l .lent)) (l .whole .files)
+  good-files = files-good (l .stated) (l .texts) (roomsOf (l .lent)) (l .whole .files) (all-good (l .stated) (l .texts) (l .solution) (roomsOf (l .lent)) (length (l .lentChoices)) (l .whole) (l .read) .0)
 
   -- the greatest curve table is not long
   pub left-small : counts .subnets * H ≤ mostSubnets * mostHorizon
   left-small =
       let few = good-is-lawful (legIds (l .whole .files .rows)) _ _ _ (l .texts .constraints) (l .whole .files .document) (good-files .constraints) .tables .subnets-in-limit in
       let many : counts .subnets ≤ mostSubnets = rw (ap (λ c. c .subnets) (l .counted)) few in
-      mul-le-mul many (good-files .horizon .1)
+      mul-le-mul many (rw (l .at) at (good-files .horizon .1))
 
   needed : counts .subnets * H ≡ l .whole .files .document .opened * H
   needed = ap (λ c. c .subnets * H) (l .counted)

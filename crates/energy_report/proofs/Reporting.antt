@@ -11,6 +11,7 @@ use Rattle.rules.specs.Answers.{isRefusal, isAccepted, Reading, refused, good}
 use Rattle.rules.specs.Reading.{Texts}
 use Rattle.rules.specs.Verdict.{accepted}
 use Rattle.rules.specs.Entries.{Tables, roomsOf, verdictOf, Whole, allRead, checkedFrom, checked, Reported, reportAccepted, reported}
+use Rattle.rules.specs.declared.stated.Stated.{Stated}
 use Rattle.rules.specs.declared.answers.Answer.{Answer}
 use Rattle.rules.specs.declared.answers.Answer.the-variants.{Accepted, Violated, Refused}
 use Rattle.rules.specs.declared.outcomes.Report.{Report}
@@ -27,25 +28,25 @@ is-accepted (Violated v) e = let z : _≡_ {A = ℕ} 0 1 = cc in absurd (omega a
 is-accepted (Refused r) e = let z : _≡_ {A = ℕ} 0 1 = cc in absurd (omega arith)
 
 -- t, c: as they were lent; t′, c′: as reading left them
-module _ {H : ℕ} {x : Texts} {s : List ℕ} {t : Tables} {c : List ℕ} {j : Judged} {t′ : Tables} {c′ : List ℕ} (read : ReadAndJudged H x s t c j t′ c′) where
+module _ {S : Stated} {x : Texts} {s : List ℕ} {t : Tables} {c : List ℕ} {j : Judged} {t′ : Tables} {c′ : List ℕ} (read : ReadAndJudged S x s t c j t′ c′) where
   abbrev a : Answer
   a = j .answer
 
   -- no refusal: the tables are a check's
-  tables-kept : isRefusal a ≡ false → (t′ ≡ checked H x s t c .tables) × (c′ ≡ checked H x s t c .choices)
+  tables-kept : isRefusal a ≡ false → (t′ ≡ checked S x s t c .tables) × (c′ ≡ checked S x s t c .choices)
   unfolding checked
-  tables-kept h = go (allRead H x s (roomsOf t) (length c)) refl (ap isRefusal (sym (read .answers)) ∙ h)
+  tables-kept h = go (allRead S x s (roomsOf t) (length c)) refl (ap isRefusal (sym (read .answers)) ∙ h)
     where
-      go : (m : Reading Whole) → allRead H x s (roomsOf t) (length c) ≡ m → isRefusal (checkedFrom m t c .answer) ≡ false
+      go : (m : Reading Whole) → allRead S x s (roomsOf t) (length c) ≡ m → isRefusal (checkedFrom m t c .answer) ≡ false
           → (t′ ≡ checkedFrom m t c .tables) × (c′ ≡ checkedFrom m t c .choices)
       go (refused r) e z = let q : _≡_ {A = ℕ} 0 1 = cc in absurd (omega arith)
       go (good w) e z = (read .writes w e .0, read .writes w e .1)
 
   -- short of acceptance
-  pub reported-short : {p p′ : List ℤ} {r : Report} {b : Bool} → b ≡ isAccepted a → b ≡ false → r ≡ noReport a → ReportRead H x s t c p r t′ c′ p′
+  pub reported-short : {p p′ : List ℤ} {r : Report} {b : Bool} → b ≡ isAccepted a → b ≡ false → r ≡ noReport a → ReportRead S x s t c p r t′ c′ p′
   reported-short {p} {p′} {r} q g e =
       let h : isAccepted a ≡ false = sym q ∙ g in
-      let k : Short (checked H x s t c) (reported H x s t c p) = report-short H x s t c p (ap isAccepted (sym (read .answers)) ∙ h) in
+      let k : Short (checked S x s t c) (reported S x s t c p) = report-short S x s t c p (ap isAccepted (sym (read .answers)) ∙ h) in
       record {
         answers = ap (λ (q : Report). q .answer) e ∙ read .answers ∙ sym (k .answer);
         figures-are = ap (λ (q : Report). q .figures) e ∙ sym (k .figures);
@@ -63,15 +64,17 @@ module _ {H : ℕ} {x : Texts} {s : List ℕ} {t : Tables} {c : List ℕ} {j : J
     h : isAccepted a ≡ true
     h = sym q ∙ g
 
-    found : (w : Whole) × (allRead H x s (roomsOf t) (length c) ≡ good w) × (verdictOf (w .files) (w .choices) ≡ accepted)
-    found = accepted-read H x s t c (sym (read .answers) ∙ is-accepted a h)
+    found : (w : Whole) × (allRead S x s (roomsOf t) (length c) ≡ good w) × (verdictOf (w .files) (w .choices) ≡ accepted)
+    found = accepted-read S x s t c (sym (read .answers) ∙ is-accepted a h)
 
     -- accepted: the tables are what the energies are worked out of
-    pub accepted-left : Left H (j .counts) c′ (t′ .legs) (t′ .profiles) (t′ .samples) (t′ .tracks)
+    pub accepted-left : Left (S .horizon) (j .counts) c′ (t′ .legs) (t′ .profiles) (t′ .samples) (t′ .tracks)
     accepted-left =
         let w = found .0 in
         let kept = read .writes w (found .1) in
         record {
+          stated = S;
+          at = refl;
           texts = x;
           solution = s;
           lent = t;
@@ -88,13 +91,13 @@ module _ {H : ℕ} {x : Texts} {s : List ℕ} {t : Tables} {c : List ℕ} {j : J
         }
 
     -- and so is the report
-    pub reported-tested : {p p′ : List ℤ} {r : Report} → Tests H (j .counts) c′ (t′ .legs) (t′ .profiles) (t′ .samples) (t′ .tracks) p r p′ → ReportRead H x s t c p r t′ c′ p′
+    pub reported-tested : {p p′ : List ℤ} {r : Report} → Tests (S .horizon) (j .counts) c′ (t′ .legs) (t′ .profiles) (t′ .samples) (t′ .tracks) p r p′ → ReportRead S x s t c p r t′ c′ p′
     unfolding found accepted-left
     reported-tested {p} {p′} {r} tests =
         let w = found .0 in
-        let fits = leb (w .files .document .opened * H) (length p) in
-        let same : reported H x s t c p ≡ reportAccepted fits H w t c p = report-fits H x s t c p w (found .1) (found .2) fits refl in
-        let k : Tested fits H w t c p r p′ = tests accepted-left in
+        let fits = leb (w .files .document .opened * S .horizon) (length p) in
+        let same : reported S x s t c p ≡ reportAccepted fits (S .horizon) w t c p = report-fits S x s t c p w (found .1) (found .2) fits refl in
+        let k : Tested fits (S .horizon) w t c p r p′ = tests accepted-left in
         record {
           answers = k .answer ∙ sym (ap (λ (q : Reported). q .answer) same);
           figures-are = k .figures ∙ sym (ap (λ (q : Reported). q .figures) same);
@@ -103,8 +106,8 @@ module _ {H : ℕ} {x : Texts} {s : List ℕ} {t : Tables} {c : List ℕ} {j : J
           lays = λ z. k .curves z ∙ sym (ap (λ (q : Reported). q .curves) same);
         }
       where
-        kept : (fits : Bool) → reported H x s t c p ≡ reportAccepted fits H (found .0) t c p → isRefusal (reportAccepted fits H (found .0) t c p .answer) ≡ false
-            → (t′ ≡ reported H x s t c p .tables) × (c′ ≡ reported H x s t c p .choices)
+        kept : (fits : Bool) → reported S x s t c p ≡ reportAccepted fits (S .horizon) (found .0) t c p → isRefusal (reportAccepted fits (S .horizon) (found .0) t c p .answer) ≡ false
+            → (t′ ≡ reported S x s t c p .tables) × (c′ ≡ reported S x s t c p .choices)
         kept true e z =
             let left = read .writes (found .0) (found .1) in
             (left .0 ∙ sym (ap (λ (q : Reported). q .tables) e), left .1 ∙ sym (ap (λ (q : Reported). q .choices) e))

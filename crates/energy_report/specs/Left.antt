@@ -13,6 +13,7 @@ use Rattle.rules.specs.Reading.{Texts}
 use Rattle.rules.specs.Verdict.{accepted}
 use Rattle.rules.specs.Energy.{figuresOf, curvesOf, deskOf}
 use Rattle.rules.specs.Entries.{Tables, roomsOf, writtenTables, writtenChoices, verdictOf, Whole, allRead, reportAccepted}
+use Rattle.rules.specs.declared.stated.Stated.{Stated}
 use Rattle.rules.specs.declared.answers.Answer.the-variants.{Accepted}
 use Rattle.rules.specs.declared.outcomes.Report.{Report}
 use Rattle.tables_ids.specs.Column.{Rising}
@@ -20,14 +21,16 @@ use Rattle.energy_parts.specs.declared.runs.Counts.{Counts}
 use Rattle.tables_lent.specs.Filing.{countsOf}
 use Rattle.tables_lent.specs.declared as filed
 
--- an accepted solution, and the tables with what was read at their front
+-- an accepted solution, and the tables with what was read at their front; of what was stated, H alone counts from here on
 pub record Left (H : ℕ) (counts : filed.Counts.Counts) (choices legs profiles : List ℕ) (samples : List ℤ) (tracks : List ℕ) : Type 0 where
+  pub stated : Stated
+  pub at : stated .horizon ≡ H
   pub texts : Texts
   pub solution : List ℕ
   pub lent : Tables
   pub lentChoices : List ℕ
   pub whole : Whole
-  pub read : allRead H texts solution (roomsOf lent) (length lentChoices) ≡ good whole
+  pub read : allRead stated texts solution (roomsOf lent) (length lentChoices) ≡ good whole
   pub fair : verdictOf (whole .files) (whole .choices) ≡ accepted
   pub counted : counts ≡ countsOf (whole .files)
   pub choices-are : choices ≡ writtenChoices (whole .choices) lentChoices

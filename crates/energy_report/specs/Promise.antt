@@ -9,6 +9,7 @@ use Rattle.rules.specs.Answers.{isRefusal, isAccepted}
 use Rattle.rules.specs.Reading.{Texts}
 use Rattle.rules.specs.Energy.{deskOf}
 use Rattle.rules.specs.Entries.{Tables, noFigures, reported}
+use Rattle.rules.specs.declared.stated.Stated.{Stated}
 use Rattle.rules.specs.declared.answers.Answer.{Answer}
 use Rattle.rules.specs.declared.outcomes.Report.{Report}
 
@@ -16,10 +17,10 @@ use Rattle.rules.specs.declared.outcomes.Report.{Report}
 abbrev pub noReport : Answer → Report
 noReport a = record { answer = a; figures = noFigures; desk = deskOf noFigures }
 
--- H, the texts and the solution; the tables t, the choices c and the curves p as they were lent; and as they are left
-pub record ReportRead (H : ℕ) (x : Texts) (solution : List ℕ) (t : Tables) (c : List ℕ) (p : List ℤ) (r : Report) (t′ : Tables) (c′ : List ℕ) (p′ : List ℤ) : Type 0 where
-  pub answers : r .answer ≡ reported H x solution t c p .answer
-  pub figures-are : r .figures ≡ reported H x solution t c p .figures
-  pub desk-is : r .desk ≡ reported H x solution t c p .desk
-  pub writes : isRefusal (r .answer) ≡ false → (t′ ≡ reported H x solution t c p .tables) × (c′ ≡ reported H x solution t c p .choices)
-  pub lays : isAccepted (r .answer) ≡ true → p′ ≡ reported H x solution t c p .curves
+-- what is stated, the texts and the solution; the tables t, the choices c and the curves p as they were lent; and as they are left
+pub record ReportRead (S : Stated) (x : Texts) (solution : List ℕ) (t : Tables) (c : List ℕ) (p : List ℤ) (r : Report) (t′ : Tables) (c′ : List ℕ) (p′ : List ℤ) : Type 0 where
+  pub answers : r .answer ≡ reported S x solution t c p .answer
+  pub figures-are : r .figures ≡ reported S x solution t c p .figures
+  pub desk-is : r .desk ≡ reported S x solution t c p .desk
+  pub writes : isRefusal (r .answer) ≡ false → (t′ ≡ reported S x solution t c p .tables) × (c′ ≡ reported S x solution t c p .choices)
+  pub lays : isAccepted (r .answer) ≡ true → p′ ≡ reported S x solution t c p .curves

@@ -8,6 +8,7 @@ use rules::figures::Figures;
 use rules::figures::Peak;
 use rules::figures::Peaks;
 use rules::outcomes::Report;
+use rules::stated::Stated;
 use tables_lent::acceptance;
 
 pub mod working; // an accepted solution
@@ -36,7 +37,7 @@ pub fn no_report(answer: Answer) -> Report
 
 // The files, a solution and its verdict; and its energies, where it is accepted.
 pub fn read_and_report(
-    h: u32,
+    stated: Stated,
     timetable: &[u8],
     profiles: &[u8],
     constraints: &[u8],
@@ -50,12 +51,12 @@ pub fn read_and_report(
     choices: &mut [u32],
     curves: &mut [i32],
 ) -> Report
-    ensures { λ r. ⌜ ReportRead h (given timetable profiles constraints) (now (solution .entry))
+    ensures { λ r. ⌜ ReportRead stated (given timetable profiles constraints) (now (solution .entry))
         (before legs configurations «profile_table» samples «constraint_table» tracks) (now (choices .entry)) (now (curves .entry))
         r (after legs configurations «profile_table» samples «constraint_table» tracks) (now (choices .exit)) (now (curves .exit)) ⌝ }
 {
     let judged = checker_judge::read_and_judge(
-        h,
+        stated,
         timetable,
         profiles,
         constraints,
@@ -72,7 +73,7 @@ pub fn read_and_report(
     let counts = judged.counts;
     if acceptance::is_accepted(answer) {
         return working::report_accepted(
-            h,
+            stated.horizon,
             counts,
             choices,
             legs,

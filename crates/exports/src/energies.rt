@@ -1,4 +1,5 @@
 // `energy` for C.
+ghost use Rattle.rules.specs.Stated as law;
 ghost use Rattle.rules.specs.Lent.{given, before, after};
 ghost use Rattle.rules.specs.Promises.{Reports};
 ghost use Rattle.exports_numbers.specs.Numbers.{reportNumbers};
@@ -6,10 +7,12 @@ ghost use Rattle.exports_numbers.specs.Exported.{Exported};
 use checker::energies;
 use exports_numbers::Numbers;
 use exports_numbers::figures;
+use rules::stated::Stated;
 
 #[no_mangle]
 pub extern "C" fn wagontulip_energy(
     h: u32,
+    edition: u32,
     timetable: &[u8],
     profiles: &[u8],
     constraints: &[u8],
@@ -24,12 +27,16 @@ pub extern "C" fn wagontulip_energy(
     curves: &mut [i32],
     answer: &mut Numbers,
 )
-    ensures { λ _. ⌜ Exported (λ r. Reports h (given timetable profiles constraints) (now (solution .entry))
+    ensures { λ _. ⌜ Exported (λ r. Reports (law.stated h edition) (given timetable profiles constraints) (now (solution .entry))
         (before legs configurations «profile_table» samples «constraint_table» tracks) (now (choices .entry)) (now (curves .entry))
         r (after legs configurations «profile_table» samples «constraint_table» tracks) (now (choices .exit)) (now (curves .exit))) reportNumbers (now (answer .exit)) ⌝ }
 {
+    let stated = Stated {
+        horizon: h,
+        edition,
+    };
     let report = energies::energy(
-        h,
+        stated,
         timetable,
         profiles,
         constraints,

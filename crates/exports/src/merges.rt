@@ -1,4 +1,5 @@
 // The two merges for C, which has no `Direction`: a name for each, over one function.
+ghost use Rattle.rules.specs.Stated as law;
 ghost use Rattle.rules.specs.Lent.{given, before, after};
 ghost use Rattle.rules.specs.Promises.{Merges};
 ghost use Rattle.rules.specs.declared.outcomes.Direction.the-variants.{Earlier, Later};
@@ -8,11 +9,12 @@ use checker::merges;
 use exports_numbers::Numbers;
 use exports_numbers::answers;
 use rules::outcomes::Direction;
+use rules::stated::Stated;
 
 // The entry, its answer told in numbers. Both names call this.
 fn tell_merge(
     direction: Direction,
-    h: u32,
+    stated: Stated,
     timetable: &[u8],
     profiles: &[u8],
     constraints: &[u8],
@@ -29,13 +31,13 @@ fn tell_merge(
     text: &mut [u8],
     answer: &mut Numbers,
 )
-    ensures { λ _. ⌜ Exported (λ r. Merges direction h (given timetable profiles constraints) (now (first .entry)) (now (second .entry))
+    ensures { λ _. ⌜ Exported (λ r. Merges direction stated (given timetable profiles constraints) (now (first .entry)) (now (second .entry))
         (before legs configurations «profile_table» samples «constraint_table» tracks) (now (choices .entry)) (now («second_choices» .entry)) (now (text .entry))
         r (after legs configurations «profile_table» samples «constraint_table» tracks) (now (choices .exit)) (now («second_choices» .exit)) (now (text .exit))) mergeNumbers (now (answer .exit)) ⌝ }
 {
     let merged = merges::merge(
         direction,
-        h,
+        stated,
         timetable,
         profiles,
         constraints,
@@ -57,6 +59,7 @@ fn tell_merge(
 #[no_mangle]
 pub extern "C" fn wagontulip_merge_earlier(
     h: u32,
+    edition: u32,
     timetable: &[u8],
     profiles: &[u8],
     constraints: &[u8],
@@ -73,13 +76,17 @@ pub extern "C" fn wagontulip_merge_earlier(
     text: &mut [u8],
     answer: &mut Numbers,
 )
-    ensures { λ _. ⌜ Exported (λ r. Merges Earlier h (given timetable profiles constraints) (now (first .entry)) (now (second .entry))
+    ensures { λ _. ⌜ Exported (λ r. Merges Earlier (law.stated h edition) (given timetable profiles constraints) (now (first .entry)) (now (second .entry))
         (before legs configurations «profile_table» samples «constraint_table» tracks) (now (choices .entry)) (now («second_choices» .entry)) (now (text .entry))
         r (after legs configurations «profile_table» samples «constraint_table» tracks) (now (choices .exit)) (now («second_choices» .exit)) (now (text .exit))) mergeNumbers (now (answer .exit)) ⌝ }
 {
+    let stated = Stated {
+        horizon: h,
+        edition,
+    };
     tell_merge(
         Direction::Earlier,
-        h,
+        stated,
         timetable,
         profiles,
         constraints,
@@ -101,6 +108,7 @@ pub extern "C" fn wagontulip_merge_earlier(
 #[no_mangle]
 pub extern "C" fn wagontulip_merge_later(
     h: u32,
+    edition: u32,
     timetable: &[u8],
     profiles: &[u8],
     constraints: &[u8],
@@ -117,13 +125,17 @@ pub extern "C" fn wagontulip_merge_later(
     text: &mut [u8],
     answer: &mut Numbers,
 )
-    ensures { λ _. ⌜ Exported (λ r. Merges Later h (given timetable profiles constraints) (now (first .entry)) (now (second .entry))
+    ensures { λ _. ⌜ Exported (λ r. Merges Later (law.stated h edition) (given timetable profiles constraints) (now (first .entry)) (now (second .entry))
         (before legs configurations «profile_table» samples «constraint_table» tracks) (now (choices .entry)) (now («second_choices» .entry)) (now (text .entry))
         r (after legs configurations «profile_table» samples «constraint_table» tracks) (now (choices .exit)) (now («second_choices» .exit)) (now (text .exit))) mergeNumbers (now (answer .exit)) ⌝ }
 {
+    let stated = Stated {
+        horizon: h,
+        edition,
+    };
     tell_merge(
         Direction::Later,
-        h,
+        stated,
         timetable,
         profiles,
         constraints,

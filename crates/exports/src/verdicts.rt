@@ -1,4 +1,5 @@
 // `check` for C.
+ghost use Rattle.rules.specs.Stated as law;
 ghost use Rattle.rules.specs.Lent.{given, before, after};
 ghost use Rattle.rules.specs.Promises.{Checks};
 ghost use Rattle.exports_numbers.specs.Numbers.{checkNumbers};
@@ -6,10 +7,12 @@ ghost use Rattle.exports_numbers.specs.Exported.{Exported};
 use checker::verdicts;
 use exports_numbers::Numbers;
 use exports_numbers::answers;
+use rules::stated::Stated;
 
 #[no_mangle]
 pub extern "C" fn wagontulip_check(
     h: u32,
+    edition: u32,
     timetable: &[u8],
     profiles: &[u8],
     constraints: &[u8],
@@ -23,12 +26,16 @@ pub extern "C" fn wagontulip_check(
     choices: &mut [u32],
     answer: &mut Numbers,
 )
-    ensures { λ _. ⌜ Exported (λ r. Checks h (given timetable profiles constraints) (now (solution .entry))
+    ensures { λ _. ⌜ Exported (λ r. Checks (law.stated h edition) (given timetable profiles constraints) (now (solution .entry))
         (before legs configurations «profile_table» samples «constraint_table» tracks) (now (choices .entry))
         r (after legs configurations «profile_table» samples «constraint_table» tracks) (now (choices .exit))) checkNumbers (now (answer .exit)) ⌝ }
 {
+    let stated = Stated {
+        horizon: h,
+        edition,
+    };
     let checked = verdicts::check(
-        h,
+        stated,
         timetable,
         profiles,
         constraints,

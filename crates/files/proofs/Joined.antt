@@ -10,8 +10,10 @@ use Rattle.rules.specs.Lists.{flat, over}
 use Rattle.rules.specs.Timetable.{Row, legsOf, legNumbers, configurationsOf, configurationNumbers}
 use Rattle.rules.specs.Profiles.{Curve, profilesFrom, profileNumbers, sampleTable}
 use Rattle.rules.specs.Constraints.{Document, ordered, constraintNumbers, trackNumbers}
-use Rattle.rules.specs.Reading.{Texts, texts, Files, Rooms, horizonOf, filesOf}
+use Rattle.rules.specs.Stated.{known}
+use Rattle.rules.specs.Reading.{Texts, texts, Files, Rooms, filesOf}
 use Rattle.rules.specs.Entries.{Tables, tables, roomsOf, writtenTables}
+use Rattle.rules.specs.declared.stated.Stated.{Stated}
 use Rattle.rules.specs.declared.answers.Refusal.{Refusal}
 use Rattle.rules_theorems.proofs.GoodText.{never-good}
 use Rattle.rules_theorems.proofs.GoodRows.{timetable-good}
@@ -35,56 +37,56 @@ then-then (good x) k l = refl
 abbrev filesFrom : List Row → List Curve → Document → Files
 filesFrom rows curves document = record { rows = rows; curves = curves; document = document }
 
-module _ (H : ℕ) (x : Texts) (room : Rooms) where
+module _ (S : Stated) (x : Texts) (room : Rooms) where
   abbrev draft : Reading (List Row)
-  draft = draftOf H (x .timetable) (room .legs) (room .configurations)
+  draft = draftOf S (x .timetable) (room .legs) (room .configurations)
 
   abbrev powers : List Row → Reading (List Curve)
   powers rows = powersOf (x .timetable) (x .profiles) rows (room .profiles) (room .samples)
 
   abbrev rules : List Row → Reading Document
-  rules rows = rulesOf (x .timetable) (x .constraints) rows (room .constraints) (room .tracks)
+  rules rows = rulesOf S (x .timetable) (x .constraints) rows (room .constraints) (room .tracks)
 
-  by-parts : filesOf H x room ≡ (draft >>= (λ rows. powers rows >>= (λ curves. rules rows >>= (λ d. good (filesFrom rows curves d)))))
+  by-parts : filesOf S x room ≡ (draft >>= (λ rows. powers rows >>= (λ curves. rules rows >>= (λ d. good (filesFrom rows curves d)))))
   unfolding filesOf draftOf powersOf rulesOf
   by-parts = simp then-then
 
 -- ---- each way out
 
-module _ (H : ℕ) (timetable profiles constraints legs configurations profileTable : List ℕ) (samples : List ℤ) (constraintTable tracks : List ℕ) where
+module _ (S : Stated) (timetable profiles constraints legs configurations profileTable : List ℕ) (samples : List ℤ) (constraintTable tracks : List ℕ) where
   abbrev x : Texts
   x = texts timetable profiles constraints
 
   abbrev t : Tables
   t = tables legs configurations profileTable samples constraintTable tracks
 
-  stopped : {a : Filed} {t′ : Tables} (r : Refusal) → filesOf H x (roomsOf t) ≡ refused r → a ≡ Refused r → FilesRead H x t a t′
+  stopped : {a : Filed} {t′ : Tables} (r : Refusal) → filesOf S x (roomsOf t) ≡ refused r → a ≡ Refused r → FilesRead S x t a t′
   stopped r e a = record { answers = a ∙ rw e; writes = λ f g. never-good r f (sym e ∙ g) }
 
-  module _ {a : Filed} {legs′ configurations′ : List ℕ} (d : DraftRead H timetable legs configurations a legs′ configurations′) where
-    pub files-draft : {r : Refusal} {t′ : Tables} → a ≡ Refused r → FilesRead H x t a t′
-    files-draft {r} e = stopped r (by-parts H x (roomsOf t) ∙ rw (refused-refused a r d e)) e
+  module _ {a : Filed} {legs′ configurations′ : List ℕ} (d : DraftRead S timetable legs configurations a legs′ configurations′) where
+    pub files-draft : {r : Refusal} {t′ : Tables} → a ≡ Refused r → FilesRead S x t a t′
+    files-draft {r} e = stopped r (by-parts S x (roomsOf t) ∙ rw (refused-refused a r d e)) e
 
     module _ {k : Counts} (e : a ≡ Whole k) where
       abbrev DraftTables : List Row → Type 0
       DraftTables rows =
           (legs′ ≡ over (flat legNumbers (legsOf rows)) legs) × (configurations′ ≡ over (flat configurationNumbers (configurationsOf rows)) configurations)
 
-      got : WasGood (draftOf H timetable (length legs) (length configurations)) withRows DraftTables k
+      got : WasGood (draftOf S timetable (length legs) (length configurations)) withRows DraftTables k
       got = whole-good a k d e
 
       drafted : (n : ℕ) → n ≡ k .legs → Draft timetable legs′ n (got .what)
       unfolding draftOf
       drafted n same =
           let rows = got .what in
-          let read = good-first (horizonOf H) _ rows (got .was) .2 in
-          let written = timetable-good H (length legs / legWidth) (length configurations / configurationWidth) timetable rows .0 read in
+          let read = good-first (known S) _ rows (got .was) .2 in
+          let written = timetable-good (S .horizon) (length legs / legWidth) (length configurations / configurationWidth) timetable rows .0 read in
           let many : n ≡ length rows = same ∙ ap (λ (c : Counts). c .legs) (got .counted) in
           record {
             short = written .short;
             many = many;
-            few = rw many (legs-most H rows (written .lawful));
-            apart = legs-distinct H rows (written .lawful);
+            few = rw many (legs-most (S .horizon) rows (written .lawful));
+            apart = legs-distinct (S .horizon) rows (written .lawful);
             legs-hold = front-held (flat legNumbers (legsOf rows)) legs (got .there .0);
           }
 
@@ -101,8 +103,8 @@ module _ (H : ℕ) (timetable profiles constraints legs configurations profileTa
         power : Part (powersOf timetable profiles (got .what) (length profileTable) (length samples)) (withCurves k) PowerTables b
         power = p (got .what) (drafted (k .legs) refl) lists
 
-        pub files-powers : {r : Refusal} {t′ : Tables} → b ≡ Refused r → FilesRead H x t b t′
-        files-powers {r} f = stopped r (by-parts H x (roomsOf t) ∙ rw (got .was, refused-refused b r power f)) f
+        pub files-powers : {r : Refusal} {t′ : Tables} → b ≡ Refused r → FilesRead S x t b t′
+        files-powers {r} f = stopped r (by-parts S x (roomsOf t) ∙ rw (got .was, refused-refused b r power f)) f
 
         module _ {l : Counts} (f : b ≡ Whole l) where
           gotten : WasGood (powersOf timetable profiles (got .what) (length profileTable) (length samples)) (withCurves k) PowerTables l
@@ -114,9 +116,9 @@ module _ (H : ℕ) (timetable profiles constraints legs configurations profileTa
           pub rules-drafted : Drafted timetable legs′ (l .legs)
           rules-drafted = record { rows = got .what; draft = still }
 
-          module _ {c : Filed} {constraintTable′ tracks′ : List ℕ} (q : RulesRead l timetable constraints legs′ constraintTable tracks c constraintTable′ tracks′) where
+          module _ {c : Filed} {constraintTable′ tracks′ : List ℕ} (q : RulesRead S l timetable constraints legs′ constraintTable tracks c constraintTable′ tracks′) where
             abbrev outcome : Reading Document
-            outcome = rulesOf timetable constraints (got .what) (length constraintTable) (length tracks)
+            outcome = rulesOf S timetable constraints (got .what) (length constraintTable) (length tracks)
 
             abbrev RuleTables : Document → Type 0
             RuleTables d =
@@ -125,10 +127,10 @@ module _ (H : ℕ) (timetable profiles constraints legs configurations profileTa
             abbrev filed : Document → Files
             filed = filesFrom (got .what) (gotten .what)
 
-            whole : filesOf H x (roomsOf t) ≡ (outcome >>= (λ d. good (filed d)))
-            whole = by-parts H x (roomsOf t) ∙ rw (got .was, gotten .was)
+            whole : filesOf S x (roomsOf t) ≡ (outcome >>= (λ d. good (filed d)))
+            whole = by-parts S x (roomsOf t) ∙ rw (got .was, gotten .was)
 
-            pub files-rules : FilesRead H x t c (tables legs′ configurations′ profileTable′ samples′ constraintTable′ tracks′)
+            pub files-rules : FilesRead S x t c (tables legs′ configurations′ profileTable′ samples′ constraintTable′ tracks′)
             files-rules =
                 record {
                   answers = rule .answers ∙ answered outcome ∙ ap filedOf (sym whole);

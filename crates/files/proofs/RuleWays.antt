@@ -9,8 +9,11 @@ use Rattle.rules.specs.Lists.{flat, over}
 use Rattle.rules.specs.Answers.{noSubnet, timetableFile, constraintsFile, refusal, Reading, refused, good}
 use Rattle.rules.specs.Rows.{firstFault, placeOfRow}
 use Rattle.rules.specs.Timetable.{Row}
-use Rattle.rules.specs.Constraints.{Document, plainRules, constraintsOf, subnetFault, trackNumbers}
+use Rattle.rules.specs.Constraints.{Document, constraintsOf, subnetFault, trackNumbers}
+use Rattle.rules.specs.Stated.{rulesBy}
 use Rattle.rules.specs.Reading.{legIds}
+use Rattle.rules.specs.declared.stated.Stated.{Stated}
+use Rattle.rules.specs.declared.tokens.Rules.{Rules}
 use Rattle.rules.specs.declared.answers.Refusal.{Refusal}
 use Rattle.rules_theorems.proofs.FileRefusals.{Refuses, refuses, constraints-refuse}
 use Rattle.tables_ids.specs.declared.Found.{Found}
@@ -38,23 +41,23 @@ own-file (good d) q number place e = let z : _≡_ {A = ℕ} 0 1 = cc in absurd 
 pub rules-able : {timetable legs : List ℕ} {n : ℕ} → Drafted timetable legs n → Apart legWidth n legs × (n ≤ mostLegs)
 rules-able {legs = legs} {n = n} d = (legs-apart legs n (d .rows) (d .draft .many) (d .draft .legs-hold) (d .draft .apart), d .draft .few)
 
-module _ (counts : Counts) (timetable text legs constraints tracks constraints′ tracks′ : List ℕ)
-    {answer : Read} (read : Reads (reading text legs (counts .legs) constraints tracks) constraints tracks answer constraints′ tracks′) where
+module _ (S : Stated) {rules : Rules} (by : rules ≡ rulesBy S) (counts : Counts) (timetable text legs constraints tracks constraints′ tracks′ : List ℕ)
+    {answer : Read} (read : Reads (reading rules text legs (counts .legs) constraints tracks) constraints tracks answer constraints′ tracks′) where
   abbrev outcome : Reading Document
-  outcome = reading text legs (counts .legs) constraints tracks
+  outcome = reading rules text legs (counts .legs) constraints tracks
 
   by-rows : (rows : List Row) → Draft timetable legs (counts .legs) rows
-      → constraintsOf (legIds rows) (length constraints / constraintWidth) (length tracks / trackWidth) plainRules text ≡ outcome
-  by-rows rows draft = rw (legs-ids legs (counts .legs) rows (draft .many) (draft .legs-hold))
+      → constraintsOf (legIds rows) (length constraints / constraintWidth) (length tracks / trackWidth) (rulesBy S) text ≡ outcome
+  by-rows rows draft = rw (by, legs-ids legs (counts .legs) rows (draft .many) (draft .legs-hold))
 
   pub rules-refused : {number place : ℕ} {r : Refusal} → answer ≡ NotRead number place → r ≡ refusal number constraintsFile place
-      → RulesRead counts timetable text legs constraints tracks (Refused r) constraints′ tracks′
+      → RulesRead S counts timetable text legs constraints tracks (Refused r) constraints′ tracks′
   unfolding rulesOf
   rules-refused {number} {place} {r} a e rows draft =
       part-refused r
       (rw (
         by-rows rows draft,
-        own-file outcome (constraints-refuse _ _ _ (record { atStart = λ n h. refl; atPlace = λ n p h. refl }) plainRules text) number place (sym a ∙ read .answer),
+        own-file outcome (constraints-refuse _ _ _ (record { atStart = λ n h. refl; atPlace = λ n p h. refl }) rules text) number place (sym a ∙ read .answer),
       )
       (ap refused (sym e)))
 
@@ -83,13 +86,13 @@ module _ (counts : Counts) (timetable text legs constraints tracks constraints�
           })
 
       pub rules-row : {row : ℕ} {r : Refusal} → found ≡ At row → r ≡ refusal noSubnet timetableFile (placeOfRow timetable row)
-          → RulesRead counts timetable text legs constraints tracks (Refused r) constraints′ tracks′
+          → RulesRead S counts timetable text legs constraints tracks (Refused r) constraints′ tracks′
       unfolding rulesOf
       rules-row {row} {r} q e rows draft =
           part-refused r (rw (by-rows rows draft, got .was, ← fault rows draft, q) (ap refused (sym e)))
 
       pub rules-whole : found ≡ Nothing
-          → RulesRead counts timetable text legs constraints tracks
+          → RulesRead S counts timetable text legs constraints tracks
           (Whole
           (record {
             legs = counts .legs;

@@ -10,8 +10,10 @@ use Rattle.rules.specs.Answers.{timetableFile, Reading, good, _>>=_}
 use Rattle.rules.specs.Rows.{firstFault, passed}
 use Rattle.rules.specs.Timetable.{Row, listed, legsOf, legNumbers, configurationsOf, configurationNumbers, timetableOf}
 use Rattle.rules.specs.Profiles.{Curve, sampled, profilesOf, profileFault, profilesFrom, profileNumbers, sampleTable}
-use Rattle.rules.specs.Constraints.{Document, plainRules, constraintsOf, subnetFault, ordered, constraintNumbers, trackNumbers}
-use Rattle.rules.specs.Reading.{horizonOf, legIds}
+use Rattle.rules.specs.Constraints.{Document, constraintsOf, subnetFault, ordered, constraintNumbers, trackNumbers}
+use Rattle.rules.specs.Stated.{rulesBy, known}
+use Rattle.rules.specs.Reading.{legIds}
+use Rattle.rules.specs.declared.stated.Stated.{Stated}
 use Rattle.rules_theorems.specs.Lists.{Distinct}
 use Rattle.tables_lent.specs.declared.Counts.{Counts}
 use Rattle.tables_lent.specs.declared.Filed.{Filed}
@@ -19,11 +21,11 @@ use Rattle.tables_lent.specs.Filing.{filedBy}
 
 -- ---- what each part reads; room is in numbers
 
--- H, and the timetable
-unfoldable pub draftOf : (H : ℕ) (timetable : List ℕ) (legs configurations : ℕ) → Reading (List Row)
-draftOf H timetable legs configurations = do
-  within ← horizonOf H
-  timetableOf H (legs / legWidth) (configurations / configurationWidth) timetable
+-- what is stated, and the timetable
+unfoldable pub draftOf : (S : Stated) (timetable : List ℕ) (legs configurations : ℕ) → Reading (List Row)
+draftOf S timetable legs configurations = do
+  stated ← known S
+  timetableOf (S .horizon) (legs / legWidth) (configurations / configurationWidth) timetable
 
 -- the profiles; 12 and 13
 unfoldable pub powersOf : (timetable text : List ℕ) (rows : List Row) (profiles samples : ℕ) → Reading (List Curve)
@@ -33,9 +35,9 @@ powersOf timetable text rows profiles samples = do
   good curves
 
 -- the constraints; 15
-unfoldable pub rulesOf : (timetable text : List ℕ) (rows : List Row) (constraints tracks : ℕ) → Reading Document
-rulesOf timetable text rows constraints tracks = do
-  document ← constraintsOf (legIds rows) (constraints / constraintWidth) (tracks / trackWidth) plainRules text
+unfoldable pub rulesOf : (S : Stated) (timetable text : List ℕ) (rows : List Row) (constraints tracks : ℕ) → Reading Document
+rulesOf S timetable text rows constraints tracks = do
+  document ← constraintsOf (legIds rows) (constraints / constraintWidth) (tracks / trackWidth) (rulesBy S) text
   placed ← passed timetableFile timetable (firstFault 0 (subnetFault (document .tracks)) rows) rows
   good document
 
@@ -99,9 +101,9 @@ pub record Part {A : Type 0} (read : Reading A) (counts : A → Counts) (Written
   pub answers : answer ≡ filedBy counts read
   pub writes : (x : A) → read ≡ good x → Written x
 
-abbrev pub DraftRead : (H : ℕ) (text legs configurations : List ℕ) → Filed → (legs′ configurations′ : List ℕ) → Type 0
-DraftRead H text legs configurations answer legs′ configurations′ =
-    Part (draftOf H text (length legs) (length configurations)) withRows
+abbrev pub DraftRead : (S : Stated) (text legs configurations : List ℕ) → Filed → (legs′ configurations′ : List ℕ) → Type 0
+DraftRead S text legs configurations answer legs′ configurations′ =
+    Part (draftOf S text (length legs) (length configurations)) withRows
     (λ rows. (legs′ ≡ over (flat legNumbers (legsOf rows)) legs) × (configurations′ ≡ over (flat configurationNumbers (configurationsOf rows)) configurations))
     answer
 
@@ -112,9 +114,9 @@ PowersRead counts timetable text legs configurations profiles samples answer pro
     (λ curves. (profiles′ ≡ over (flat profileNumbers (profilesFrom 0 curves)) profiles) × (samples′ ≡ over (sampleTable curves) samples))
     answer
 
-abbrev pub RulesRead : Counts → (timetable text legs constraints tracks : List ℕ) → Filed → (constraints′ tracks′ : List ℕ) → Type 0
-RulesRead counts timetable text legs constraints tracks answer constraints′ tracks′ =
+abbrev pub RulesRead : Stated → Counts → (timetable text legs constraints tracks : List ℕ) → Filed → (constraints′ tracks′ : List ℕ) → Type 0
+RulesRead S counts timetable text legs constraints tracks answer constraints′ tracks′ =
     (rows : List Row) → Draft timetable legs (counts .legs) rows
-    → Part (rulesOf timetable text rows (length constraints) (length tracks)) (withDocument counts)
+    → Part (rulesOf S timetable text rows (length constraints) (length tracks)) (withDocument counts)
     (λ d. (constraints′ ≡ over (flat constraintNumbers (ordered (d .constraints))) constraints) × (tracks′ ≡ over (flat trackNumbers (d .tracks)) tracks))
     answer

@@ -1,12 +1,13 @@
-// All that does not depend on a solution, in document 01's order: H; timetable; profiles; 12 and 13; constraints; 15. Every entry that judges begins with it.
+// All that does not depend on a solution, in document 01's order: what is stated; timetable; profiles; 12 and 13; constraints; 15. Every entry that judges begins with it.
 ghost use Rattle.rules.specs.Lent.{given, before, after};
 ghost use Rattle.files.specs.Promise.{FilesRead};
+use rules::stated::Stated;
 use tables_lent::Filed;
 
 pub mod parts; // the draft; profiles, 12 and 13; constraints, 15
 
 pub fn read_files(
-    h: u32,
+    stated: Stated,
     timetable: &[u8],
     profiles: &[u8],
     constraints: &[u8],
@@ -17,11 +18,11 @@ pub fn read_files(
     constraint_table: &mut [u32],
     tracks: &mut [u32],
 ) -> Filed
-    ensures { λ r. ⌜ FilesRead h (given timetable profiles constraints)
+    ensures { λ r. ⌜ FilesRead stated (given timetable profiles constraints)
         (before legs configurations «profile_table» samples «constraint_table» tracks)
         r (after legs configurations «profile_table» samples «constraint_table» tracks) ⌝ }
 {
-    let draft = parts::read_draft(h, timetable, legs, configurations);
+    let draft = parts::read_draft(stated, timetable, legs, configurations);
     let Filed::Whole(drafted) = draft else {
         return draft;
     };
@@ -38,6 +39,7 @@ pub fn read_files(
         return power;
     };
     parts::read_rules(
+        stated,
         powered,
         timetable,
         constraints,

@@ -7,32 +7,43 @@ use files_tests::lists::Fault;
 use files_tests::subnets;
 use rules::answers::File;
 use rules::answers::Refusal;
-use rules::sizes::Horizon;
-use rules::sizes::HorizonMade;
+use rules::stated::Known;
+use rules::stated::Stated;
 use tables_ids::Found;
 use tables_lent::Counts;
 use tables_lent::Filed;
 
-// H, and the timetable.
-pub fn read_draft(h: u32, timetable: &[u8], legs: &mut [u32], configurations: &mut [u32]) -> Filed
-    ensures { λ r. ⌜ DraftRead h (now (timetable .entry)) (now (legs .entry)) (now (configurations .entry)) r (now (legs .exit)) (now (configurations .exit)) ⌝ }
+// What is stated, and the timetable.
+pub fn read_draft(
+    stated: Stated,
+    timetable: &[u8],
+    legs: &mut [u32],
+    configurations: &mut [u32],
+) -> Filed
+    ensures { λ r. ⌜ DraftRead stated (now (timetable .entry)) (now (legs .entry)) (now (configurations .entry)) r (now (legs .exit)) (now (configurations .exit)) ⌝ }
 {
-    let HorizonMade::Within(_) = Horizon::new(h) else {
-        return Filed::Refused(Refusal::new(Refusal::HORIZON, File::NONE, 0));
-    };
-    match timetable::reader::read_timetable(timetable, h, legs, configurations) {
-        timetable::reader::Rows::Fault(number, place) => {
-            Filed::Refused(Refusal::new(number, File::TIMETABLE, place))
-        }
-        timetable::reader::Rows::Read(rows, listed) => Filed::Whole(Counts {
-            legs: rows as usize,
-            configurations: listed as usize,
-            profiles: 0,
-            samples: 0,
-            constraints: 0,
-            tracks: 0,
-            subnets: 0,
-        }),
+    let h = stated.horizon;
+    match stated.test() {
+        Known::Refused(refusal) => Filed::Refused(refusal),
+        Known::Whole => match timetable::reader::read_timetable(
+            timetable,
+            h,
+            legs,
+            configurations,
+        ) {
+            timetable::reader::Rows::Fault(number, place) => {
+                Filed::Refused(Refusal::new(number, File::TIMETABLE, place))
+            }
+            timetable::reader::Rows::Read(rows, listed) => Filed::Whole(Counts {
+                legs: rows as usize,
+                configurations: listed as usize,
+                profiles: 0,
+                samples: 0,
+                constraints: 0,
+                tracks: 0,
+                subnets: 0,
+            }),
+        },
     }
 }
 
@@ -74,6 +85,7 @@ pub fn read_powers(
 
 // The constraints, and then 15 over the timetable's rows.
 pub fn read_rules(
+    stated: Stated,
     counts: Counts,
     timetable: &[u8],
     text: &[u8],
@@ -82,10 +94,11 @@ pub fn read_rules(
     tracks: &mut [u32],
 ) -> Filed
     requires { ⌜ Drafted (now timetable) (now legs) (counts .legs) ⌝ }
-    ensures { λ r. ⌜ RulesRead counts (now (timetable .entry)) (now (text .entry)) (now (legs .entry)) (now (constraints .entry)) (now (tracks .entry)) r (now (constraints .exit)) (now (tracks .exit)) ⌝ }
+    ensures { λ r. ⌜ RulesRead stated counts (now (timetable .entry)) (now (text .entry)) (now (legs .entry)) (now (constraints .entry)) (now (tracks .entry)) r (now (constraints .exit)) (now (tracks .exit)) ⌝ }
 {
     let n = counts.legs;
-    match constraints::read_constraints(text, legs, n, constraints, tracks) {
+    let rules = stated.rules();
+    match constraints::read_constraints(rules, text, legs, n, constraints, tracks) {
         Read::Refused(number, place) => {
             Filed::Refused(Refusal::new(number, File::CONSTRAINTS, place))
         }

@@ -9,9 +9,9 @@ use lib.Dec.{leb}
 use lib.ListN.{length}
 use borrow.Author.Tests.{leb-true}
 use Rattle.rules.specs.Limits.{mostText}
-use Rattle.rules.specs.Answers.{refusal, unequalTravel, noRoom, noFile, solutionFile, secondFile, isAccepted}
+use Rattle.rules.specs.Answers.{refusal, unequalTravel, noRoom, noFile, solutionFile, secondFile, isAccepted, good}
 use Rattle.rules.specs.Rows.{placeOfRow}
-use Rattle.rules.specs.Reading.{Files}
+use Rattle.rules.specs.Reading.{Files, choicesRead}
 use Rattle.rules.specs.Merge.{unequalFrom, chosen, textOf, mergeOf}
 use Rattle.rules.specs.Entries.{roomsOf, writtenTables, writtenChoices, mergeFitted, mergeTravel}
 use Rattle.rules.specs.declared.answers.Refusal.{Refusal}
@@ -54,11 +54,18 @@ module _ {counts : Counts} {second legs configurations choices secondChoices : L
   rows-many : counts .legs ≡ length (f .rows)
   rows-many = ap (λ (c : Counts). c .legs) (k .left .counted)
 
+  -- both were read by the horizon that was stated
+  a-stated : choicesRead (k .left .stated .horizon) f solutionFile (length (k .lent)) (k .first) ≡ good (k .both .a)
+  a-stated = subst (λ (h : ℕ). choicesRead h f solutionFile (length (k .lent)) (k .first) ≡ good (k .both .a)) (sym (k .left .at)) (k .both .a-read)
+
+  b-stated : choicesRead (k .left .stated .horizon) f secondFile (length (k .lentSecond)) second ≡ good (k .both .b)
+  b-stated = subst (λ (h : ℕ). choicesRead h f secondFile (length (k .lentSecond)) second ≡ good (k .both .b)) (sym (k .left .at)) (k .both .b-read)
+
   a-many : length (k .both .a) ≡ length (f .rows)
-  a-many = choices-many (k .H) (k .left .texts) (roomsOf (k .left .lent)) f (k .left .read) solutionFile (length (k .lent)) (k .first) (k .both .a) (k .both .a-read)
+  a-many = choices-many (k .left .stated) (k .left .texts) (roomsOf (k .left .lent)) f (k .left .read) solutionFile (length (k .lent)) (k .first) (k .both .a) a-stated
 
   b-many : length (k .both .b) ≡ length (f .rows)
-  b-many = choices-many (k .H) (k .left .texts) (roomsOf (k .left .lent)) f (k .left .read) secondFile (length (k .lentSecond)) second (k .both .b) (k .both .b-read)
+  b-many = choices-many (k .left .stated) (k .left .texts) (roomsOf (k .left .lent)) f (k .left .read) secondFile (length (k .lentSecond)) second (k .both .b) b-stated
 
   -- a solution that was read is no longer than a text may be
   pub second-short : length second ≤ mostText

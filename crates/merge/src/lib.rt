@@ -6,6 +6,7 @@ ghost use Rattle.merge.specs.Promise.{MergeRead};
 use rules::answers::Answer;
 use rules::outcomes::Direction;
 use rules::outcomes::Merged;
+use rules::stated::Stated;
 use tables_lent::Filed;
 
 pub mod writing; // the text, 17, 16
@@ -21,7 +22,7 @@ pub fn not_written(answer: Answer) -> Merged
 // The files, both solutions, and the merge. The entry calls this, and then fills what its answer leaves open.
 pub fn read_and_merge(
     direction: Direction,
-    h: u32,
+    stated: Stated,
     timetable: &[u8],
     profiles: &[u8],
     constraints: &[u8],
@@ -37,12 +38,12 @@ pub fn read_and_merge(
     second_choices: &mut [u32],
     text: &mut [u8],
 ) -> Merged
-    ensures { λ r. ⌜ MergeRead direction h (given timetable profiles constraints) (now (first .entry)) (now (second .entry))
+    ensures { λ r. ⌜ MergeRead direction stated (given timetable profiles constraints) (now (first .entry)) (now (second .entry))
         (before legs configurations «profile_table» samples «constraint_table» tracks) (now (choices .entry)) (now («second_choices» .entry)) (now (text .entry))
         r (after legs configurations «profile_table» samples «constraint_table» tracks) (now (choices .exit)) (now («second_choices» .exit)) (now (text .exit)) ⌝ }
 {
     match files::read_files(
-        h,
+        stated,
         timetable,
         profiles,
         constraints,
@@ -55,7 +56,7 @@ pub fn read_and_merge(
     ) {
         Filed::Refused(refusal) => not_written(Answer::Refused(refusal)),
         Filed::Whole(counts) => judging::merge_solutions(
-            h,
+            stated.horizon,
             direction,
             counts,
             first,

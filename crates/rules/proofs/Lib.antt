@@ -4,6 +4,7 @@ pub mod Truth
 pub mod Lists
 pub mod Pieces
 pub mod Numbers
--- The tokens of constraints.json, and the table of kinds
+-- The tokens of constraints.json, the table of kinds, and what a caller states
 pub mod TokenLaws
 pub mod KindRule
+pub mod StatedLaws

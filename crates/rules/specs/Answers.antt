@@ -75,6 +75,10 @@ noRoom = 16
 abbrev pub unequalTravel : ℕ
 unequalTravel = 17
 
+-- 21: an edition that is not known (document 02, E4)
+abbrev pub unknownEdition : ℕ
+unknownEdition = 21
+
 -- the files
 abbrev pub noFile : ℕ
 noFile = 0

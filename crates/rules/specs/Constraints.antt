@@ -12,7 +12,7 @@ use Rattle.rules.specs.Lists.{any, only, first, firstPlace, isSome}
 use Rattle.rules.specs.Answers.{refusal, tooLong, outOfRange, tooMany, alreadySeen, badJson, unknownName, repeatedOrMissing, notThere, noSubnet, noRoom, constraintsFile, Reading, refused, good, Test, _needs_}
 use Rattle.rules.specs.Bytes.{wholeOf}
 use Rattle.rules.specs.Timetable.{Row}
-use Rattle.rules.specs.Kinds.{listNamed, keyNamed, typeNamed, unknown, headway, singleTrack, dwell, turnaround, connection, subnets, firstLeg, secondLeg, minHeadway, minDwell, minTurnaround, minConnection, maxConnection, connectionType, subnetId, trackIds, noType, kindTable, noKind}
+use Rattle.rules.specs.Kinds.{listNamed, keyIn, typeNamed, unknown, headway, singleTrack, dwell, turnaround, connection, subnets, firstLeg, secondLeg, minHeadway, minDwell, minTurnaround, minConnection, maxConnection, connectionType, subnetId, trackIds, noType, kindTable, noKind}
 use Rattle.rules.specs.Tokens.{Token, tokensOf}
 use Rattle.rules.specs.declared.sizes.Constraint.{Constraint}
 use Rattle.rules.specs.declared.sizes.Track.{Track}
@@ -102,9 +102,9 @@ listBit list = 2 ^ (list - 1)
 abbrev pub allLists : ℕ
 allLists = 63
 
--- document 01 wants all six lists
-abbrev pub plainRules : Rules
-plainRules = record { required = allLists }
+-- document 01 wants all six lists, in whatever edition
+abbrev pub rulesIn : (edition : ℕ) → Rules
+rulesIn edition = record { required = allLists; edition = edition }
 
 abbrev pub state : Rules → Phase → (list lists key keys : ℕ) → Constraint → State
 state r p list lists key keys entry =
@@ -310,7 +310,7 @@ module _ (legs : List ℕ) (constraints tracks : ℕ) where
   act ListName st d t = listName (listNamed (t .word)) st d t
   act DocumentEnds st d t = documentEnds st d t
   act RecordOpens st d t = recordOpens st d t
-  act KeyName st d t = keyName (keyNamed (t .word)) st d t
+  act KeyName st d t = keyName (keyIn (st .rules .edition) (st .list) (t .word)) st d t
   act RecordEnds st d t = recordEnds st d t
   act StringValue st d t = stringValue (typeNamed (t .word)) st d t
   act StringCut st d t = stringCut st d t

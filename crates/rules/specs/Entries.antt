@@ -17,6 +17,7 @@ use Rattle.rules.specs.Reading.{Rooms, Texts, Files, filesOf, choicesRea
 use Rattle.rules.specs.Verdict.{offered, Verdict, accepted, violated, verdict, answerOf}
 use Rattle.rules.specs.Energy.{figuresOf, curvesOf, deskOf}
 use Rattle.rules.specs.Merge.{unequalFrom, chosen, textOf}
+use Rattle.rules.specs.declared.stated.Stated.{Stated}
 use Rattle.rules.specs.declared.sizes.Configuration.{Configuration}
 use Rattle.rules.specs.declared.answers.Refusal.{Refusal}
 use Rattle.rules.specs.declared.answers.Answer.{Answer}
@@ -91,10 +92,10 @@ pub record Whole : Type 0 where
   pub files : Files
   pub choices : List Configuration
 
-unfoldable pub allRead : (H : ℕ) → Texts → (solution : List ℕ) → Rooms → (choices : ℕ) → Reading Whole
-allRead H x solution room choices = do
-  files ← filesOf H x room
-  cs ← choicesRead H files solutionFile choices solution
+unfoldable pub allRead : Stated → Texts → (solution : List ℕ) → Rooms → (choices : ℕ) → Reading Whole
+allRead S x solution room choices = do
+  files ← filesOf S x room
+  cs ← choicesRead (S .horizon) files solutionFile choices solution
   good (record { files = files; choices = cs })
 
 pub record Checked : Type 0 where
@@ -111,8 +112,8 @@ checkedFrom (good w) t c =
       choices = writtenChoices (w .choices) c;
     }
 
-unfoldable pub checked : (H : ℕ) → Texts → (solution : List ℕ) → Tables → (choices : List ℕ) → Checked
-checked H x solution t c = checkedFrom (allRead H x solution (roomsOf t) (length c)) t c
+unfoldable pub checked : Stated → Texts → (solution : List ℕ) → Tables → (choices : List ℕ) → Checked
+checked S x solution t c = checkedFrom (allRead S x solution (roomsOf t) (length c)) t c
 
 -- ---- energy: figures for accepted solutions only
 
@@ -170,8 +171,8 @@ abbrev pub reportFrom : Reading Whole → (H : ℕ) → Tables → List ℕ → 
 reportFrom (refused r) H t c p = reportRefused r t c p
 reportFrom (good w) H t c p = reportJudged (verdictOf (w .files) (w .choices)) H w t c p
 
-unfoldable pub reported : (H : ℕ) → Texts → (solution : List ℕ) → Tables → (choices : List ℕ) → (curves : List ℤ) → Reported
-reported H x solution t c p = reportFrom (allRead H x solution (roomsOf t) (length c)) H t c p
+unfoldable pub reported : Stated → Texts → (solution : List ℕ) → Tables → (choices : List ℕ) → (curves : List ℤ) → Reported
+reported S x solution t c p = reportFrom (allRead S x solution (roomsOf t) (length c)) (S .horizon) t c p
 
 -- ---- merge: the rule of choosing is `earlier` or `later`, by the direction
 
@@ -180,11 +181,11 @@ pub record Both : Type 0 where
   pub first : List Configuration
   pub second : List Configuration
 
-unfoldable pub bothRead : (H : ℕ) → Texts → (first second : List ℕ) → Rooms → (choices secondChoices : ℕ) → Reading Both
-bothRead H x first second room choices secondChoices = do
-  files ← filesOf H x room
-  a ← choicesRead H files solutionFile choices first
-  b ← choicesRead H files secondFile secondChoices second
+unfoldable pub bothRead : Stated → Texts → (first second : List ℕ) → Rooms → (choices secondChoices : ℕ) → Reading Both
+bothRead S x first second room choices secondChoices = do
+  files ← filesOf S x room
+  a ← choicesRead (S .horizon) files solutionFile choices first
+  b ← choicesRead (S .horizon) files secondFile secondChoices second
   good (record { files = files; first = a; second = b })
 
 pub record Merged : Type 0 where
@@ -253,5 +254,5 @@ module _ (t : Tables) (c d text : List ℕ) where
   mergeFrom secondText merge (good b) = mergeFirst secondText merge (verdictOf (b .files) (b .first)) b
 
 unfoldable pub merged :
-    (merge : List Configuration → List Configuration → List Configuration) → (H : ℕ) → Texts → (first second : List ℕ) → Tables → (choices secondChoices text : List ℕ) → Merged
-merged merge H x first second t c d text = mergeFrom t c d text second merge (bothRead H x first second (roomsOf t) (length c) (length d))
+    (merge : List Configuration → List Configuration → List Configuration) → Stated → Texts → (first second : List ℕ) → Tables → (choices secondChoices text : List ℕ) → Merged
+merged merge S x first second t c d text = mergeFrom t c d text second merge (bothRead S x first second (roomsOf t) (length c) (length d))

@@ -1,23 +1,25 @@
 -- The examples of document 01 ("Examples to hold the definitions to"). The marked ones stand in one table with one statement, from texts to answers, and the checker
 -- computes them; then come the unmarked ones, and one for each error that document 01 says tempts.
-use Prim.Native.Nat.{ℕ}
+use Prim.Native.Nat.{ℕ, _-_, _^_}
 use Prim.Native.String.{String}
 use mathlib.Core.Path.{_≡_, refl}
 use mathlib.Core.Bool.{Bool, true, false}
 use mathlib.Core.List.{List, [], _∷_, _++_}
 use lib.ListN.{replicate, length}
 use lib.IntN.{ℤ, pos}
-use Rattle.rules.specs.Answers.{refusal, violation, badHeader, badRow, outOfRange, unknownName, noSubnet, noRoom, timetableFile, profilesFile, constraintsFile, solutionFile}
+use Rattle.rules.specs.Answers.{refusal, violation, badHorizon, badHeader, badRow, outOfRange, unknownName, noSubnet, noRoom, unknownEdition, noFile, timetableFile, profilesFile, constraintsFile, solutionFile}
 use Rattle.rules.specs.Bytes.{bytes, joined, comma}
 use Rattle.rules.specs.Timetable.{timetableHeader, configuration, inRange}
 use Rattle.rules.specs.Profiles.{profilesHeader}
-use Rattle.rules.specs.Kinds.{notOffered, headway, dwell, connection}
+use Rattle.rules.specs.Kinds.{notOffered, headway, dwell, turnaround, connection, tableEdition, exampleEdition}
+use Rattle.rules.specs.Stated.{stated}
 use Rattle.rules.specs.Reading.{Texts}
 use Rattle.rules.specs.Verdict.{All}
 use Rattle.rules.specs.Merge.{earlier, later}
 use Rattle.rules.specs.Entries.{Tables, checked, reported, merged}
 use Rattle.rules.specs.Display.{rowAt}
 use Rattle.rules.specs.Computed.{computed}
+use Rattle.rules.specs.declared.stated.Stated.{Stated}
 use Rattle.rules.specs.declared.sizes.Configuration.{Configuration}
 use Rattle.rules.specs.declared.figures.Peaks.{Peaks}
 use Rattle.rules.specs.declared.figures.Figures.{Figures}
@@ -26,8 +28,9 @@ use Rattle.rules.specs.declared.answers.Answer.the-variants.{Accepted, V
 
 -- ---- the texts of document 01's example
 
-abbrev pub H : ℕ
-H = 100
+-- H is 100, and the edition document 01's
+abbrev pub S : Stated
+S = stated 100 exampleEdition
 
 abbrev pub rows : String → List ℕ
 rows s = timetableHeader ++ bytes s
@@ -115,14 +118,14 @@ abbrev pub texts : (timetable profiles constraints : List ℕ) → Texts
 texts t p c = record { timetable = t; profiles = p; constraints = c }
 
 abbrev pub answer : (timetable profiles constraints solution : List ℕ) → Answer
-answer t p c s = checked H (texts t p c) s lent lentChoices .answer
+answer t p c s = checked S (texts t p c) s lent lentChoices .answer
 
 abbrev pub figures : (timetable constraints solution : List ℕ) → Figures
-figures t c s = reported H (texts t profiles c) s lent lentChoices (replicate 200 (pos 9)) .figures
+figures t c s = reported S (texts t profiles c) s lent lentChoices (replicate 200 (pos 9)) .figures
 
 -- a merged text in a buffer that is just as long
 abbrev pub mergedText : (merge : List Configuration → List Configuration → List Configuration) → List ℕ
-mergedText merge = merged merge H (texts draft profiles dwell20) solution15 solution45 lent lentChoices lentChoices (replicate (length draft) 0) .text
+mergedText merge = merged merge S (texts draft profiles dwell20) solution15 solution45 lent lentChoices lentChoices (replicate (length draft) 0) .text
 
 -- ---- THE TABLE
 
@@ -131,6 +134,7 @@ pub data Example : Type 0 where
   draws : (timetable constraints solution : List ℕ) → (before drawn lost : ℕ) (fluctuation : ℤ) (peaks : Peaks) → Example
   merges : (merge : List Configuration → List Configuration → List Configuration) → (departures : List Configuration) (text : List ℕ) → Example
   ranges : Configuration → Bool → Example
+  states : Stated → (timetable constraints : List ℕ) → Answer → Example
 
 -- the choices of document 01's A and B
 abbrev pub A : List Configuration
@@ -145,6 +149,7 @@ Right (draws t c s before drawn lost fluctuation peaks) =
     figures t c s ≡ record { before = before; drawn = drawn; lost = lost; fluctuation = fluctuation; peaks = peaks }
 Right (merges merge departures text) = (merge A B ≡ departures) × (mergedText merge ≡ text)
 Right (ranges c b) = inRange 4_000 c ≡ b
+Right (states stated t c a) = checked stated (texts t profiles c) draft lent lentChoices .answer ≡ a
 
 -- both peaks in the only quarter
 abbrev pub inFirst : (before drawn : ℕ) → Peaks
@@ -290,3 +295,50 @@ shown : (rowAt (bytes "h\r\n\"a\"\r\nb\r\r\nc\r") [] timetableFile 3 ≡ bytes "
     × (rowAt (bytes "h\r\n\"a\"\r\nb\r\r\nc\r") [] timetableFile 12 ≡ bytes "c\r")
 unfolding computed
 shown = (refl, refl, refl)
+
+-- ---- two editions (document 02, E4)
+
+-- a record of kind 3 and one of kind 4, each with the keys that follow those of its legs
+abbrev pub keyed : (dwell turnaround : String) → List ℕ
+keyed dwell turnaround =
+    object
+    (list "headway_time_constraints" ""
+    ∷ list "single_track_headway_constraints" ""
+    ∷ (bytes "\"dwell_time_constraints\": [{\"first_leg_id\": 1, \"second_leg_id\": 2, " ++ bytes dwell ++ bytes "}]")
+    ∷ (bytes "\"terminal_turnaround_constraints\": [{\"first_leg_id\": 1, \"second_leg_id\": 2, " ++ bytes turnaround ++ bytes "}]")
+    ∷ list "connection_constraints" ""
+    ∷ list "recuperation_subnets" oneSubnet
+    ∷ [])
+
+abbrev pub byTable : Stated
+byTable = stated 100 tableEdition
+
+abbrev pub byExample : Stated
+byExample = stated 100 exampleEdition
+
+abbrev pub editions : List Example
+editions =
+    -- a turnaround of 27 seconds by the edition's own key: kind 4, position 0, inequality 1, shortfall 1
+    states byTable draft (keyed "\"min_dwell_time\": 20" "\"min_dwell_time\": 27") (Violated (violation turnaround 0 1 1 solutionFile))
+    ∷ states byExample draft (keyed "\"min_dwell_time\": 20" "\"min_turnaround_time\": 27") (Violated (violation turnaround 0 1 1 solutionFile))
+    -- the other edition's key is 10 at its token
+    ∷ states byTable draft (keyed "\"min_dwell_time\": 20" "\"min_turnaround_time\": 27") (Refused (refusal unknownName constraintsFile 237))
+    ∷ states byExample draft (keyed "\"min_dwell_time\": 20" "\"min_dwell_time\": 27") (Refused (refusal unknownName constraintsFile 237))
+    -- and so it is beside the edition's own, wherever it stands
+    ∷ states byTable draft (keyed "\"min_dwell_time\": 20" "\"min_turnaround_time\": 27, \"min_dwell_time\": 27") (Refused (refusal unknownName constraintsFile 237))
+    ∷ states byTable draft (keyed "\"min_dwell_time\": 20" "\"min_dwell_time\": 27, \"min_turnaround_time\": 27") (Refused (refusal unknownName constraintsFile 259))
+    ∷ states byExample draft (keyed "\"min_dwell_time\": 20" "\"min_turnaround_time\": 27, \"min_dwell_time\": 27") (Refused (refusal unknownName constraintsFile 264))
+    ∷ states byExample draft (keyed "\"min_dwell_time\": 20" "\"min_dwell_time\": 27, \"min_turnaround_time\": 27") (Refused (refusal unknownName constraintsFile 237))
+    -- kind 3 never changes
+    ∷ states byTable draft (keyed "\"min_turnaround_time\": 20" "\"min_dwell_time\": 27") (Refused (refusal unknownName constraintsFile 138))
+    ∷ states byExample draft (keyed "\"min_turnaround_time\": 20" "\"min_turnaround_time\": 27") (Refused (refusal unknownName constraintsFile 138))
+    -- any other edition is 21, after 1 and before every text
+    ∷ states (stated 100 0) [] [] (Refused (refusal unknownEdition noFile 0))
+    ∷ states (stated 100 3) [] [] (Refused (refusal unknownEdition noFile 0))
+    ∷ states (stated 100 (2 ^ 32 - 1)) [] [] (Refused (refusal unknownEdition noFile 0))
+    ∷ states (stated 0 3) [] [] (Refused (refusal badHorizon noFile 0))
+    ∷ []
+
+editions-hold : All Right editions
+unfolding computed
+editions-hold = (refl, (refl, (refl, (refl, (refl, (refl, (refl, (refl, (refl, (refl, (refl, (refl, (refl, (refl, tt))))))))))))))

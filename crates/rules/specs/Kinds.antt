@@ -1,6 +1,6 @@
 -- The five kinds with the keys that each must carry, in one table (document 01, "constraints.json").
 use Prim.Native.Nat.{ℕ, _+_}
-use mathlib.Core.Bool.{cond}
+use mathlib.Core.Bool.{Bool, true, false, cond, _&&_}
 use mathlib.Core.List.{List, [], _∷_}
 use lib.Dec.{eqb}
 use lib.ListN.{getD, take}
@@ -127,6 +127,27 @@ keyNamed = bitFrom 1 keyNames
 
 unfoldable pub typeNamed : List ℕ → ℕ
 typeNamed = numberFrom 1 typeNames
+
+-- ---- two editions of kind 4's key: `min_dwell_time` by Table 3 of document 000, `min_turnaround_time` by its example and 001
+
+abbrev pub tableEdition : ℕ
+tableEdition = 1
+
+abbrev pub exampleEdition : ℕ
+exampleEdition = 2
+
+-- the two names change places
+abbrev pub renamed : Bool → (key : ℕ) → ℕ
+renamed true key = cond (eqb key minDwell) minTurnaround (cond (eqb key minTurnaround) minDwell key)
+renamed false key = key
+
+-- where they do: in kind 4's records, by that table
+abbrev pub isRenamed : (edition list : ℕ) → Bool
+isRenamed edition list = eqb edition tableEdition && eqb list turnaround
+
+-- the key that a word names in a record of a list
+unfoldable pub keyIn : (edition list : ℕ) → List ℕ → ℕ
+keyIn edition list word = renamed (isRenamed edition list) (keyNamed word)
 
 -- ---- the inequalities, in order, of a record's two choices
 

@@ -9,6 +9,7 @@ pub mod Profiles
 pub mod Kinds
 pub mod Tokens
 pub mod Constraints
+pub mod Stated
 pub mod Reading
 pub mod Verdict
 pub mod Energy

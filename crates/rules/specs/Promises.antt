@@ -8,37 +8,38 @@ use Rattle.rules.specs.Answers.{valuesOf}
 use Rattle.rules.specs.Reading.{Texts}
 use Rattle.rules.specs.Merge.{mergeOf}
 use Rattle.rules.specs.Entries.{Tables, checked, reported, merged}
+use Rattle.rules.specs.declared.stated.Stated.{Stated}
 use Rattle.rules.specs.declared.outcomes.Checked.{Checked}
 use Rattle.rules.specs.declared.outcomes.Report.{Report}
 use Rattle.rules.specs.declared.outcomes.Merged.{Merged}
 use Rattle.rules.specs.declared.outcomes.Direction.{Direction}
 
--- In each: H, the files' texts x, and the solution, or two of them, a and b; as they were lent, the tables t and the choices c, with the curves p, or with the second
+-- In each: what is stated, S, the files' texts x, and the solution, or two of them, a and b; as they were lent, the tables t and the choices c, with the curves p, or with the second
 -- choices d and the text's buffer w; what is given back, r; and what was lent, as it is left, with a ′.
 
 -- `check`
-pub record Checks (H : ℕ) (x : Texts) (solution : List ℕ) (t : Tables) (c : List ℕ) (r : Checked) (t′ : Tables) (c′ : List ℕ) : Type 0 where
-  pub answer : r .answer ≡ checked H x solution t c .answer
-  pub values : valuesOf (r .answer) ≡ valuesOf (checked H x solution t c .answer)
-  pub tables : t′ ≡ checked H x solution t c .tables
-  pub choices : c′ ≡ checked H x solution t c .choices
+pub record Checks (S : Stated) (x : Texts) (solution : List ℕ) (t : Tables) (c : List ℕ) (r : Checked) (t′ : Tables) (c′ : List ℕ) : Type 0 where
+  pub answer : r .answer ≡ checked S x solution t c .answer
+  pub values : valuesOf (r .answer) ≡ valuesOf (checked S x solution t c .answer)
+  pub tables : t′ ≡ checked S x solution t c .tables
+  pub choices : c′ ≡ checked S x solution t c .choices
 
 -- `energy`
-pub record Reports (H : ℕ) (x : Texts) (solution : List ℕ) (t : Tables) (c : List ℕ) (p : List ℤ) (r : Report) (t′ : Tables) (c′ : List ℕ) (p′ : List ℤ) : Type 0 where
-  pub answer : r .answer ≡ reported H x solution t c p .answer
-  pub values : valuesOf (r .answer) ≡ valuesOf (reported H x solution t c p .answer)
-  pub figures : r .figures ≡ reported H x solution t c p .figures
-  pub desk : r .desk ≡ reported H x solution t c p .desk
-  pub tables : t′ ≡ reported H x solution t c p .tables
-  pub choices : c′ ≡ reported H x solution t c p .choices
-  pub curves : p′ ≡ reported H x solution t c p .curves
+pub record Reports (S : Stated) (x : Texts) (solution : List ℕ) (t : Tables) (c : List ℕ) (p : List ℤ) (r : Report) (t′ : Tables) (c′ : List ℕ) (p′ : List ℤ) : Type 0 where
+  pub answer : r .answer ≡ reported S x solution t c p .answer
+  pub values : valuesOf (r .answer) ≡ valuesOf (reported S x solution t c p .answer)
+  pub figures : r .figures ≡ reported S x solution t c p .figures
+  pub desk : r .desk ≡ reported S x solution t c p .desk
+  pub tables : t′ ≡ reported S x solution t c p .tables
+  pub choices : c′ ≡ reported S x solution t c p .choices
+  pub curves : p′ ≡ reported S x solution t c p .curves
 
 -- `merge`, in either direction
-pub record Merges (direction : Direction) (H : ℕ) (x : Texts) (a b : List ℕ) (t : Tables) (c d w : List ℕ) (r : Merged) (t′ : Tables) (c′ d′ w′ : List ℕ) : Type 0 where
-  pub answer : r .answer ≡ merged (mergeOf direction) H x a b t c d w .answer
-  pub values : valuesOf (r .answer) ≡ valuesOf (merged (mergeOf direction) H x a b t c d w .answer)
-  pub length : r .length ≡ merged (mergeOf direction) H x a b t c d w .length
-  pub tables : t′ ≡ merged (mergeOf direction) H x a b t c d w .tables
-  pub choices : c′ ≡ merged (mergeOf direction) H x a b t c d w .choices
-  pub second : d′ ≡ merged (mergeOf direction) H x a b t c d w .second
-  pub text : w′ ≡ merged (mergeOf direction) H x a b t c d w .text
+pub record Merges (direction : Direction) (S : Stated) (x : Texts) (a b : List ℕ) (t : Tables) (c d w : List ℕ) (r : Merged) (t′ : Tables) (c′ d′ w′ : List ℕ) : Type 0 where
+  pub answer : r .answer ≡ merged (mergeOf direction) S x a b t c d w .answer
+  pub values : valuesOf (r .answer) ≡ valuesOf (merged (mergeOf direction) S x a b t c d w .answer)
+  pub length : r .length ≡ merged (mergeOf direction) S x a b t c d w .length
+  pub tables : t′ ≡ merged (mergeOf direction) S x a b t c d w .tables
+  pub choices : c′ ≡ merged (mergeOf direction) S x a b t c d w .choices
+  pub second : d′ ≡ merged (mergeOf direction) S x a b t c d w .second
+  pub text : w′ ≡ merged (mergeOf direction) S x a b t c d w .text

@@ -1,16 +1,18 @@
--- Everything is read in document 01's order, and the first refusal ends it: H; timetable; profiles; 12 and 13; constraints; 15; solution; 14; then a second solution.
+-- Everything is read in document 01's order, and the first refusal ends it: what is stated; timetable; profiles; 12 and 13; constraints; 15; solution; 14; then a second solution.
 use Prim.Native.Nat.{ℕ, suc, _/_}
 use mathlib.Core.Bool.{Bool, cond, _&&_}
 use mathlib.Core.List.{List, [], _∷_, map}
 use mathlib.Core.Option.{Option, none, some}
-use lib.Dec.{leb, eqb}
+use lib.Dec.{eqb}
 use lib.ListN.{length}
-use Rattle.rules.specs.Limits.{leastHorizon, mostHorizon, legWidth, configurationWidth, profileWidth, constraintWidth, trackWidth}
-use Rattle.rules.specs.Answers.{refusal, badHorizon, differs, noFile, timetableFile, Reading, refused, good, _>>=_}
+use Rattle.rules.specs.Limits.{legWidth, configurationWidth, profileWidth, constraintWidth, trackWidth}
+use Rattle.rules.specs.Answers.{refusal, differs, timetableFile, Reading, refused, good, _>>=_}
 use Rattle.rules.specs.Rows.{placeOfRow, firstFault, passed}
 use Rattle.rules.specs.Timetable.{Row, timetableOf, solutionOf, choicesOf}
 use Rattle.rules.specs.Profiles.{Curve, profilesOf, profileFault}
-use Rattle.rules.specs.Constraints.{Document, plainRules, constraintsOf, subnetFault}
+use Rattle.rules.specs.Constraints.{Document, constraintsOf, subnetFault}
+use Rattle.rules.specs.Stated.{rulesBy, known}
+use Rattle.rules.specs.declared.stated.Stated.{Stated}
 use Rattle.rules.specs.declared.sizes.Configuration.{Configuration}
 
 -- the numbers that each lent table has room for
@@ -37,19 +39,16 @@ pub record Files : Type 0 where
   pub curves : List Curve
   pub document : Document
 
-abbrev pub horizonOf : ℕ → Reading ℕ
-horizonOf H = cond (leb leastHorizon H && leb H mostHorizon) (good H) (refused (refusal badHorizon noFile 0))
-
 abbrev pub legIds : List Row → List ℕ
 legIds rows = map (λ r. r .leg) rows
 
-unfoldable pub filesOf : (H : ℕ) → Texts → Rooms → Reading Files
-filesOf H x room = do
-  within ← horizonOf H
-  rows ← timetableOf H (room .legs / legWidth) (room .configurations / configurationWidth) (x .timetable)
+unfoldable pub filesOf : Stated → Texts → Rooms → Reading Files
+filesOf S x room = do
+  stated ← known S
+  rows ← timetableOf (S .horizon) (room .legs / legWidth) (room .configurations / configurationWidth) (x .timetable)
   curves ← profilesOf (room .profiles / profileWidth) (room .samples) (x .profiles)
   powered ← passed timetableFile (x .timetable) (firstFault 0 (profileFault curves) rows) rows
-  document ← constraintsOf (legIds rows) (room .constraints / constraintWidth) (room .tracks / trackWidth) plainRules (x .constraints)
+  document ← constraintsOf (legIds rows) (room .constraints / constraintWidth) (room .tracks / trackWidth) (rulesBy S) (x .constraints)
   placed ← passed timetableFile (x .timetable) (firstFault 0 (subnetFault (document .tracks)) rows) rows
   good (record { rows = rows; curves = curves; document = document })
 

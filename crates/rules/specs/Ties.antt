@@ -3,8 +3,8 @@ use Prim.Native.Nat.{ℕ}
 use mathlib.Core.List.{List, [], _∷_}
 use lib.IntN.{ℤ}
 use Rattle.rules.specs.Limits.{leastHorizon, mostHorizon, quarterSeconds, mostQuarters, mostId, mostText, configurationWidth, mostConfigurations, leastTravel, mostTravel, legWidth, mostLegs, leastListed, mostListed, profileWidth, mostProfiles, leastSampled, mostSampled, mostSamples, mostKw, constraintWidth, mostConstraints, mostSeconds, mostSubnets, trackWidth, mostTracks, unsignedFill, byteFill, mostKj, kjAMwh, kjAMw, signedFill}
-use Rattle.rules.specs.Answers.{badHorizon, tooLong, badHeader, badRow, outOfRange, tooMany, alreadySeen, nominalNotListed, badJson, unknownName, repeatedOrMissing, notThere, wrongSamples, differs, noSubnet, noRoom, unequalTravel, noFile, timetableFile, profilesFile, constraintsFile, solutionFile, secondFile}
-use Rattle.rules.specs.Kinds.{notOffered, headway, singleTrack, dwell, turnaround, connection, unknown, subnets, firstLeg, secondLeg, minHeadway, minDwell, minTurnaround, minConnection, maxConnection, connectionType, subnetId, trackIds, noAnchor, byD, byDT, byX, latest, noType, byArrival, byDeparture}
+use Rattle.rules.specs.Answers.{badHorizon, tooLong, badHeader, badRow, outOfRange, tooMany, alreadySeen, nominalNotListed, badJson, unknownName, repeatedOrMissing, notThere, wrongSamples, differs, noSubnet, noRoom, unequalTravel, unknownEdition, noFile, timetableFile, profilesFile, constraintsFile, solutionFile, secondFile}
+use Rattle.rules.specs.Kinds.{notOffered, headway, singleTrack, dwell, turnaround, connection, unknown, subnets, firstLeg, secondLeg, minHeadway, minDwell, minTurnaround, minConnection, maxConnection, connectionType, subnetId, trackIds, tableEdition, exampleEdition, noAnchor, byD, byDT, byX, latest, noType, byArrival, byDeparture}
 use Rattle.rules.specs.Constraints.{allLists}
 
 abbrev pub limits : List ℕ
@@ -65,6 +65,7 @@ numbers =
     ∷ noSubnet
     ∷ noRoom
     ∷ unequalTravel
+    ∷ unknownEdition
     ∷ noFile
     ∷ timetableFile
     ∷ profilesFile
@@ -95,6 +96,8 @@ names =
     ∷ connectionType
     ∷ subnetId
     ∷ trackIds
+    ∷ tableEdition
+    ∷ exampleEdition
     ∷ noAnchor
     ∷ byD
     ∷ byDT

@@ -31,6 +31,17 @@ impl Key {
     pub const TRACK_IDS: u16 = 512;
 }
 
+// The editions that a file may be of, by number: they differ in the name of kind 4's key.
+pub struct Edition {}
+
+impl Edition {
+    // Table 3 of document 000: `min_dwell_time`.
+    pub const TABLE: u32 = 1;
+
+    // The example of document 000, and document 001: `min_turnaround_time`.
+    pub const EXAMPLE: u32 = 2;
+}
+
 // What an inequality measures a leg by.
 pub struct Anchor {}
 

@@ -7,6 +7,7 @@ use crate::answers::File;
 use crate::answers::Refusal;
 use crate::figures::Figures;
 use crate::kinds::Anchor;
+use crate::kinds::Edition;
 use crate::kinds::Key;
 use crate::kinds::Kind;
 use crate::sizes::Choice;
@@ -72,8 +73,8 @@ pub fn signed_fill_is_the_law() -> [i32; 1]
     [Fill::SIGNED]
 }
 
-// The seventeen numbers and the files.
-const NUMBERS: [u64; 23] = [
+// The numbers of refusals, and the files.
+const NUMBERS: [u64; 24] = [
     Refusal::HORIZON as u64,
     Refusal::TOO_LONG as u64,
     Refusal::HEADER as u64,
@@ -91,6 +92,7 @@ const NUMBERS: [u64; 23] = [
     Refusal::NO_SUBNET as u64,
     Refusal::ROOM as u64,
     Refusal::TRAVEL as u64,
+    Refusal::UNKNOWN_EDITION as u64,
     File::NONE as u64,
     File::TIMETABLE as u64,
     File::PROFILES as u64,
@@ -99,14 +101,14 @@ const NUMBERS: [u64; 23] = [
     File::SECOND_SOLUTION as u64,
 ];
 
-pub fn numbers_are_the_laws() -> [u64; 23]
+pub fn numbers_are_the_laws() -> [u64; 24]
     ensures { λ r. ⌜ r ≡ numbers ⌝ }
 {
     NUMBERS
 }
 
 // The kinds, lists, keys, anchors and connection types.
-const NAMES: [u64; 28] = [
+const NAMES: [u64; 30] = [
     Kind::NOT_OFFERED as u64,
     Kind::HEADWAY as u64,
     Kind::SINGLE_TRACK as u64,
@@ -127,6 +129,8 @@ const NAMES: [u64; 28] = [
     Key::CONNECTION_TYPE as u64,
     Key::SUBNET_ID as u64,
     Key::TRACK_IDS as u64,
+    Edition::TABLE as u64,
+    Edition::EXAMPLE as u64,
     Anchor::NONE as u64,
     Anchor::DEPARTURE as u64,
     Anchor::ARRIVAL as u64,
@@ -137,7 +141,7 @@ const NAMES: [u64; 28] = [
     Constraint::DEPARTURE as u64,
 ];
 
-pub fn names_are_the_laws() -> [u64; 28]
+pub fn names_are_the_laws() -> [u64; 30]
     ensures { λ r. ⌜ r ≡ names ⌝ }
 {
     NAMES

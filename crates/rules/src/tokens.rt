@@ -75,6 +75,8 @@ impl Lists {
 pub struct Rules {
     // The lists that must be present.
     pub required: u8,
+    // The edition of document 000, by which kind 4 names its key.
+    pub edition: u32,
 }
 
 // How far the reader is: the phase, the list and the lists seen, the key and the keys seen, the record so far.

@@ -6,9 +6,12 @@ use lib.ListN.{replicate}
 use lib.IntN.{ℤ, pos}
 use Rattle.rules.specs.Limits.{legWidth, configurationWidth, profileWidth, constraintWidth, trackWidth}
 use Rattle.rules.specs.Answers.{refusal, violation, solutionFile}
+use Rattle.rules.specs.Kinds.{exampleEdition}
+use Rattle.rules.specs.Stated.{stated}
 use Rattle.rules.specs.Reading.{Texts}
 use Rattle.rules.specs.Entries.{Tables, Checked, checked, Reported, reported, Merged, merged}
 use Rattle.rules.specs.Examples.{texts, list, object}
+use Rattle.rules.specs.declared.stated.Stated.{Stated}
 use Rattle.rules.specs.declared.sizes.Configuration.{Configuration}
 use Rattle.rules.specs.declared.answers.Answer.{Answer}
 use Rattle.rules.specs.declared.answers.Answer.the-variants.{Violated, Refused}
@@ -22,6 +25,10 @@ pub record Input : Type 0 where
 
 abbrev pub input : (H : ℕ) → (timetable profiles constraints solution : List ℕ) → Input
 input H t p c s = record { H = H; texts = texts t p c; solution = s }
+
+-- in document 01's edition
+abbrev pub statedOf : Input → Stated
+statedOf x = stated (x .H) exampleEdition
 
 -- room for so many records of each table, which holds nines
 abbrev pub roomFor : (legs configurations profiles samples constraints tracks : ℕ) → Tables
@@ -48,10 +55,10 @@ ample = roomFor 3 6 3 9 3 3
 -- ---- entries
 
 abbrev pub check : Input → Tables → List ℕ → Checked
-check x t c = checked (x .H) (x .texts) (x .solution) t c
+check x t c = checked (statedOf x) (x .texts) (x .solution) t c
 
 abbrev pub report : Input → Tables → List ℕ → List ℤ → Reported
-report x t c p = reported (x .H) (x .texts) (x .solution) t c p
+report x t c p = reported (statedOf x) (x .texts) (x .solution) t c p
 
 -- the answer where there is room
 abbrev pub answerTo : Input → Answer
@@ -61,7 +68,7 @@ abbrev pub Merge : Type 0
 Merge = List Configuration → List Configuration → List Configuration
 
 abbrev pub merging : Merge → Input → (second : List ℕ) → Tables → (choices secondChoices text : List ℕ) → Merged
-merging merge x second t c d text = merged merge (x .H) (x .texts) (x .solution) second t c d text
+merging merge x second t c d text = merged merge (statedOf x) (x .texts) (x .solution) second t c d text
 
 -- ---- answers
 

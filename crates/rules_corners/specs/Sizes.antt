@@ -25,11 +25,12 @@ use Rattle.rules.specs.Answers.{outOfRange, tooMany, alreadySeen, noRoom, Judge
 use Rattle.rules.specs.Bytes.{bytes, spelled, joined, space, comma}
 use Rattle.rules.specs.Timetable.{timetableHeader, configuration, row, Row, rowTests as legTests}
 use Rattle.rules.specs.Profiles.{profilesHeader, Curve, rowTests as curveTests}
-use Rattle.rules.specs.Kinds.{headway, subnets, trackIds}
+use Rattle.rules.specs.Kinds.{exampleEdition, headway, subnets, trackIds}
 use Rattle.rules.specs.Tokens.{token}
-use Rattle.rules.specs.Constraints.{document, plainRules, state, noEntry, Turn, fault, on, finish, recordOpens, trackNumber}
+use Rattle.rules.specs.Constraints.{document, rulesIn, state, noEntry, Turn, fault, on, finish, recordOpens, trackNumber}
 use Rattle.rules.specs.Verdict.{All}
 use Rattle.rules.specs.Computed.{computed}
+use Rattle.rules.specs.Stated.{stated}
 use Rattle.rules.specs.Entries.{checked}
 use Rattle.rules.specs.Examples.{texts, list, object}
 use Rattle.rules.specs.declared.tokens.Class.the-variants.{OpenBrace, Run}
@@ -66,12 +67,12 @@ curveAfter n k c = numberOf (judge (curveTests (mostProfiles + 1) (mostSamples +
 abbrev recordAfter : (constraints room : ℕ) → ℕ
 recordAfter n room =
     turnNumber
-    (recordOpens [] room 0 (state plainRules FirstRecord headway 0 0 0 (noEntry 0)) (document (replicate n (noEntry headway)) [] 0 []) (token OpenBrace [] 0 1))
+    (recordOpens [] room 0 (state (rulesIn exampleEdition) FirstRecord headway 0 0 0 (noEntry 0)) (document (replicate n (noEntry headway)) [] 0 []) (token OpenBrace [] 0 1))
 
 abbrev trackAfter : (tracks room id : ℕ) → ℕ
 trackAfter n room id =
     turnNumber
-    (trackNumber [] 0 room (state plainRules FirstTrack subnets 0 trackIds trackIds (noEntry 0))
+    (trackNumber [] 0 room (state (rulesIn exampleEdition) FirstTrack subnets 0 trackIds trackIds (noEntry 0))
     (document [] (replicate n (record { id = 1; subnet = 0 })) 1 []) (token Run (spelled id) 0 1))
 
 -- ---- texts
@@ -166,7 +167,7 @@ spacious x = check x (roomFor 1 mostListed 1 mostSampled 1 1) (choicesFor 1) .an
 -- the sample table of a reading whose H and timetable do not matter
 abbrev sampleTable : String → List ℤ
 sampleTable s =
-    checked 1 (texts timetableHeader (curveIs 7 (bytes s)) (sixLists "" "" "" "" "" "")) timetableHeader (roomFor 0 0 1 4 0 0) [] .tables .samples
+    checked (stated 1 exampleEdition) (texts timetableHeader (curveIs 7 (bytes s)) (sixLists "" "" "" "" "" "")) timetableHeader (roomFor 0 0 1 4 0 0) [] .tables .samples
 
 abbrev pub Right : Corner → Type 0
 Right (answers x a) = spacious x ≡ a

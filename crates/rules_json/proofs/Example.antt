@@ -9,8 +9,8 @@ use borrow.Author.Tests.{eqb-false, not-true}
 use Rattle.rules.specs.Bytes.{bytes}
 use Rattle.rules.specs.Lists.{any, every}
 use Rattle.rules.specs.Answers.{good}
-use Rattle.rules.specs.Kinds.{headway, singleTrack, dwell, turnaround, connection, subnets, firstLeg, secondLeg, minHeadway, minDwell, minConnection, maxConnection, subnetId, byArrival, noType}
-use Rattle.rules.specs.Constraints.{document, plainRules, constraintsOf}
+use Rattle.rules.specs.Kinds.{tableEdition, exampleEdition, headway, singleTrack, dwell, turnaround, connection, subnets, firstLeg, secondLeg, minHeadway, minDwell, minTurnaround, minConnection, maxConnection, subnetId, byArrival, noType}
+use Rattle.rules.specs.Constraints.{document, rulesIn, constraintsOf}
 use Rattle.rules.proofs.Truth.{all-map}
 use Rattle.rules_theorems.specs.Lists.{Distinct}
 use Rattle.rules_theorems.proofs.All.{none-passes}
@@ -75,7 +75,7 @@ text =
     ++ bytes " , \"max_connection_time\" : 25 , \"min_connection_time\" : 5 } ]"
     ++ bytes " , \"terminal_turnaround_constraints\" : [ ] , \"single_track_headway_constraints\" : [ ] } "
 
-pub its-text : spread (bytes " ") (pieces value) ≡ text
+pub its-text : spread (bytes " ") (pieces exampleEdition value) ≡ text
 its-text = refl
 
 -- its document: rows for legs, what a kind does not carry is 0, and the tracks with their subnet
@@ -120,5 +120,21 @@ lawful =
       };
     }
 
-pub read : constraintsOf legs 4 2 plainRules text ≡ good (documentOf legs value)
-read = spread-read legs 4 2 value (bytes " ") lawful refl (omega arith)
+pub read : constraintsOf legs 4 2 (rulesIn exampleEdition) text ≡ good (documentOf legs value)
+read = spread-read exampleEdition legs 4 2 value (bytes " ") lawful refl (omega arith)
+
+-- ---- two editions: in kind 4's records the name alone is another, and kind 3's never changes
+
+abbrev turned : Value
+turned =
+    record { list = turnaround; records = (number minTurnaround 27 ∷ number firstLeg 1 ∷ []) ∷ [] }
+    ∷ record { list = dwell; records = (number minDwell 20 ∷ []) ∷ [] }
+    ∷ []
+
+by-table : spread [] (pieces tableEdition turned)
+    ≡ bytes "{\"terminal_turnaround_constraints\":[{\"min_dwell_time\":27,\"first_leg_id\":1}],\"dwell_time_constraints\":[{\"min_dwell_time\":20}]}"
+by-table = refl
+
+by-example : spread [] (pieces exampleEdition turned)
+    ≡ bytes "{\"terminal_turnaround_constraints\":[{\"min_turnaround_time\":27,\"first_leg_id\":1}],\"dwell_time_constraints\":[{\"min_dwell_time\":20}]}"
+by-example = refl

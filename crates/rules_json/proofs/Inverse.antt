@@ -15,7 +15,7 @@ use Rattle.rules.specs.Bytes.{wholeOf}
 use Rattle.rules.specs.Answers.{outOfRange, tooMany, alreadySeen, badJson, unknownName, repeatedOrMissing, notThere, noRoom, Reading, good}
 use Rattle.rules.specs.Kinds.{unknown, subnets, connectionType, subnetId, trackIds}
 use Rattle.rules.specs.Tokens.{Token}
-use Rattle.rules.specs.Constraints.{Document, Turn, fault, goes, inList, inRecord, atKey, withEntry, withId, withTrack, withSubnet, entered, keysOf, listBit, allLists, plainRules, numberOf, isNumber, rowOfLeg, listName, documentEnds, recordOpens, keyName, recordEnds, stringValue, legValue, subnetValue, secondsValue, numberValue, tracksOpen, trackNumber, onward}
+use Rattle.rules.specs.Constraints.{Document, Turn, fault, goes, inList, inRecord, atKey, withEntry, withId, withTrack, withSubnet, entered, keysOf, listBit, allLists, rulesIn, numberOf, isNumber, rowOfLeg, listName, documentEnds, recordOpens, keyName, recordEnds, stringValue, legValue, subnetValue, secondsValue, numberValue, tracksOpen, trackNumber, onward}
 use Rattle.rules.specs.declared.tokens.Phase.the-variants.{Done, AfterRecord, FirstTrack, AfterTrack}
 use Rattle.rules.specs.declared.tokens.State.{State}
 use Rattle.rules_theorems.proofs.Keys.{has}
@@ -49,10 +49,10 @@ module _ (legs : List ℕ) (constraints tracks : ℕ) (more : State → Document
         let b = test repeatedOrMissing (eqb (bitAnd (st .lists) (listBit list)) 0) _ (a .1) in
         (a .0, eqb-true _ 0 (b .0), b .1)
 
-    pub document-said : st .rules ≡ plainRules → Read (documentEnds legs constraints tracks st d t)
+    pub document-said : (E : ℕ) → st .rules ≡ rulesIn E → Read (documentEnds legs constraints tracks st d t)
         → (bitAnd (st .lists) allLists ≡ allLists) × (more (goes Done st) d ≡ good D)
     unfolding documentEnds
-    document-said plain e =
+    document-said E plain e =
         let a = test repeatedOrMissing (eqb (bitAnd (st .lists) (st .rules .required)) (st .rules .required)) _ e in
         (subst (λ (n : ℕ). bitAnd (st .lists) n ≡ n) (ap (λ r. r .required) plain) (eqb-true _ _ (a .0)), a .1)
 

@@ -69,17 +69,18 @@ noTracks m = record { ids = []; then = m }
 
 -- ---- as pieces
 
-abbrev pub recordsBy : Writes (List (List Member)) → Records → List Piece
-recordsBy write r = write (r .records) (more listPieces closeBrace (r .lists) [])
+-- E: the edition; list: that of the record
+abbrev pub recordsBy : (E : ℕ) → Writes (List (List Member)) → Records → List Piece
+recordsBy E write r = write (r .records) (more (listPieces E) closeBrace (r .lists) [])
 
-abbrev pub membersBy : Writes (List Member) → Members → List Piece
-membersBy write m = write (m .members) (recordsBy (more recordPieces closeBracket) (m .then))
+abbrev pub membersBy : (E list : ℕ) → Writes (List Member) → Members → List Piece
+membersBy E list write m = write (m .members) (recordsBy E (more (recordPieces E list) closeBracket) (m .then))
 
-abbrev pub tracksBy : Writes (List ℕ) → Tracks → List Piece
-tracksBy write t = write (t .ids) (membersBy (more memberPieces closeBrace) (t .then))
+abbrev pub tracksBy : (E list : ℕ) → Writes (List ℕ) → Tracks → List Piece
+tracksBy E list write t = write (t .ids) (membersBy E list (more (memberPieces E list) closeBrace) (t .then))
 
-abbrev pub valueOf : MemberThen → List Piece
-valueOf m = saidPieces (m .member) (membersBy (more memberPieces closeBrace) (m .then))
+abbrev pub valueOf : (E list : ℕ) → MemberThen → List Piece
+valueOf E list m = saidPieces (m .member) (membersBy E list (more (memberPieces E list) closeBrace) (m .then))
 
 -- ---- the tests that are left, and the document at the end
 
@@ -121,32 +122,32 @@ pub record Is (A : Type 0) (write : A → List Piece) (Ok : A → Type 0) (after
   pub ok : Ok left
   pub ends : after left ≡ D
 
-module _ (legs : List ℕ) (D : Document) where
+module _ (E : ℕ) (legs : List ℕ) (D : Document) where
   abbrev pub Left : Phase → State → Document → List Token → Type 0
-  Left Text st d = Is Value pieces (OkLists legs (st .lists)) (afterLists legs d) D
-  Left FirstName st d = Is Value (λ v. items listPieces closeBrace v []) (OkLists legs (st .lists)) (afterLists legs d) D
+  Left Text st d = Is Value (pieces E) (OkLists legs (st .lists)) (afterLists legs d) D
+  Left FirstName st d = Is Value (λ v. items (listPieces E) closeBrace v []) (OkLists legs (st .lists)) (afterLists legs d) D
   Left Name st d =
-      Is ListThen (λ l. items listPieces closeBrace (listJoined l) []) (λ l. OkLists legs (st .lists) (listJoined l)) (λ l. afterLists legs d (listJoined l)) D
-  Left AfterList st d = Is Value (λ v. more listPieces closeBrace v []) (OkLists legs (st .lists)) (afterLists legs d) D
-  Left NameColon st d = Is Records (λ r. colon ∷ openBracket ∷ recordsBy (items recordPieces closeBracket) r) (RecordsOk legs st) (afterThoseRecords legs st d) D
-  Left ListOpen st d = Is Records (λ r. openBracket ∷ recordsBy (items recordPieces closeBracket) r) (RecordsOk legs st) (afterThoseRecords legs st d) D
-  Left FirstRecord st d = Is Records (recordsBy (items recordPieces closeBracket)) (RecordsOk legs st) (afterThoseRecords legs st d) D
+      Is ListThen (λ l. items (listPieces E) closeBrace (listJoined l) []) (λ l. OkLists legs (st .lists) (listJoined l)) (λ l. afterLists legs d (listJoined l)) D
+  Left AfterList st d = Is Value (λ v. more (listPieces E) closeBrace v []) (OkLists legs (st .lists)) (afterLists legs d) D
+  Left NameColon st d = Is Records (λ r. colon ∷ openBracket ∷ recordsBy E (items (recordPieces E (st .list)) closeBracket) r) (RecordsOk legs st) (afterThoseRecords legs st d) D
+  Left ListOpen st d = Is Records (λ r. openBracket ∷ recordsBy E (items (recordPieces E (st .list)) closeBracket) r) (RecordsOk legs st) (afterThoseRecords legs st d) D
+  Left FirstRecord st d = Is Records (recordsBy E (items (recordPieces E (st .list)) closeBracket)) (RecordsOk legs st) (afterThoseRecords legs st d) D
   Left Record st d =
-      Is Members (λ m. recordsBy (items recordPieces closeBracket) (recordJoined m)) (λ m. RecordsOk legs st (recordJoined m))
+      Is Members (λ m. recordsBy E (items (recordPieces E (st .list)) closeBracket) (recordJoined m)) (λ m. RecordsOk legs st (recordJoined m))
       (λ m. afterThoseRecords legs st d (recordJoined m)) D
-  Left AfterRecord st d = Is Records (recordsBy (more recordPieces closeBracket)) (RecordsOk legs st) (afterThoseRecords legs st d) D
-  Left FirstKey st d = Is Members (membersBy (items memberPieces closeBrace)) (MembersOk legs st) (afterThoseMembers legs st (st .entry) d) D
+  Left AfterRecord st d = Is Records (recordsBy E (more (recordPieces E (st .list)) closeBracket)) (RecordsOk legs st) (afterThoseRecords legs st d) D
+  Left FirstKey st d = Is Members (membersBy E (st .list) (items (memberPieces E (st .list)) closeBrace)) (MembersOk legs st) (afterThoseMembers legs st (st .entry) d) D
   Left NextKey st d =
-      Is MemberThen (λ m. membersBy (items memberPieces closeBrace) (memberJoined m)) (λ m. MembersOk legs st (memberJoined m))
+      Is MemberThen (λ m. membersBy E (st .list) (items (memberPieces E (st .list)) closeBrace) (memberJoined m)) (λ m. MembersOk legs st (memberJoined m))
       (λ m. afterThoseMembers legs st (st .entry) d (memberJoined m)) D
-  Left KeyColon st d = Is MemberThen (λ m. colon ∷ valueOf m) (ValueOk legs st) (afterValue legs st d) D
-  Left AtValue st d = Is MemberThen valueOf (ValueOk legs st) (afterValue legs st d) D
-  Left AfterValue st d = Is Members (membersBy (more memberPieces closeBrace)) (MembersOk legs st) (afterThoseMembers legs st (st .entry) d) D
-  Left FirstTrack st d = Is Tracks (tracksBy (items trackPieces closeBracket)) (TracksOk legs st) (afterTracks legs st d) D
+  Left KeyColon st d = Is MemberThen (λ m. colon ∷ valueOf E (st .list) m) (ValueOk legs st) (afterValue legs st d) D
+  Left AtValue st d = Is MemberThen (valueOf E (st .list)) (ValueOk legs st) (afterValue legs st d) D
+  Left AfterValue st d = Is Members (membersBy E (st .list) (more (memberPieces E (st .list)) closeBrace)) (MembersOk legs st) (afterThoseMembers legs st (st .entry) d) D
+  Left FirstTrack st d = Is Tracks (tracksBy E (st .list) (items trackPieces closeBracket)) (TracksOk legs st) (afterTracks legs st d) D
   Left NextTrack st d =
-      Is TrackThen (λ t. tracksBy (items trackPieces closeBracket) (trackJoined t)) (λ t. TracksOk legs st (trackJoined t))
+      Is TrackThen (λ t. tracksBy E (st .list) (items trackPieces closeBracket) (trackJoined t)) (λ t. TracksOk legs st (trackJoined t))
       (λ t. afterTracks legs st d (trackJoined t)) D
-  Left AfterTrack st d = Is Tracks (tracksBy (more trackPieces closeBracket)) (TracksOk legs st) (afterTracks legs st d) D
+  Left AfterTrack st d = Is Tracks (tracksBy E (st .list) (more trackPieces closeBracket)) (TracksOk legs st) (afterTracks legs st d) D
   Left Done st d = Is (Unit {0}) (λ u. []) (λ u. Unit {0}) (λ u. d) D
 
 -- ---- a sign in front, and the same as another thing

@@ -25,3 +25,5 @@ pub mod Soundness
 pub mod OneValue
 -- All texts together
 pub mod Files
+-- A file in another edition
+pub mod Twins

@@ -11,7 +11,7 @@ use borrow.Author.Tests.{eq-eqb}
 use Rattle.rules.specs.Answers.{Reading, good}
 use Rattle.rules.specs.Kinds.{unknown, subnets, listNamed}
 use Rattle.rules.specs.Tokens.{Token}
-use Rattle.rules.specs.Constraints.{Document, empty, on, actionOf, state, start, goes, inList, noEntry, listBit, allLists, plainRules, listName, documentEnds, act, turnOf, onward, run}
+use Rattle.rules.specs.Constraints.{Document, empty, on, actionOf, state, start, goes, inList, noEntry, listBit, allLists, rulesIn, listName, documentEnds, act, turnOf, onward, run}
 use Rattle.rules.specs.Verdict.{All}
 use Rattle.rules.specs.declared.sizes.Constraint.{Constraint}
 use Rattle.rules.specs.declared.tokens.Class.{Class}
@@ -29,10 +29,10 @@ use Rattle.rules_json.proofs.Turns.{Reads, does, leads, record-opened}
 use Rattle.rules_json.proofs.Members.{all-members}
 
 -- a state in a list; lists: those that were seen
-abbrev in-list : (list lists : ℕ) → Phase → (key keys : ℕ) → Constraint → State
-in-list list lists p key keys c = state plainRules p list lists key keys c
+abbrev in-list : (E : ℕ) → (list lists : ℕ) → Phase → (key keys : ℕ) → Constraint → State
+in-list E list lists p key keys c = state (rulesIn E) p list lists key keys c
 
-module _ (legs : List ℕ) (constraints tracks : ℕ) where
+module _ (E : ℕ) (legs : List ℕ) (constraints tracks : ℕ) where
   -- ---- a record
 
   -- a record of a kind adds one constraint
@@ -52,16 +52,16 @@ module _ (legs : List ℕ) (constraints tracks : ℕ) where
       -- a record, as the first of its list or behind a comma
       record-then : (p : Phase) → actionOf p OpenBrace ≡ RecordOpens → (ms : List Member) (key keys : ℕ) (c : Constraint) (d : Document) (rest : List Piece)
           → OkMembers legs list 0 ms → Fits constraints tracks (afterRecord legs list d ms)
-          → ((key keys : ℕ) (c : Constraint) → Goes (in-list list lists AfterRecord key keys c) (afterRecord legs list d ms) rest)
-          → Goes (in-list list lists p key keys c) d (recordPieces ms rest)
+          → ((key keys : ℕ) (c : Constraint) → Goes (in-list E list lists AfterRecord key keys c) (afterRecord legs list d ms) rest)
+          → Goes (in-list E list lists p key keys c) d (recordPieces E list ms rest)
       unfolding act
       record-then p may ms key keys c d rest ok fits k =
-          does legs constraints tracks r p openBrace RecordOpens may (items memberPieces closeBrace ms rest) (in-list list lists p key keys c)
-          (in-list list lists FirstKey unknown 0 (noEntry list)) d (opening list d)
-          (λ t says. record-opened legs constraints tracks (in-list list lists p key keys c) d t
+          does legs constraints tracks r p openBrace RecordOpens may (items (memberPieces E list) closeBrace ms rest) (in-list E list lists p key keys c)
+          (in-list E list lists FirstKey unknown 0 (noEntry list)) d (opening list d)
+          (λ t says. record-opened legs constraints tracks (in-list E list lists p key keys c) d t
           (fits-before constraints tracks (members-grow legs list (noEntry list) (opening list d) ms) fits)
           (λ kind. let less = strictly kind in omega arith) (λ kind. let less = strictly kind in omega arith))
-          (all-members legs constraints tracks r plainRules list lists rest ms unknown (noEntry list) (opening list d) ok fits k)
+          (all-members legs constraints tracks r (rulesIn E) list lists rest ms unknown (noEntry list) (opening list d) ok fits k)
         where
           strictly : eqb list subnets ≡ false → length (d .constraints) < length (afterRecord legs list d ms .constraints)
           strictly kind =
@@ -72,29 +72,29 @@ module _ (legs : List ℕ) (constraints tracks : ℕ) where
       module _ (rest : List Piece) where
         -- behind the list: nothing of its records is looked at again
         abbrev Behind : Document → Type 0
-        Behind d = (key keys : ℕ) (c : Constraint) → Goes (in-list list lists AfterList key keys c) d rest
+        Behind d = (key keys : ℕ) (c : Constraint) → Goes (in-list E list lists AfterList key keys c) d rest
 
         more-records : (rs : List (List Member)) (key keys : ℕ) (c : Constraint) (d : Document) → All (OkMembers legs list 0) rs
             → Fits constraints tracks (afterRecords legs list d rs) → Behind (afterRecords legs list d rs)
-            → Goes (in-list list lists AfterRecord key keys c) d (more recordPieces closeBracket rs rest)
+            → Goes (in-list E list lists AfterRecord key keys c) d (more (recordPieces E list) closeBracket rs rest)
         unfolding actionOf
         more-records [] key keys c d ok fits k =
-            leads legs constraints tracks r AfterRecord closeBracket AfterList refl rest (in-list list lists AfterRecord key keys c) d (k key keys c)
+            leads legs constraints tracks r AfterRecord closeBracket AfterList refl rest (in-list E list lists AfterRecord key keys c) d (k key keys c)
         more-records (ms ∷ rs) key keys c d ok fits k =
-            leads legs constraints tracks r AfterRecord comma Record refl (recordPieces ms (more recordPieces closeBracket rs rest))
-            (in-list list lists AfterRecord key keys c) d
-            (record-then Record refl ms key keys c d (more recordPieces closeBracket rs rest) (ok .0)
+            leads legs constraints tracks r AfterRecord comma Record refl (recordPieces E list ms (more (recordPieces E list) closeBracket rs rest))
+            (in-list E list lists AfterRecord key keys c) d
+            (record-then Record refl ms key keys c d (more (recordPieces E list) closeBracket rs rest) (ok .0)
             (fits-before constraints tracks (records-grow legs list (afterRecord legs list d ms) rs) fits)
             (λ key keys c. more-records rs key keys c (afterRecord legs list d ms) (ok .1) fits k))
 
         all-records : (rs : List (List Member)) (key keys : ℕ) (c : Constraint) (d : Document) → All (OkMembers legs list 0) rs
             → Fits constraints tracks (afterRecords legs list d rs) → Behind (afterRecords legs list d rs)
-            → Goes (in-list list lists FirstRecord key keys c) d (items recordPieces closeBracket rs rest)
+            → Goes (in-list E list lists FirstRecord key keys c) d (items (recordPieces E list) closeBracket rs rest)
         unfolding actionOf
         all-records [] key keys c d ok fits k =
-            leads legs constraints tracks r FirstRecord closeBracket AfterList refl rest (in-list list lists FirstRecord key keys c) d (k key keys c)
+            leads legs constraints tracks r FirstRecord closeBracket AfterList refl rest (in-list E list lists FirstRecord key keys c) d (k key keys c)
         all-records (ms ∷ rs) key keys c d ok fits k =
-            record-then FirstRecord refl ms key keys c d (more recordPieces closeBracket rs rest) (ok .0)
+            record-then FirstRecord refl ms key keys c d (more (recordPieces E list) closeBracket rs rest) (ok .0)
             (fits-before constraints tracks (records-grow legs list (afterRecord legs list d ms) rs) fits)
             (λ key keys c. more-records rs key keys c (afterRecord legs list d ms) (ok .1) fits k)
 
@@ -112,65 +112,65 @@ module _ (legs : List ℕ) (constraints tracks : ℕ) where
     list-then : (p : Phase) → actionOf p Quoted ≡ ListName → (l : Listed) (list lists key keys : ℕ) (c : Constraint) (d : Document) (rest : List Piece)
         → AllowedList legs lists l → Fits constraints tracks (afterRecords legs (l .list) d (l .records))
         → Behind (l .list) (bitOr lists (listBit (l .list))) rest (afterRecords legs (l .list) d (l .records))
-        → Goes (in-list list lists p key keys c) d (listPieces l rest)
+        → Goes (in-list E list lists p key keys c) d (listPieces E l rest)
     unfolding actionOf act
     list-then p may l list lists key keys c d rest allowed fits k =
-        let records : List Piece = items recordPieces closeBracket (l .records) rest in
-        let inside : State = in-list (l .list) (bitOr lists (listBit (l .list))) NameColon key keys c in
-        does legs constraints tracks r p (string (nameOfList (l .list))) ListName may (colon ∷ openBracket ∷ records) (in-list list lists p key keys c) inside d d
-        (λ t says. name-turn (in-list list lists p key keys c) d t l allowed (says .1))
+        let records : List Piece = items (recordPieces E (l .list)) closeBracket (l .records) rest in
+        let inside : State = in-list E (l .list) (bitOr lists (listBit (l .list))) NameColon key keys c in
+        does legs constraints tracks r p (string (nameOfList (l .list))) ListName may (colon ∷ openBracket ∷ records) (in-list E list lists p key keys c) inside d d
+        (λ t says. name-turn (in-list E list lists p key keys c) d t l allowed (says .1))
         (leads legs constraints tracks r NameColon colon ListOpen refl (openBracket ∷ records) inside d
         (leads legs constraints tracks r ListOpen openBracket FirstRecord refl records inside d
         (all-records (l .list) (bitOr lists (listBit (l .list))) rest (l .records) key keys c d (allowed .records) fits k)))
 
   -- ---- the document
 
-  end-turn : (st : State) (d : Document) (t : Token) → st .rules ≡ plainRules → bitAnd (st .lists) allLists ≡ allLists
+  end-turn : (st : State) (d : Document) (t : Token) → st .rules ≡ (rulesIn E) → bitAnd (st .lists) allLists ≡ allLists
       → documentEnds legs constraints tracks st d t ≡ on (goes Done st) d
   unfolding documentEnds
   end-turn st d t plain all = rw (plain, eq-eqb (bitAnd (st .lists) allLists) allLists all)
 
   module _ (list lists key keys : ℕ) (c : Constraint) (d : Document) where
     -- the text's end
-    end-then : Reads legs constraints tracks (good d) (in-list list lists Done key keys c) d []
+    end-then : Reads legs constraints tracks (good d) (in-list E list lists Done key keys c) d []
     unfolding run turnOf actionOf act
     end-then [] h = absurd h
     end-then (t ∷ ts) h =
-        ap (λ (k : Class). onward legs constraints tracks (act legs constraints tracks (actionOf Done k) (in-list list lists Done key keys c) d t)
+        ap (λ (k : Class). onward legs constraints tracks (act legs constraints tracks (actionOf Done k) (in-list E list lists Done key keys c) d t)
         (λ st′ d′. run legs constraints tracks st′ d′ ts)) h
 
     -- the brace that closes the document, behind a list or behind the one that opens it
     close-then : (p : Phase) → actionOf p CloseBrace ≡ DocumentEnds → bitAnd lists allLists ≡ allLists
-        → Reads legs constraints tracks (good d) (in-list list lists p key keys c) d (closeBrace ∷ [])
+        → Reads legs constraints tracks (good d) (in-list E list lists p key keys c) d (closeBrace ∷ [])
     unfolding act
     close-then p may all =
-        does legs constraints tracks (good d) p closeBrace DocumentEnds may [] (in-list list lists p key keys c) (in-list list lists Done key keys c) d d
-        (λ t says. end-turn (in-list list lists p key keys c) d t refl all) end-then
+        does legs constraints tracks (good d) p closeBrace DocumentEnds may [] (in-list E list lists p key keys c) (in-list E list lists Done key keys c) d d
+        (λ t says. end-turn (in-list E list lists p key keys c) d t refl all) end-then
 
   more-lists : (v : Value) (list lists key keys : ℕ) (c : Constraint) (d : Document) → OkLists legs lists v → Fits constraints tracks (afterLists legs d v)
-      → Reads legs constraints tracks (good (afterLists legs d v)) (in-list list lists AfterList key keys c) d (more listPieces closeBrace v [])
+      → Reads legs constraints tracks (good (afterLists legs d v)) (in-list E list lists AfterList key keys c) d (more (listPieces E) closeBrace v [])
   unfolding actionOf
   more-lists [] list lists key keys c d ok fits = close-then list lists key keys c d AfterList refl ok
   more-lists (l ∷ ls) list lists key keys c d ok fits =
       let r : Reading Document = good (afterLists legs d (l ∷ ls)) in
-      leads legs constraints tracks r AfterList comma Name refl (listPieces l (more listPieces closeBrace ls [])) (in-list list lists AfterList key keys c) d
-      (list-then r Name refl l list lists key keys c d (more listPieces closeBrace ls []) (ok .0)
+      leads legs constraints tracks r AfterList comma Name refl (listPieces E l (more (listPieces E) closeBrace ls [])) (in-list E list lists AfterList key keys c) d
+      (list-then r Name refl l list lists key keys c d (more (listPieces E) closeBrace ls []) (ok .0)
       (fits-before constraints tracks (lists-grow legs (afterRecords legs (l .list) d (l .records)) ls) fits)
       (λ key keys c. more-lists ls (l .list) (bitOr lists (listBit (l .list))) key keys c (afterRecords legs (l .list) d (l .records)) (ok .1) fits))
 
   all-lists : (v : Value) (d : Document) → OkLists legs 0 v → Fits constraints tracks (afterLists legs d v)
-      → Reads legs constraints tracks (good (afterLists legs d v)) (in-list unknown 0 FirstName unknown 0 (noEntry 0)) d (items listPieces closeBrace v [])
+      → Reads legs constraints tracks (good (afterLists legs d v)) (in-list E unknown 0 FirstName unknown 0 (noEntry 0)) d (items (listPieces E) closeBrace v [])
   unfolding actionOf
   all-lists [] d ok fits = close-then unknown 0 unknown 0 (noEntry 0) d FirstName refl ok
   all-lists (l ∷ ls) d ok fits =
-      list-then (good (afterLists legs d (l ∷ ls))) FirstName refl l unknown 0 unknown 0 (noEntry 0) d (more listPieces closeBrace ls []) (ok .0)
+      list-then (good (afterLists legs d (l ∷ ls))) FirstName refl l unknown 0 unknown 0 (noEntry 0) d (more (listPieces E) closeBrace ls []) (ok .0)
       (fits-before constraints tracks (lists-grow legs (afterRecords legs (l .list) d (l .records)) ls) fits)
       (λ key keys c. more-lists ls (l .list) (bitOr 0 (listBit (l .list))) key keys c (afterRecords legs (l .list) d (l .records)) (ok .1) fits)
 
   -- tokens that say the pieces of a value whose tests pass are read as what its lists add to an empty document
   pub pieces-read : (v : Value) → OkLists legs 0 v → Fits constraints tracks (afterLists legs empty v)
-      → (ts : List Token) → Same (pieces v) ts → run legs constraints tracks (start plainRules) empty ts ≡ good (afterLists legs empty v)
+      → (ts : List Token) → Same (pieces E v) ts → run legs constraints tracks (start (rulesIn E)) empty ts ≡ good (afterLists legs empty v)
   unfolding actionOf
   pieces-read v ok fits =
-      leads legs constraints tracks (good (afterLists legs empty v)) Text openBrace FirstName refl (items listPieces closeBrace v []) (start plainRules) empty
+      leads legs constraints tracks (good (afterLists legs empty v)) Text openBrace FirstName refl (items (listPieces E) closeBrace v []) (start (rulesIn E)) empty
       (all-lists v empty ok fits)

@@ -9,7 +9,7 @@ use borrow.Author.Tests.{eq-eqb, leb-true}
 use Rattle.rules.specs.Limits.{mostId}
 use Rattle.rules.specs.Answers.{Reading}
 use Rattle.rules.specs.Lists.{every}
-use Rattle.rules.specs.Kinds.{connectionType, trackIds, keyNamed, typeNamed}
+use Rattle.rules.specs.Kinds.{connectionType, trackIds, keyIn, typeNamed}
 use Rattle.rules.specs.Tokens.{Token}
 use Rattle.rules.specs.Constraints.{Document, on, actionOf, state, goes, atKey, withEntry, withTrack, keysOf, keyName, stringValue, tracksOpen, act}
 use Rattle.rules.specs.declared.sizes.Constraint.{Constraint}
@@ -21,10 +21,10 @@ use Rattle.rules.specs.declared.tokens.Rules.{Rules}
 use Rattle.rules.specs.declared.tokens.State.{State}
 use Rattle.rules_theorems.proofs.DocumentWords.{and-first, and-second}
 use Rattle.rules_json.specs.Value.{Member, number, type, trackList, keyOf, Fits, inRange}
-use Rattle.rules_json.specs.Written.{Piece, closeBrace, openBracket, closeBracket, colon, comma, string, whole, more, items, trackPieces, saidPieces, memberPieces, keyName as nameOfKey, typeName}
+use Rattle.rules_json.specs.Written.{Piece, closeBrace, openBracket, closeBracket, colon, comma, string, whole, more, items, trackPieces, saidPieces, memberPieces, keyNameIn as nameOfKey, typeName}
 use Rattle.rules_json.proofs.Same.{withTracks, withMember, entryWith, afterMembers, closing, Allowed, OkMembers}
 use Rattle.rules_json.proofs.Grows.{fits-before, tracks-grow, members-grow}
-use Rattle.rules_json.proofs.Names.{key-named, type-named, type-is-known, type-in}
+use Rattle.rules_json.proofs.Names.{key-in-named, type-named, type-is-known, type-in}
 use Rattle.rules_json.proofs.Turns.{Reads, does, leads, record-ended, track-read, number-read}
 
 module _ (legs : List ℕ) (constraints tracks : ℕ) (r : Reading Document) where
@@ -63,12 +63,12 @@ module _ (legs : List ℕ) (constraints tracks : ℕ) (r : Reading Document) whe
 
   -- ---- a member
 
-  key-turn : (st : State) (d : Document) (t : Token) (m : Member) → Allowed legs (st .list) (st .keys) m → t .word ≡ nameOfKey (keyOf m)
-      → keyName legs constraints tracks (keyNamed (t .word)) st d t ≡ on (atKey (keyOf m) st) d
+  key-turn : (st : State) (d : Document) (t : Token) (m : Member) → Allowed legs (st .list) (st .keys) m → t .word ≡ nameOfKey (st .rules .edition) (st .list) (keyOf m)
+      → keyName legs constraints tracks (keyIn (st .rules .edition) (st .list) (t .word)) st d t ≡ on (atKey (keyOf m) st) d
   unfolding keyName
   key-turn st d t m allowed word =
-      ap (λ (w : List ℕ). keyName legs constraints tracks (keyNamed w) st d t) word
-      ∙ ap (λ (k : ℕ). keyName legs constraints tracks k st d t) (key-named (keyOf m) (allowed .in-keys))
+      ap (λ (w : List ℕ). keyName legs constraints tracks (keyIn (st .rules .edition) (st .list) w) st d t) word
+      ∙ ap (λ (k : ℕ). keyName legs constraints tracks k st d t) (key-in-named (st .rules .edition) (st .list) (keyOf m) (allowed .in-keys))
       ∙ rw (allowed .carried, eq-eqb (bitAnd (st .keys) (keyOf m)) 0 (allowed .fresh))
 
   type-turn : (st : State) (d : Document) (t : Token) (n : ℕ) → st .key ≡ connectionType → inRange legs (type n) ≡ true → t .word ≡ typeName n
@@ -111,10 +111,10 @@ module _ (legs : List ℕ) (constraints tracks : ℕ) (r : Reading Document) whe
   -- a member, as the first of its record or behind a comma
   member-then : (p : Phase) → actionOf p Quoted ≡ KeyName → (m : Member) (st : State) (d : Document) (rest : List Piece)
       → Allowed legs (st .list) (st .keys) m → Fits constraints tracks (withMember m d)
-      → Goes (withEntry (entryWith legs m (st .entry)) (atKey (keyOf m) st)) (withMember m d) rest → Goes (goes p st) d (memberPieces m rest)
+      → Goes (withEntry (entryWith legs m (st .entry)) (atKey (keyOf m) st)) (withMember m d) rest → Goes (goes p st) d (memberPieces (st .rules .edition) (st .list) m rest)
   unfolding actionOf act
   member-then p may m st d rest allowed fits k =
-      does legs constraints tracks r p (string (nameOfKey (keyOf m))) KeyName may (colon ∷ saidPieces m rest) st (atKey (keyOf m) st) d d
+      does legs constraints tracks r p (string (nameOfKey (st .rules .edition) (st .list) (keyOf m))) KeyName may (colon ∷ saidPieces m rest) st (atKey (keyOf m) st) d d
       (λ t says. key-turn (goes p st) d t m allowed (says .1))
       (leads legs constraints tracks r KeyColon colon Value refl (saidPieces m rest) (atKey (keyOf m) st) d
       (said-then m (atKey (keyOf m) st) d rest refl (allowed .value) fits k))
@@ -140,21 +140,21 @@ module _ (legs : List ℕ) (constraints tracks : ℕ) (r : Reading Document) whe
 
     more-members : (ms : List Member) (key keys : ℕ) (c : Constraint) (d : Document) → OkMembers legs list keys ms
         → Fits constraints tracks (afterMembers legs list c d ms) → Behind (afterMembers legs list c d ms)
-        → Goes (in-record AfterValue key keys c) d (more memberPieces closeBrace ms rest)
+        → Goes (in-record AfterValue key keys c) d (more (memberPieces (rules .edition) list) closeBrace ms rest)
     unfolding actionOf
     more-members [] key keys c d ok fits k = close-then AfterValue refl key keys c d ok k
     more-members (m ∷ ms) key keys c d ok fits k =
-        leads legs constraints tracks r AfterValue comma NextKey refl (memberPieces m (more memberPieces closeBrace ms rest)) (in-record AfterValue key keys c) d
-        (member-then NextKey refl m (in-record NextKey key keys c) d (more memberPieces closeBrace ms rest) (ok .0)
+        leads legs constraints tracks r AfterValue comma NextKey refl (memberPieces (rules .edition) list m (more (memberPieces (rules .edition) list) closeBrace ms rest)) (in-record AfterValue key keys c) d
+        (member-then NextKey refl m (in-record NextKey key keys c) d (more (memberPieces (rules .edition) list) closeBrace ms rest) (ok .0)
         (fits-before constraints tracks (members-grow legs list (entryWith legs m c) (withMember m d) ms) fits)
         (more-members ms (keyOf m) (bitOr keys (keyOf m)) (entryWith legs m c) (withMember m d) (ok .1) fits k))
 
     pub all-members : (ms : List Member) (key : ℕ) (c : Constraint) (d : Document) → OkMembers legs list 0 ms
         → Fits constraints tracks (afterMembers legs list c d ms) → Behind (afterMembers legs list c d ms)
-        → Goes (in-record FirstKey key 0 c) d (items memberPieces closeBrace ms rest)
+        → Goes (in-record FirstKey key 0 c) d (items (memberPieces (rules .edition) list) closeBrace ms rest)
     unfolding actionOf
     all-members [] key c d ok fits k = close-then FirstKey refl key 0 c d ok k
     all-members (m ∷ ms) key c d ok fits k =
-        member-then FirstKey refl m (in-record FirstKey key 0 c) d (more memberPieces closeBrace ms rest) (ok .0)
+        member-then FirstKey refl m (in-record FirstKey key 0 c) d (more (memberPieces (rules .edition) list) closeBrace ms rest) (ok .0)
         (fits-before constraints tracks (members-grow legs list (entryWith legs m c) (withMember m d) ms) fits)
         (more-members ms (keyOf m) (bitOr 0 (keyOf m)) (entryWith legs m c) (withMember m d) (ok .1) fits k)

@@ -1,18 +1,18 @@
 -- Names of lists, keys and connection types: from the number to the name and back. Assumes nothing.
 use Prim.Native.Nat.{ℕ, _+_}
-use mathlib.Core.Path.{_≡_, refl, sym, ap₂, subst}
-use mathlib.Core.Bool.{Bool, true, false, not, _||_, true≢false}
+use mathlib.Core.Path.{_≡_, refl, sym, ap, ap₂, subst, _∙_}
+use mathlib.Core.Bool.{Bool, true, false, not, cond, _||_, true≢false}
 use mathlib.Core.List.{List, [], _∷_}
 use lib.Dec.{eqb}
 use borrow.Author.Tests.{eqb-true, ne-eqb}
 use Rattle.rules.specs.Lists.{sameList}
-use Rattle.rules.specs.Kinds.{unknown, byArrival, byDeparture, listNames, keyNames, typeNames, numberFrom, bitFrom, listNamed, keyNamed, typeNamed}
+use Rattle.rules.specs.Kinds.{unknown, byArrival, byDeparture, listNames, keyNames, typeNames, numberFrom, bitFrom, listNamed, keyNamed, typeNamed, minDwell, minTurnaround, renamed, isRenamed, keyIn}
 use Rattle.rules.specs.Verdict.{All}
 use Rattle.rules.proofs.Truth.{by-case}
 use Rattle.rules_theorems.proofs.DocumentWords.{passed, and-first, and-second, or-else}
 use Rattle.rules_theorems.proofs.Keys.{types, key-known}
 use Rattle.rules_json.specs.Value.{type, inRange, sixLists, Among}
-use Rattle.rules_json.specs.Written.{listName, keyName, typeName, allKeys}
+use Rattle.rules_json.specs.Written.{listName, keyName, keyNameIn, typeName, allKeys}
 
 -- ---- from a number to its name and back
 
@@ -90,3 +90,47 @@ type-back word known = numbered (λ w. typeName (typeNamed w) ≡ w) 1 typeNames
 -- a key that a list carries is a key
 pub key-in : (word : List ℕ) → (keyNamed word ≡ unknown → ⊥) → Among allKeys (keyNamed word)
 key-in word known = or-else (eqb (keyNamed word) unknown) _ (key-known word) (ne-eqb (keyNamed word) unknown known)
+
+-- ---- by an edition
+
+-- the two names change places, and back
+swap-back : (b : Bool) (key : ℕ) → renamed b (renamed b key) ≡ key
+swap-back false key = refl
+swap-back true key = go (eqb key minDwell) refl (eqb key minTurnaround) refl
+  where
+    go : (a : Bool) → eqb key minDwell ≡ a → (c : Bool) → eqb key minTurnaround ≡ c
+        → renamed true (cond a minTurnaround (cond c minDwell key)) ≡ key
+    go true e c f = sym (eqb-true key minDwell e)
+    go false e true f = sym (eqb-true key minTurnaround f)
+    go false e false f = ap (λ (a : Bool). cond a minTurnaround (cond (eqb key minTurnaround) minDwell key)) e ∙ ap (λ (c : Bool). cond c minDwell key) f
+
+renamed-in : (b : Bool) (key : ℕ) → Among allKeys key → Among allKeys (renamed b key)
+renamed-in false key known = known
+renamed-in true key known =
+    by-case (Among allKeys) (eqb key minDwell) minTurnaround (cond (eqb key minTurnaround) minDwell key)
+    (λ e. refl)
+    (λ e. by-case (Among allKeys) (eqb key minTurnaround) minDwell key (λ f. refl) (λ f. known))
+
+pub key-in-named : (E list key : ℕ) → Among allKeys key → keyIn E list (keyNameIn E list key) ≡ key
+unfolding keyIn
+key-in-named E list key known =
+    ap (renamed (isRenamed E list)) (key-named (renamed (isRenamed E list) key) (renamed-in (isRenamed E list) key known)) ∙ swap-back (isRenamed E list) key
+
+unknown-stays : (b : Bool) → renamed b unknown ≡ unknown
+unknown-stays true = refl
+unknown-stays false = refl
+
+known-word : (E list : ℕ) (word : List ℕ) → (keyIn E list word ≡ unknown → ⊥) → keyNamed word ≡ unknown → ⊥
+unfolding keyIn
+known-word E list word known e = known (ap (renamed (isRenamed E list)) e ∙ unknown-stays (isRenamed E list))
+
+pub key-in-back : (E list : ℕ) (word : List ℕ) → (keyIn E list word ≡ unknown → ⊥) → keyNameIn E list (keyIn E list word) ≡ word
+unfolding keyIn
+key-in-back E list word known = ap keyName (swap-back (isRenamed E list) (keyNamed word)) ∙ key-back word (known-word E list word known)
+
+pub key-in-in : (E list : ℕ) (word : List ℕ) → (keyIn E list word ≡ unknown → ⊥) → Among allKeys (keyIn E list word)
+unfolding keyIn
+key-in-in E list word known = renamed-in (isRenamed E list) (keyNamed word) (key-in word (known-word E list word known))
+
+pub name-clean : (P : List ℕ → Bool) → ((key : ℕ) → Among allKeys key → P (keyName key) ≡ true) → (E list key : ℕ) → Among allKeys key → P (keyNameIn E list key) ≡ true
+name-clean P h E list key known = h (renamed (isRenamed E list) key) (renamed-in (isRenamed E list) key known)

@@ -8,7 +8,7 @@ use lib.Dec.{eqb}
 use lib.ListN.{drop}
 use borrow.Author.Tests.{eqb-false}
 use Rattle.rules.specs.Bytes.{wholeOf}
-use Rattle.rules.specs.Kinds.{listNamed, keyNamed, typeNamed}
+use Rattle.rules.specs.Kinds.{listNamed, keyIn, typeNamed}
 use Rattle.rules.specs.Tokens.{Token, tokensFrom}
 use Rattle.rules.specs.Constraints.{Document, classNumber}
 use Rattle.rules.specs.Verdict.{All}
@@ -19,7 +19,7 @@ use Rattle.rules.proofs.TokenLaws.{isEnd}
 use Rattle.rules_json.specs.Value.{Member, number, type, trackList, keyOf, Listed, Value, sixLists, Among, inRange}
 use Rattle.rules_json.specs.Written.{Piece, Writes, openBrace, closeBrace, openBracket, closeBracket, colon, comma, string, whole, more, items, trackPieces, memberPieces, recordPieces, listPieces, pieces, typeName, Writing, allKeys}
 use Rattle.rules_json.proofs.Same.{Says, classOf, says-class, Same, OkMembers, OkLists}
-use Rattle.rules_json.proofs.Names.{list-named, key-named, type-named, type-in}
+use Rattle.rules_json.proofs.Names.{list-named, key-in-named, type-named, type-in}
 use Rattle.rules_json.proofs.Passes.{value-passes}
 use Rattle.rules_json.proofs.Text.{laid-said}
 use Rattle.rules_json.proofs.Fine.{pieces-fine}
@@ -132,7 +132,7 @@ any-tracks : (ids : List ℕ) → All (λ id. Unit {0}) ids
 any-tracks [] = tt
 any-tracks (id ∷ ids) = (tt, any-tracks ids)
 
-module _ (legs : List ℕ) where
+module _ (E : ℕ) (legs : List ℕ) where
   -- names that are known
   abbrev KnownMember : Member → Type 0
   KnownMember m = Among allKeys (keyOf m) × (inRange legs m ≡ true)
@@ -141,44 +141,47 @@ module _ (legs : List ℕ) where
   KnownList l = Among sixLists (l .list) × All (All KnownMember) (l .records)
 
   -- members with the same pieces have the same key, and say the same
-  same-key : (m n : Member) → KnownMember m → KnownMember n → (r s : List Piece) → memberPieces m r ≡ memberPieces n s → keyOf m ≡ keyOf n
-  same-key m n h k r s e = sym (key-named (keyOf m) (h .0)) ∙ ap (λ (xs : List Piece). keyNamed (firstWord xs)) e ∙ key-named (keyOf n) (k .0)
+  same-key : (list : ℕ) (m n : Member) → KnownMember m → KnownMember n → (r s : List Piece) → memberPieces E list m r ≡ memberPieces E list n s → keyOf m ≡ keyOf n
+  same-key list m n h k r s e =
+      sym (key-in-named E list (keyOf m) (h .0)) ∙ ap (λ (xs : List Piece). keyIn E list (firstWord xs)) e ∙ key-in-named E list (keyOf n) (k .0)
 
-  member-apart : Apart memberPieces KnownMember
-  member-apart (number key a) (number key′ b) h k r s e =
-      let keys = same-key (number key a) (number key′ b) h k r s e in
+  member-apart : (list : ℕ) → Apart (memberPieces E list) KnownMember
+  member-apart list (number key a) (number key′ b) h k r s e =
+      let keys = same-key list (number key a) (number key′ b) h k r s e in
       let said : whole a ∷ r ≡ whole b ∷ s = ap (drop 2) e in
       let numbers : a ≡ b = cc in
       (ap₂ number keys numbers, ap (drop 1) said)
-  member-apart (type a) (type b) h k r s e =
+  member-apart list (type a) (type b) h k r s e =
       let said : string (typeName a) ∷ r ≡ string (typeName b) ∷ s = ap (drop 2) e in
       let names : typeNamed (typeName a) ≡ typeNamed (typeName b) = ap (λ (xs : List Piece). typeNamed (firstWord xs)) said in
       let types : a ≡ b = sym (type-named a (type-in legs a (h .1))) ∙ names ∙ type-named b (type-in legs b (k .1)) in
       (ap type types, ap (drop 1) said)
-  member-apart (trackList a) (trackList b) h k r s e =
+  member-apart list (trackList a) (trackList b) h k r s e =
       let both = tracks-apart a b (any-tracks a) (any-tracks b) r s (ap (drop 3) e) in
       (ap trackList (both .0), both .1)
-  member-apart (number key a) (type b) h k r s e = differ (ap (drop 2) e) refl
-  member-apart (number key a) (trackList b) h k r s e = differ (ap (drop 2) e) refl
-  member-apart (type a) (number key b) h k r s e = differ (ap (drop 2) e) refl
-  member-apart (type a) (trackList b) h k r s e = differ (ap (drop 2) e) refl
-  member-apart (trackList a) (number key b) h k r s e = differ (ap (drop 2) e) refl
-  member-apart (trackList a) (type b) h k r s e = differ (ap (drop 2) e) refl
+  member-apart list (number key a) (type b) h k r s e = differ (ap (drop 2) e) refl
+  member-apart list (number key a) (trackList b) h k r s e = differ (ap (drop 2) e) refl
+  member-apart list (type a) (number key b) h k r s e = differ (ap (drop 2) e) refl
+  member-apart list (type a) (trackList b) h k r s e = differ (ap (drop 2) e) refl
+  member-apart list (trackList a) (number key b) h k r s e = differ (ap (drop 2) e) refl
+  member-apart list (trackList a) (type b) h k r s e = differ (ap (drop 2) e) refl
 
-  record-apart : Apart recordPieces (All KnownMember)
-  record-apart ms ns h k r s e =
-      items-apart memberPieces closeBrace KnownMember member-apart (λ r s e. differ e refl) (λ m r s e. differ e refl) ms ns h k r s (ap (drop 1) e)
+  record-apart : (list : ℕ) → Apart (recordPieces E list) (All KnownMember)
+  record-apart list ms ns h k r s e =
+      items-apart (memberPieces E list) closeBrace KnownMember (member-apart list) (λ r s e. differ e refl) (λ m r s e. differ e refl) ms ns h k r s (ap (drop 1) e)
 
-  list-apart : Apart listPieces KnownList
+  list-apart : Apart (listPieces E) KnownList
   list-apart l k h g r s e =
       let lists : l .list ≡ k .list = sym (list-named (l .list) (h .0)) ∙ ap (λ (xs : List Piece). listNamed (firstWord xs)) e ∙ list-named (k .list) (g .0) in
-      let both = items-apart recordPieces closeBracket (All KnownMember) record-apart (λ r s e. differ e refl) (λ m r s e. differ e refl)
-      (l .records) (k .records) (h .1) (g .1) r s (ap (drop 3) e) in
+      let again : items (recordPieces E (l .list)) closeBracket (l .records) r ≡ items (recordPieces E (l .list)) closeBracket (k .records) s =
+      ap (drop 3) e ∙ ap (λ (j : ℕ). items (recordPieces E j) closeBracket (k .records) s) (sym lists) in
+      let both = items-apart (recordPieces E (l .list)) closeBracket (All KnownMember) (record-apart (l .list)) (λ r s e. differ e refl) (λ m r s e. differ e refl)
+      (l .records) (k .records) (h .1) (g .1) r s again in
       (ap₂ (λ (list : ℕ) (records : List (List Member)). record { list = list; records = records }) lists (both .0), both .1)
 
-  value-apart : (v w : Value) → All KnownList v → All KnownList w → pieces v ≡ pieces w → v ≡ w
+  value-apart : (v w : Value) → All KnownList v → All KnownList w → pieces E v ≡ pieces E w → v ≡ w
   value-apart v w h k e =
-      items-apart listPieces closeBrace KnownList list-apart (λ r s e. differ e refl) (λ l r s e. differ e refl) v w h k [] [] (ap (drop 1) e) .0
+      items-apart (listPieces E) closeBrace KnownList list-apart (λ r s e. differ e refl) (λ l r s e. differ e refl) v w h k [] [] (ap (drop 1) e) .0
 
   -- ---- THE THEOREM
 
@@ -194,13 +197,13 @@ module _ (legs : List ℕ) where
   )
 
   module _ (constraints tracks : ℕ) (s : List ℕ) where
-    passes : (d : Document) (w : Writing legs constraints tracks s d) → OkLists legs 0 (w .value)
+    passes : (d : Document) (w : Writing E legs constraints tracks s d) → OkLists legs 0 (w .value)
     passes d w = value-passes legs (w .value) (w .lawful .lists) (w .lawful .records)
 
-    says : (d : Document) (w : Writing legs constraints tracks s d) → Same (pieces (w .value)) (tokensFrom 0 0 s)
-    says d w = laid-said (w .written) (pieces-fine legs (w .value) (passes d w)) 0
+    says : (d : Document) (w : Writing E legs constraints tracks s d) → Same (pieces E (w .value)) (tokensFrom 0 0 s)
+    says d w = laid-said (w .written) (pieces-fine E legs (w .value) (passes d w)) 0
 
-    pub one-value : (d e : Document) (w : Writing legs constraints tracks s d) (x : Writing legs constraints tracks s e) → w .value ≡ x .value
+    pub one-value : (d e : Document) (w : Writing E legs constraints tracks s d) (x : Writing E legs constraints tracks s e) → w .value ≡ x .value
     one-value d e w x =
         value-apart (w .value) (x .value) (known-lists (w .value) 0 (passes d w)) (known-lists (x .value) 0 (passes e x))
-        (same-pieces (pieces (w .value)) (pieces (x .value)) (tokensFrom 0 0 s) (says d w) (says e x))
+        (same-pieces (pieces E (w .value)) (pieces E (x .value)) (tokensFrom 0 0 s) (says d w) (says e x))

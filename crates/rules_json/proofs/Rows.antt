@@ -8,20 +8,21 @@ use lib.Dec.{eqb}
 use lib.Bits.{bitAnd, bitOr, and-zero-r}
 use borrow.Author.Tests.{eqb-true, eqb-false, not-true}
 use Rattle.rules.specs.Answers.{badJson, Reading, good}
-use Rattle.rules.specs.Kinds.{unknown, connectionType, listNamed, keyNamed, typeNamed}
+use Rattle.rules.specs.Kinds.{unknown, connectionType, listNamed, keyIn, typeNamed}
 use Rattle.rules.specs.Tokens.{Token}
-use Rattle.rules.specs.Constraints.{May, table, classNumber, otherwise, sought, actionOf, Document, Turn, fault, past, numberOf, goes, inList, inRecord, atKey, withEntry, withTrack, entered, keysOf, allLists, plainRules, listName, documentEnds, recordOpens, keyName, recordEnds, stringValue, stringCut, numberValue, tracksOpen, trackNumber, act, turnOf, onward, run}
+use Rattle.rules.specs.Constraints.{May, table, classNumber, otherwise, sought, actionOf, Document, Turn, fault, past, numberOf, goes, inList, inRecord, atKey, withEntry, withTrack, entered, keysOf, allLists, rulesIn, listName, documentEnds, recordOpens, keyName, recordEnds, stringValue, stringCut, numberValue, tracksOpen, trackNumber, act, turnOf, onward, run}
 use Rattle.rules.specs.Verdict.{All}
 use Rattle.rules.specs.declared.tokens.Class.{Class}
 use Rattle.rules.specs.declared.tokens.Class.the-variants.{OpenBrace, CloseBrace, OpenBracket, CloseBracket, Colon, Comma, Quoted, Run, End, Unclosed, Forbidden}
 use Rattle.rules.specs.declared.tokens.Phase.{Phase}
 use Rattle.rules.specs.declared.tokens.Phase.the-variants.{Document as Text, FirstName, Name, NameColon, ListOpen, AfterList, FirstRecord, Record, AfterRecord, FirstKey, NextKey, KeyColon, Value as AtValue, AfterValue, FirstTrack, NextTrack, AfterTrack, Done}
+use Rattle.rules.specs.declared.tokens.Rules.{Rules}
 use Rattle.rules.specs.declared.tokens.State.{State}
 use Rattle.rules_theorems.proofs.Keys.{has, list-known, type-known}
 use Rattle.rules_json.specs.Value.{Member, number, type, trackList, keyOf, Among}
-use Rattle.rules_json.specs.Written.{openBrace, closeBrace, openBracket, closeBracket, colon, comma, more, recordPieces, keyName as nameOfKey, allKeys}
+use Rattle.rules_json.specs.Written.{openBrace, closeBrace, openBracket, closeBracket, colon, comma, more, recordPieces, keyNameIn as nameOfKey, allKeys}
 use Rattle.rules_json.proofs.Same.{opening, closing, withMember, entryWith, OkMembers}
-use Rattle.rules_json.proofs.Names.{list-back, key-back, type-back, key-in, in-range}
+use Rattle.rules_json.proofs.Names.{list-back, key-in-back, type-back, key-in-in, in-range}
 use Rattle.rules_json.proofs.Inverse.{no-fault, list-said, document-said, record-said, key-said, end-said, type-said, tracks-said, track-said, number-said}
 use Rattle.rules_json.proofs.Left.{Records, listJoined, recordJoined, memberJoined, trackJoined, noRecords, noMembers, noTracks, recordsBy, RecordsOk, afterThoseRecords, Is, Left, behind-sign, renamed}
 
@@ -58,16 +59,16 @@ class-at Forbidden = refl
 same-class : (a b : Class) → eqb (classNumber a) (classNumber b) ≡ true → b ≡ a
 same-class a b e = sym (class-at b) ∙ ap classAt (sym (eqb-true (classNumber a) (classNumber b) e)) ∙ class-at a
 
-module _ (legs : List ℕ) (constraints tracks : ℕ) (D : Document) (ts : List Token) where
+module _ (E : ℕ) (legs : List ℕ) (constraints tracks : ℕ) (D : Document) (ts : List Token) where
   -- the run behind the token
   abbrev next : State → Document → Reading Document
   next st d = run legs constraints tracks st d ts
 
   -- what is left behind the token, in any phase
   abbrev Behind : Type 0
-  Behind = (st : State) (d : Document) → st .rules ≡ plainRules → next st d ≡ good D → Left legs D (st .phase) st d ts
+  Behind = (st : State) (d : Document) → st .rules ≡ rulesIn E → next st d ≡ good D → Left E legs D (st .phase) st d ts
 
-  module _ (st : State) (d : Document) (t : Token) (plain : st .rules ≡ plainRules) (behind : Behind) where
+  module _ (st : State) (d : Document) (t : Token) (plain : st .rules ≡ rulesIn E) (behind : Behind) where
     -- a turn after which D was read
     abbrev Read : Turn → Type 0
     Read turn = onward legs constraints tracks turn next ≡ good D
@@ -77,7 +78,7 @@ module _ (legs : List ℕ) (constraints tracks : ℕ) (D : Document) (ts : List 
 
     -- ---- tokens that are tested
 
-    list-left : t .class ≡ Quoted → Read (listName legs constraints tracks (listNamed (t .word)) st d t) → Left legs D Name st d (t ∷ ts)
+    list-left : t .class ≡ Quoted → Read (listName legs constraints tracks (listNamed (t .word)) st d t) → Left E legs D Name st d (t ∷ ts)
     list-left is e =
         let list : ℕ = listNamed (t .word) in
         let said = list-said legs constraints tracks next D st d t list e in
@@ -93,18 +94,19 @@ module _ (legs : List ℕ) (constraints tracks : ℕ) (D : Document) (ts : List 
     document-left : t .class ≡ CloseBrace → Read (documentEnds legs constraints tracks st d t)
         → Is (Unit {0}) (λ u. closeBrace ∷ []) (λ u. bitAnd (st .lists) allLists ≡ allLists) (λ u. d) D (t ∷ ts)
     document-left is e =
-        let said = document-said legs constraints tracks next D st d t plain e in
+        let said = document-said legs constraints tracks next D st d t E plain e in
         let k = behind (goes Done st) d plain (said .1) in
         record { left = tt; same = (is, k .same); ok = said .0; ends = k .ends }
 
-    record-left : t .class ≡ OpenBrace → Read (recordOpens legs constraints tracks st d t) → Left legs D Record st d (t ∷ ts)
+    record-left : t .class ≡ OpenBrace → Read (recordOpens legs constraints tracks st d t) → Left E legs D Record st d (t ∷ ts)
     record-left is e =
         let k = behind (inRecord st) (opening (st .list) d) plain (record-said legs constraints tracks next D st d t e) in
         record { left = k .left; same = (is, k .same); ok = ((k .ok .0, k .ok .1 .0), k .ok .1 .1); ends = k .ends }
 
-    member-left : t .class ≡ Quoted → Read (keyName legs constraints tracks (keyNamed (t .word)) st d t) → Left legs D NextKey st d (t ∷ ts)
+    member-left : t .class ≡ Quoted → Read (keyName legs constraints tracks (keyIn (st .rules .edition) (st .list) (t .word)) st d t) → Left E legs D NextKey st d (t ∷ ts)
     member-left is e =
-        let key : ℕ = keyNamed (t .word) in
+        let key : ℕ = keyIn (st .rules .edition) (st .list) (t .word) in
+        let edition : st .rules .edition ≡ E = ap (λ (r : Rules). r .edition) plain in
         let said = key-said legs constraints tracks next D st d t key e in
         let none : key ≡ unknown → bitAnd (keysOf (st .list)) key ≡ 0 = λ e. ap (bitAnd (keysOf (st .list))) e ∙ and-zero-r (keysOf (st .list)) in
         let known : key ≡ unknown → ⊥ = λ e. eqb-false (bitAnd (keysOf (st .list)) key) 0 (not-true _ (said .0)) (none e) in
@@ -112,11 +114,11 @@ module _ (legs : List ℕ) (constraints tracks : ℕ) (D : Document) (ts : List 
         let is-key : key ≡ keyOf (k .left .member) = sym (k .ok .0) in
         record {
           left = k .left;
-          same = ((is, sym (key-back (t .word) known) ∙ ap nameOfKey is-key), k .same);
+          same = ((is, sym (key-in-back (st .rules .edition) (st .list) (t .word) known) ∙ ap₂ (λ (e n : ℕ). nameOfKey e (st .list) n) edition is-key), k .same);
           ok = (
             (
               record {
-                in-keys = subst (Among allKeys) is-key (key-in (t .word) known);
+                in-keys = subst (Among allKeys) is-key (key-in-in (st .rules .edition) (st .list) (t .word) known);
                 carried = subst (λ (n : ℕ). has (keysOf (st .list)) n ≡ true) is-key (said .0);
                 fresh = subst (λ (n : ℕ). bitAnd (st .keys) n ≡ 0) is-key (said .1);
                 value = k .ok .1;
@@ -129,21 +131,21 @@ module _ (legs : List ℕ) (constraints tracks : ℕ) (D : Document) (ts : List 
         }
 
     record-ended : t .class ≡ CloseBrace → Read (recordEnds legs constraints tracks st d t)
-        → Is Records (λ r. closeBrace ∷ recordsBy (more recordPieces closeBracket) r) (λ r. (st .keys ≡ keysOf (st .list)) × RecordsOk legs st r)
+        → Is Records (λ r. closeBrace ∷ recordsBy E (more (recordPieces E (st .list)) closeBracket) r) (λ r. (st .keys ≡ keysOf (st .list)) × RecordsOk legs st r)
         (afterThoseRecords legs st (closing (st .list) (st .entry) d)) D (t ∷ ts)
     record-ended is e =
         let said = end-said legs constraints tracks next D st d t e in
         let k = behind (goes AfterRecord st) (closing (st .list) (st .entry) d) plain (said .1) in
         record { left = k .left; same = (is, k .same); ok = (said .0, k .ok); ends = k .ends }
 
-    number-left : t .class ≡ Run → Read (numberValue legs constraints tracks st d t) → Left legs D AtValue st d (t ∷ ts)
+    number-left : t .class ≡ Run → Read (numberValue legs constraints tracks st d t) → Left E legs D AtValue st d (t ∷ ts)
     number-left is e =
         let said = number-said legs constraints tracks next D st d t e in
         let m : Member = number (st .key) (numberOf t) in
         let k = behind (withEntry (entryWith legs m (st .entry)) st) (withMember m d) plain (said .2) in
         record { left = record { member = m; then = k .left }; same = ((is, said .0), k .same); ok = (refl, said .1, k .ok); ends = k .ends }
 
-    type-left : t .class ≡ Quoted → Read (stringValue legs constraints tracks (typeNamed (t .word)) st d t) → Left legs D AtValue st d (t ∷ ts)
+    type-left : t .class ≡ Quoted → Read (stringValue legs constraints tracks (typeNamed (t .word)) st d t) → Left E legs D AtValue st d (t ∷ ts)
     type-left is e =
         let n : ℕ = typeNamed (t .word) in
         let said = type-said legs constraints tracks next D st d t n e in
@@ -156,7 +158,7 @@ module _ (legs : List ℕ) (constraints tracks : ℕ) (D : Document) (ts : List 
           ends = k .ends;
         }
 
-    tracks-left : t .class ≡ OpenBracket → Read (tracksOpen legs constraints tracks st d t) → Left legs D AtValue st d (t ∷ ts)
+    tracks-left : t .class ≡ OpenBracket → Read (tracksOpen legs constraints tracks st d t) → Left E legs D AtValue st d (t ∷ ts)
     tracks-left is e =
         let said = tracks-said legs constraints tracks next D st d t e in
         let k = behind (goes FirstTrack st) d plain (said .1) in
@@ -167,7 +169,7 @@ module _ (legs : List ℕ) (constraints tracks : ℕ) (D : Document) (ts : List 
           ends = k .ends;
         }
 
-    track-left : t .class ≡ Run → Read (trackNumber legs constraints tracks st d t) → Left legs D NextTrack st d (t ∷ ts)
+    track-left : t .class ≡ Run → Read (trackNumber legs constraints tracks st d t) → Left E legs D NextTrack st d (t ∷ ts)
     track-left is e =
         let said = track-said legs constraints tracks next D st d t e in
         let k = behind (goes AfterTrack st) (withTrack (numberOf t) d) plain (said .2) in
@@ -182,7 +184,7 @@ module _ (legs : List ℕ) (constraints tracks : ℕ) (D : Document) (ts : List 
 
     -- a cell of the table
     abbrev Cell : Phase → May → Type 0
-    Cell p m = t .class ≡ m .class → Read (act legs constraints tracks (m .action) st d t) → Left legs D p st d (t ∷ ts)
+    Cell p m = t .class ≡ m .class → Read (act legs constraints tracks (m .action) st d t) → Left E legs D p st d (t ∷ ts)
 
     row : (p : Phase) → All (Cell p) (table p)
     unfolding act stringCut
@@ -244,24 +246,24 @@ module _ (legs : List ℕ) (constraints tracks : ℕ) (D : Document) (ts : List 
     otherwise-not Unclosed e = faulty badJson (t .place) e
     otherwise-not Forbidden e = faulty badJson (t .place) e
 
-    in-row : (p : Phase) (ms : List May) → All (Cell p) ms → Read (act legs constraints tracks (sought (t .class) ms) st d t) → Left legs D p st d (t ∷ ts)
+    in-row : (p : Phase) (ms : List May) → All (Cell p) ms → Read (act legs constraints tracks (sought (t .class) ms) st d t) → Left E legs D p st d (t ∷ ts)
     in-row p [] h e = otherwise-not (t .class) e
     in-row p (m ∷ ms) h e = go (eqb (classNumber (m .class)) (classNumber (t .class))) refl e (in-row p ms (h .1))
       where
         go : (b : Bool) → eqb (classNumber (m .class)) (classNumber (t .class)) ≡ b
             → Read (act legs constraints tracks (cond b (m .action) (sought (t .class) ms)) st d t)
-            → (Read (act legs constraints tracks (sought (t .class) ms) st d t) → Left legs D p st d (t ∷ ts)) → Left legs D p st d (t ∷ ts)
+            → (Read (act legs constraints tracks (sought (t .class) ms) st d t) → Left E legs D p st d (t ∷ ts)) → Left E legs D p st d (t ∷ ts)
         go true same e rest = h .0 (same-class (m .class) (t .class) same) e
         go false other e rest = rest e
 
 -- ---- the whole run
 
-module _ (legs : List ℕ) (constraints tracks : ℕ) (D : Document) where
-  pub run-left : (ts : List Token) (st : State) (d : Document) → st .rules ≡ plainRules → run legs constraints tracks st d ts ≡ good D
-      → Left legs D (st .phase) st d ts
+module _ (E : ℕ) (legs : List ℕ) (constraints tracks : ℕ) (D : Document) where
+  pub run-left : (ts : List Token) (st : State) (d : Document) → st .rules ≡ rulesIn E → run legs constraints tracks st d ts ≡ good D
+      → Left E legs D (st .phase) st d ts
   unfolding run turnOf actionOf
   run-left [] st d plain e = let z : _≡_ {A = ℕ} 0 1 = cc in absurd (omega arith)
   run-left (t ∷ ts) st d plain e =
-      let behind : Behind legs constraints tracks D ts = run-left ts in
-      in-row legs constraints tracks D ts st d t plain behind (st .phase) (table (st .phase))
-      (row legs constraints tracks D ts st d t plain behind (st .phase)) e
+      let behind : Behind E legs constraints tracks D ts = run-left ts in
+      in-row E legs constraints tracks D ts st d t plain behind (st .phase) (table (st .phase))
+      (row E legs constraints tracks D ts st d t plain behind (st .phase)) e

@@ -12,12 +12,12 @@ use borrow.Author.Tests.{leb-true}
 use Rattle.rules.specs.Limits.{mostText}
 use Rattle.rules.specs.Answers.{refusal, tooLong, constraintsFile, refused, good}
 use Rattle.rules.specs.Tokens.{tokensOf}
-use Rattle.rules.specs.Constraints.{Document, empty, start, plainRules, run, constraintsOf}
+use Rattle.rules.specs.Constraints.{Document, empty, start, rulesIn, run, constraintsOf}
 use Rattle.rules.specs.declared.answers.Refusal.{Refusal}
 use Rattle.rules_theorems.specs.LawfulDocument.{LawfulDocument}
 use Rattle.rules_theorems.proofs.Documents.{good-is-lawful}
-use Rattle.rules_json.specs.Value.{documentOf, Fits}
-use Rattle.rules_json.specs.Written.{Writing}
+use Rattle.rules_json.specs.Value.{Value, documentOf, Fits}
+use Rattle.rules_json.specs.Written.{pieces, Laid, Writing}
 use Rattle.rules_json.proofs.Passes.{value-passed}
 use Rattle.rules_json.proofs.Means.{document-means}
 use Rattle.rules_json.proofs.Shown.{tokens-laid}
@@ -37,12 +37,12 @@ lawful-fits legs constraints tracks d h =
       distinct-ids = h .tables .ids-lawful .distinct;
     }
 
-module _ (legs : List ℕ) (constraints tracks : ℕ) (s : List ℕ) (d : Document) where
-  run-sound : length s ≤ mostText → run legs constraints tracks (start plainRules) empty (tokensOf s) ≡ good d → Fits constraints tracks d
-      → Writing legs constraints tracks s d
+module _ (E : ℕ) (legs : List ℕ) (constraints tracks : ℕ) (s : List ℕ) (d : Document) where
+  run-sound : length s ≤ mostText → run legs constraints tracks (start (rulesIn E)) empty (tokensOf s) ≡ good d → Fits constraints tracks d
+      → Writing E legs constraints tracks s d
   unfolding tokensOf
   run-sound short e fits =
-      let k = run-left legs constraints tracks d (tokensOf s) (start plainRules) empty refl e in
+      let k = run-left E legs constraints tracks d (tokensOf s) (start (rulesIn E)) empty refl e in
       let means : documentOf legs (k .left) ≡ d = sym (document-means legs (k .left) (k .ok)) ∙ k .ends in
       let names = value-passed legs (k .left) (k .ok) in
       record {
@@ -53,24 +53,38 @@ module _ (legs : List ℕ) (constraints tracks : ℕ) (s : List ℕ) (d : Docume
         means = means;
       }
 
-  pub sound : constraintsOf legs constraints tracks plainRules s ≡ good d → Writing legs constraints tracks s d
+  pub sound : constraintsOf legs constraints tracks (rulesIn E) s ≡ good d → Writing E legs constraints tracks s d
   unfolding constraintsOf
   sound e =
-      go (leb (length s) mostText) refl e (lawful-fits legs constraints tracks d (good-is-lawful legs constraints tracks plainRules s d e))
+      go (leb (length s) mostText) refl e (lawful-fits legs constraints tracks d (good-is-lawful legs constraints tracks (rulesIn E) s d e))
     where
       go : (b : Bool) → leb (length s) mostText ≡ b
-          → cond b (run legs constraints tracks (start plainRules) empty (tokensOf s)) (refused (refusal tooLong constraintsFile 0)) ≡ good d
-          → Fits constraints tracks d → Writing legs constraints tracks s d
+          → cond b (run legs constraints tracks (start (rulesIn E)) empty (tokensOf s)) (refused (refusal tooLong constraintsFile 0)) ≡ good d
+          → Fits constraints tracks d → Writing E legs constraints tracks s d
       go true short e fits = run-sound (leb-true (length s) mostText short) e fits
       go false long e fits = let z : _≡_ {A = ℕ} 0 1 = cc in absurd (omega arith)
 
   -- THE THEOREM: the automaton reads a text as d exactly where the text writes a lawful value whose document is d
-  pub reads-what-is-written : constraintsOf legs constraints tracks plainRules s ≡ good d ↔ Writing legs constraints tracks s d
-  reads-what-is-written = (sound, complete legs constraints tracks s d)
+  pub reads-what-is-written : constraintsOf legs constraints tracks (rulesIn E) s ≡ good d ↔ Writing E legs constraints tracks s d
+  reads-what-is-written = (sound, complete E legs constraints tracks s d)
 
   -- and it refuses no text that writes one
-  pub refused-otherwise : (r : Refusal) → constraintsOf legs constraints tracks plainRules s ≡ refused r → Writing legs constraints tracks s d → ⊥
+  pub refused-otherwise : (r : Refusal) → constraintsOf legs constraints tracks (rulesIn E) s ≡ refused r → Writing E legs constraints tracks s d → ⊥
   refused-otherwise r e w =
-      let read = complete legs constraints tracks s d w in
+      let read = complete E legs constraints tracks s d w in
       let z : _≡_ {A = ℕ} 0 1 = cc in
       omega arith
+
+-- ---- E4: a text that reads in one edition, and its twin: the same value written in the other
+
+pub record Twin (E F : ℕ) (v : Value) (s t : List ℕ) : Type 0 where
+  pub one : Laid (pieces E v) s
+  pub other : Laid (pieces F v) t
+
+-- any two editions: the twin reads as the same document
+pub twins-read : (E F : ℕ) (legs : List ℕ) (constraints tracks : ℕ) (s t : List ℕ) (d : Document) (w : Writing E legs constraints tracks s d)
+    → Laid (pieces F (w .value)) t → length t ≤ mostText
+    → constraintsOf legs constraints tracks (rulesIn F) t ≡ constraintsOf legs constraints tracks (rulesIn E) s
+twins-read E F legs constraints tracks s t d w laid short =
+    complete F legs constraints tracks t d (record { value = w .value; lawful = w .lawful; written = laid; short = short; means = w .means })
+    ∙ sym (complete E legs constraints tracks s d w)

@@ -3,3 +3,5 @@ pub mod Value
 pub mod Written
 -- All texts together
 pub mod Files
+-- A file in another edition
+pub mod Twins

@@ -10,7 +10,7 @@ use Rattle.rules.specs.Bytes.{bytes, spelled}
 use Rattle.rules.specs.Limits.{mostText}
 use Rattle.rules.specs.Tokens.{isWhite, quote}
 use Rattle.rules.specs.Lists.{firstPlace}
-use Rattle.rules.specs.Kinds.{listNames, keyNames, typeNames, firstLeg, secondLeg, minHeadway, minDwell, minTurnaround, minConnection, maxConnection, connectionType, subnetId, trackIds}
+use Rattle.rules.specs.Kinds.{listNames, keyNames, typeNames, firstLeg, secondLeg, minHeadway, minDwell, minTurnaround, minConnection, maxConnection, connectionType, subnetId, trackIds, renamed, isRenamed}
 use Rattle.rules.specs.Constraints.{Document}
 use Rattle.rules_json.specs.Value.{Member, number, type, trackList, Listed, Value, keyOf, documentOf, Lawful}
 
@@ -29,6 +29,10 @@ allKeys =
 
 abbrev pub keyName : (key : ℕ) → List ℕ
 keyName key = getD keyNames (Option·getD (firstPlace (eqb key) allKeys) (length allKeys)) []
+
+-- in a record of a list, by an edition
+abbrev pub keyNameIn : (E list : ℕ) → (key : ℕ) → List ℕ
+keyNameIn E list key = keyName (renamed (isRenamed E list) key)
 
 -- ---- pieces
 
@@ -70,17 +74,18 @@ saidPieces (number key n) rest = whole n ∷ rest
 saidPieces (type t) rest = string (typeName t) ∷ rest
 saidPieces (trackList ids) rest = openBracket ∷ items trackPieces closeBracket ids rest
 
-abbrev pub memberPieces : Writes Member
-memberPieces m rest = string (keyName (keyOf m)) ∷ colon ∷ saidPieces m rest
+-- E: the edition; a key is named by the list of its record
+abbrev pub memberPieces : (E list : ℕ) → Writes Member
+memberPieces E list m rest = string (keyNameIn E list (keyOf m)) ∷ colon ∷ saidPieces m rest
 
-abbrev pub recordPieces : Writes (List Member)
-recordPieces ms rest = openBrace ∷ items memberPieces closeBrace ms rest
+abbrev pub recordPieces : (E list : ℕ) → Writes (List Member)
+recordPieces E list ms rest = openBrace ∷ items (memberPieces E list) closeBrace ms rest
 
-abbrev pub listPieces : Writes Listed
-listPieces l rest = string (listName (l .list)) ∷ colon ∷ openBracket ∷ items recordPieces closeBracket (l .records) rest
+abbrev pub listPieces : (E : ℕ) → Writes Listed
+listPieces E l rest = string (listName (l .list)) ∷ colon ∷ openBracket ∷ items (recordPieces E (l .list)) closeBracket (l .records) rest
 
-abbrev pub pieces : Value → List Piece
-pieces v = openBrace ∷ items listPieces closeBrace v []
+abbrev pub pieces : (E : ℕ) → Value → List Piece
+pieces E v = openBrace ∷ items (listPieces E) closeBrace v []
 
 -- ---- a text: the pieces in order, with any white bytes before, between and after them. None need stand there: no two numbers of a value stand side by side
 
@@ -95,9 +100,9 @@ spread blank [] = blank
 spread blank (x ∷ xs) = blank ++ (bytesOf x ++ spread blank xs)
 
 -- THE STATEMENT: a text writes a lawful value, and d is the value's document
-pub record Writing (legs : List ℕ) (constraints tracks : ℕ) (s : List ℕ) (d : Document) : Type 0 where
+pub record Writing (E : ℕ) (legs : List ℕ) (constraints tracks : ℕ) (s : List ℕ) (d : Document) : Type 0 where
   pub value : Value
   pub lawful : Lawful legs constraints tracks value
-  pub written : Laid (pieces value) s
+  pub written : Laid (pieces E value) s
   pub short : length s ≤ mostText
   pub means : documentOf legs value ≡ d

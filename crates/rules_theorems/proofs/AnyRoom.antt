@@ -15,12 +15,15 @@ use Rattle.rules.specs.Rows.{heads, onRow, rowsFrom, headed, csvOf}
 use Rattle.rules.specs.Timetable.{Row, rowOf, formOf, timetableNames, timetableOf, solutionOf, draftFits, solutionFits, choicesOf}
 use Rattle.rules.specs.Profiles.{Curve, profilesNames, profilesOf, formOf as curveForm, rowOf as curveRow}
 use Rattle.rules.specs.Tokens.{Token, tokensOf}
-use Rattle.rules.specs.Constraints.{actionOf, Document, Turn, fault, on, finish, isNumber, numberOf, start, empty, plainRules, listName, documentEnds, recordOpens, keyName, recordEnds, stringValue, stringCut, legValue, subnetValue, secondsValue, numberValue, tracksOpen, trackNumber, act, turnOf, onward, run, constraintsOf}
+use Rattle.rules.specs.Constraints.{actionOf, Document, Turn, fault, on, finish, isNumber, numberOf, start, empty, listName, documentEnds, recordOpens, keyName, recordEnds, stringValue, stringCut, legValue, subnetValue, secondsValue, numberValue, tracksOpen, trackNumber, act, turnOf, onward, run, constraintsOf}
+use Rattle.rules.specs.Stated.{rulesBy}
 use Rattle.rules.specs.Reading.{Rooms, Texts, Files, legIds, filesOf, choicesRead}
 use Rattle.rules.specs.Entries.{Whole, allRead, Both, bothRead}
+use Rattle.rules.specs.declared.stated.Stated.{Stated}
 use Rattle.rules.specs.declared.sizes.Configuration.{Configuration}
 use Rattle.rules.specs.declared.tokens.Action.{Action}
 use Rattle.rules.specs.declared.tokens.Action.the-variants.{Broken, Early, Goes, ListName, DocumentEnds, RecordOpens, KeyName, RecordEnds, StringValue, StringCut, NumberValue, TracksOpen, TrackNumber, Finishes}
+use Rattle.rules.specs.declared.tokens.Rules.{Rules}
 use Rattle.rules.specs.declared.tokens.State.{State}
 use Rattle.rules_theorems.proofs.GoodText.{never-good, good-test}
 use Rattle.rules_theorems.proofs.GoodRows.{form-right, curve-right, timetable-good, solution-good, profiles-good}
@@ -152,25 +155,25 @@ module _ (legs : List ℕ) (constraints₁ tracks₁ constraints₂ tracks₂ : 
   run-alike [] st x c d e k = never-good _ c e
   run-alike (t ∷ ts) st x c d e k = onward-alike (act-alike (actionOf (st .phase) (t .class)) st x t) _ _ c d (λ st′ x′. run-alike ts st′ x′ c d) e k
 
-  documents-alike : (s : List ℕ) (c d : Document) → constraintsOf legs constraints₁ tracks₁ plainRules s ≡ good c → constraintsOf legs constraints₂ tracks₂ plainRules s ≡ good d → c ≡ d
+  documents-alike : (rules : Rules) (s : List ℕ) (c d : Document) → constraintsOf legs constraints₁ tracks₁ rules s ≡ good c → constraintsOf legs constraints₂ tracks₂ rules s ≡ good d → c ≡ d
   unfolding constraintsOf
-  documents-alike s c d e k =
-      run-alike (tokensOf s) (start plainRules) empty c d (good-test (leb (length s) mostText) _ _ c e .1) (good-test (leb (length s) mostText) _ _ d k .1)
+  documents-alike rules s c d e k =
+      run-alike (tokensOf s) (start rules) empty c d (good-test (leb (length s) mostText) _ _ c e .1) (good-test (leb (length s) mostText) _ _ d k .1)
 
 -- ---- all files
 
-pub files-alike : (H : ℕ) (x : Texts) (room₁ room₂ : Rooms) (f g : Files) → filesOf H x room₁ ≡ good f → filesOf H x room₂ ≡ good g → f ≡ g
-files-alike H x room₁ room₂ f g e k =
-    let one = files-good H x room₁ f e in
-    let two = files-good H x room₂ g k in
+pub files-alike : (S : Stated) (x : Texts) (room₁ room₂ : Rooms) (f g : Files) → filesOf S x room₁ ≡ good f → filesOf S x room₂ ≡ good g → f ≡ g
+files-alike S x room₁ room₂ f g e k =
+    let one = files-good S x room₁ f e in
+    let two = files-good S x room₂ g k in
     let rows : f .rows ≡ g .rows =
-    timetables-alike H _ _ _ _ (x .timetable) (f .rows) (g .rows) (timetable-good H _ _ (x .timetable) (f .rows) .1 (one .timetable))
-    (timetable-good H _ _ (x .timetable) (g .rows) .1 (two .timetable)) in
+    timetables-alike (S .horizon) _ _ _ _ (x .timetable) (f .rows) (g .rows) (timetable-good (S .horizon) _ _ (x .timetable) (f .rows) .1 (one .timetable))
+    (timetable-good (S .horizon) _ _ (x .timetable) (g .rows) .1 (two .timetable)) in
     let curves : f .curves ≡ g .curves =
     profiles-alike _ _ _ _ (x .profiles) (f .curves) (g .curves) (profiles-good _ _ (x .profiles) (f .curves) .1 (one .profiles))
     (profiles-good _ _ (x .profiles) (g .curves) .1 (two .profiles)) in
     let document : f .document ≡ g .document =
-    documents-alike (legIds (f .rows)) _ _ _ _ (x .constraints) (f .document) (g .document) (one .constraints)
+    documents-alike (legIds (f .rows)) _ _ _ _ (rulesBy S) (x .constraints) (f .document) (g .document) (one .constraints)
     (rw (← rows) at (two .constraints)) in
     λ i. record { rows = rows i; curves = curves i; document = document i }
 
@@ -204,23 +207,23 @@ choices-alike H f file₁ file₂ room₁ room₂ text s r e k =
     sym (one .choices) ∙ ap choicesOf rows ∙ two .choices
 
 -- four texts: what they say is one
-pub all-alike : (H : ℕ) (x : Texts) (s : List ℕ) (room₁ room₂ : Rooms) (choices₁ choices₂ : ℕ) (w v : Whole)
-    → allRead H x s room₁ choices₁ ≡ good w → allRead H x s room₂ choices₂ ≡ good v → w ≡ v
-all-alike H x s room₁ room₂ choices₁ choices₂ w v e k =
-    let one = all-good H x s room₁ choices₁ w e in
-    let two = all-good H x s room₂ choices₂ v k in
-    let files : w .files ≡ v .files = files-alike H x room₁ room₂ (w .files) (v .files) (one .0) (two .0) in
+pub all-alike : (S : Stated) (x : Texts) (s : List ℕ) (room₁ room₂ : Rooms) (choices₁ choices₂ : ℕ) (w v : Whole)
+    → allRead S x s room₁ choices₁ ≡ good w → allRead S x s room₂ choices₂ ≡ good v → w ≡ v
+all-alike S x s room₁ room₂ choices₁ choices₂ w v e k =
+    let one = all-good S x s room₁ choices₁ w e in
+    let two = all-good S x s room₂ choices₂ v k in
+    let files : w .files ≡ v .files = files-alike S x room₁ room₂ (w .files) (v .files) (one .0) (two .0) in
     let choices : w .choices ≡ v .choices =
-    choices-alike H (w .files) solutionFile solutionFile choices₁ choices₂ s (w .choices) (v .choices) (one .1) (rw files (two .1)) in
+    choices-alike (S .horizon) (w .files) solutionFile solutionFile choices₁ choices₂ s (w .choices) (v .choices) (one .1) (rw files (two .1)) in
     λ i. record { files = files i; choices = choices i }
 
 -- and so it is with two solutions
-pub both-alike : (H : ℕ) (x : Texts) (s r : List ℕ) (room₁ room₂ : Rooms) (choices₁ second₁ choices₂ second₂ : ℕ) (b : Both) (f : Files) (cs ds : List Configuration)
-    → bothRead H x s r room₁ choices₁ second₁ ≡ good b → filesOf H x room₂ ≡ good f
-    → choicesRead H f solutionFile choices₂ s ≡ good cs → choicesRead H f solutionFile second₂ r ≡ good ds → b ≡ record { files = f; first = cs; second = ds }
-both-alike H x s r room₁ room₂ choices₁ second₁ choices₂ second₂ b f cs ds e k c d =
-    let one = both-good H x s r room₁ choices₁ second₁ b e in
-    let files : b .files ≡ f = files-alike H x room₁ room₂ (b .files) f (one .0) k in
-    let first : b .first ≡ cs = choices-alike H f solutionFile solutionFile choices₁ choices₂ s (b .first) cs (rw files at (one .1)) c in
-    let second : b .second ≡ ds = choices-alike H f secondFile solutionFile second₁ second₂ r (b .second) ds (rw files at (one .2)) d in
+pub both-alike : (S : Stated) (x : Texts) (s r : List ℕ) (room₁ room₂ : Rooms) (choices₁ second₁ choices₂ second₂ : ℕ) (b : Both) (f : Files) (cs ds : List Configuration)
+    → bothRead S x s r room₁ choices₁ second₁ ≡ good b → filesOf S x room₂ ≡ good f
+    → choicesRead (S .horizon) f solutionFile choices₂ s ≡ good cs → choicesRead (S .horizon) f solutionFile second₂ r ≡ good ds → b ≡ record { files = f; first = cs; second = ds }
+both-alike S x s r room₁ room₂ choices₁ second₁ choices₂ second₂ b f cs ds e k c d =
+    let one = both-good S x s r room₁ choices₁ second₁ b e in
+    let files : b .files ≡ f = files-alike S x room₁ room₂ (b .files) f (one .0) k in
+    let first : b .first ≡ cs = choices-alike (S .horizon) f solutionFile solutionFile choices₁ choices₂ s (b .first) cs (rw files at (one .1)) c in
+    let second : b .second ≡ ds = choices-alike (S .horizon) f secondFile solutionFile second₁ second₂ r (b .second) ds (rw files at (one .2)) d in
     λ i. record { files = files i; first = first i; second = second i }

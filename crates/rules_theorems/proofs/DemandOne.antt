@@ -14,6 +14,7 @@ use Rattle.rules.specs.Reading.{Texts}
 use Rattle.rules.specs.Verdict.{Verdict, accepted, violated, answerOf}
 use Rattle.rules.specs.Merge.{unequalFrom, chosen, textOf}
 use Rattle.rules.specs.Entries.{Tables, roomsOf, verdictOf, Whole, allRead, checkedFrom, checked, reportAccepted, reportJudged, reportFrom, reported, Both, bothRead, Merged, mergeFitted, mergeTravel, mergeSecond, mergeFirst, mergeFrom, merged}
+use Rattle.rules.specs.declared.stated.Stated.{Stated}
 use Rattle.rules.specs.declared.sizes.Configuration.{Configuration}
 use Rattle.rules.specs.declared.answers.Violation.{Violation}
 use Rattle.rules.specs.declared.answers.Answer.the-variants.{Accepted, Violated}
@@ -33,44 +34,44 @@ verdict-not-refused file (violated k n i m) = violated-not-refused _
 
 -- ---- what each entry leaves after a refusal
 
-module _ (H : ℕ) (x : Texts) (s : List ℕ) (t : Tables) (c : List ℕ) where
-  check-emptied : IsRefused (checked H x s t c .answer) → EmptiedCheck t c (checked H x s t c)
+module _ (S : Stated) (x : Texts) (s : List ℕ) (t : Tables) (c : List ℕ) where
+  check-emptied : IsRefused (checked S x s t c .answer) → EmptiedCheck t c (checked S x s t c)
   unfolding checked
-  check-emptied = go (allRead H x s (roomsOf t) (length c))
+  check-emptied = go (allRead S x s (roomsOf t) (length c))
     where
       go : (m : Reading Whole) → IsRefused (checkedFrom m t c .answer) → EmptiedCheck t c (checkedFrom m t c)
       go (refused r) e = record { tables = refl; choices = refl }
       go (good w) e = absurd (verdict-not-refused solutionFile (verdictOf (w .files) (w .choices)) e)
 
   -- a check ends in one of three answers, and after a refusal every table is filled
-  pub demand-one : DemandOne (checked H x s t c .answer) (EmptiedCheck t c (checked H x s t c))
-  demand-one = record { outcome = one-outcome (checked H x s t c .answer); emptied = check-emptied }
+  pub demand-one : DemandOne (checked S x s t c .answer) (EmptiedCheck t c (checked S x s t c))
+  demand-one = record { outcome = one-outcome (checked S x s t c .answer); emptied = check-emptied }
 
   module _ (p : List ℤ) where
-    report-emptied : IsRefused (reported H x s t c p .answer) → EmptiedReport t c p (reported H x s t c p)
+    report-emptied : IsRefused (reported S x s t c p .answer) → EmptiedReport t c p (reported S x s t c p)
     unfolding reported
-    report-emptied = go (allRead H x s (roomsOf t) (length c))
+    report-emptied = go (allRead S x s (roomsOf t) (length c))
       where
-        fitted : (fits : Bool) (w : Whole) → IsRefused (reportAccepted fits H w t c p .answer) → EmptiedReport t c p (reportAccepted fits H w t c p)
+        fitted : (fits : Bool) (w : Whole) → IsRefused (reportAccepted fits (S .horizon) w t c p .answer) → EmptiedReport t c p (reportAccepted fits (S .horizon) w t c p)
         fitted true w e = absurd (accepted-not-refused e)
         fitted false w e = record { tables = refl; choices = refl; curves = refl; figures = refl }
 
-        judged : (v : Verdict) (w : Whole) → IsRefused (reportJudged v H w t c p .answer) → EmptiedReport t c p (reportJudged v H w t c p)
-        judged accepted w e = fitted (leb (w .files .document .opened * H) (length p)) w e
+        judged : (v : Verdict) (w : Whole) → IsRefused (reportJudged v (S .horizon) w t c p .answer) → EmptiedReport t c p (reportJudged v (S .horizon) w t c p)
+        judged accepted w e = fitted (leb (w .files .document .opened * S .horizon) (length p)) w e
         judged (violated k n i m) w e = absurd (violated-not-refused _ e)
 
-        go : (m : Reading Whole) → IsRefused (reportFrom m H t c p .answer) → EmptiedReport t c p (reportFrom m H t c p)
+        go : (m : Reading Whole) → IsRefused (reportFrom m (S .horizon) t c p .answer) → EmptiedReport t c p (reportFrom m (S .horizon) t c p)
         go (refused r) e = record { tables = refl; choices = refl; curves = refl; figures = refl }
         go (good w) e = judged (verdictOf (w .files) (w .choices)) w e
 
     -- a report too: its curve table is filled, and its figures are 0
-    pub report-demand-one : DemandOne (reported H x s t c p .answer) (EmptiedReport t c p (reported H x s t c p))
-    report-demand-one = record { outcome = one-outcome (reported H x s t c p .answer); emptied = report-emptied }
+    pub report-demand-one : DemandOne (reported S x s t c p .answer) (EmptiedReport t c p (reported S x s t c p))
+    report-demand-one = record { outcome = one-outcome (reported S x s t c p .answer); emptied = report-emptied }
 
   module _ (merge : List Configuration → List Configuration → List Configuration) (s₂ d text : List ℕ) where
-    merge-emptied : IsRefused (merged merge H x s s₂ t c d text .answer) → EmptiedMerge t c d text (merged merge H x s s₂ t c d text)
+    merge-emptied : IsRefused (merged merge S x s s₂ t c d text .answer) → EmptiedMerge t c d text (merged merge S x s s₂ t c d text)
     unfolding merged
-    merge-emptied = go (bothRead H x s s₂ (roomsOf t) (length c) (length d))
+    merge-emptied = go (bothRead S x s s₂ (roomsOf t) (length c) (length d))
       where
         Emptied : Merged → Type 0
         Emptied m = IsRefused (m .answer) → EmptiedMerge t c d text m
@@ -98,5 +99,5 @@ module _ (H : ℕ) (x : Texts) (s : List ℕ) (t : Tables) (c : List ℕ) where
         go (good b) e = first (verdictOf (b .files) (b .first)) b e
 
     -- a merge too, by whatever rule it chooses: both choice tables are filled, and the text buffer is zeroed
-    pub merge-demand-one : DemandOne (merged merge H x s s₂ t c d text .answer) (EmptiedMerge t c d text (merged merge H x s s₂ t c d text))
-    merge-demand-one = record { outcome = one-outcome (merged merge H x s s₂ t c d text .answer); emptied = merge-emptied }
+    pub merge-demand-one : DemandOne (merged merge S x s s₂ t c d text .answer) (EmptiedMerge t c d text (merged merge S x s s₂ t c d text))
+    merge-demand-one = record { outcome = one-outcome (merged merge S x s s₂ t c d text .answer); emptied = merge-emptied }

@@ -17,6 +17,7 @@ use Rattle.rules.specs.Verdict.{offered, Offered, accepted}
 use Rattle.rules.specs.Energy.{samplesIn, homesOf, power, curvesOf}
 use Rattle.rules.specs.Merge.{zipped, earlier, later, SameTravel, unequalFrom, chosen, textOf}
 use Rattle.rules.specs.Entries.{Tables, roomsOf, verdictOf, Whole, allRead, checked, Both, mergeFitted, merged}
+use Rattle.rules.specs.declared.stated.Stated.{Stated}
 use Rattle.rules.specs.declared.sizes.Configuration.{Configuration}
 use Rattle.rules.specs.declared.answers.Answer.the-variants.{Accepted}
 use Rattle.rules_theorems.specs.Demands.{TwoAccepted, MergedTo, HasRoom, DemandThree}
@@ -37,9 +38,9 @@ over-front w t = take-append-seam w _
 -- ---- one merge
 
 -- of solutions a and b that say s and r, by any rule whose choices are accepted too
-module _ (H : ℕ) (x : Texts) (a b : List ℕ) (t : Tables) (c d text : List ℕ) (merge : List Configuration → List Configuration → List Configuration)
-    (f : Files) (s r : List Configuration) (files-read : filesOf H x (roomsOf t) ≡ good f)
-    (first-read : choicesRead H f solutionFile (length c) a ≡ good s) (second-read : choicesRead H f secondFile (length d) b ≡ good r)
+module _ (S : Stated) (x : Texts) (a b : List ℕ) (t : Tables) (c d text : List ℕ) (merge : List Configuration → List Configuration → List Configuration)
+    (f : Files) (s r : List Configuration) (files-read : filesOf S x (roomsOf t) ≡ good f)
+    (first-read : choicesRead (S .horizon) f solutionFile (length c) a ≡ good s) (second-read : choicesRead (S .horizon) f secondFile (length d) b ≡ good r)
     (first-accepted : verdictOf f s ≡ accepted) (second-accepted : verdictOf f r ≡ accepted) (no-unequal : unequalFrom 0 s r ≡ none)
     (merge-accepted : verdictOf f (merge s r) ≡ accepted) where
   abbrev written : List ℕ
@@ -57,15 +58,15 @@ module _ (H : ℕ) (x : Texts) (a b : List ℕ) (t : Tables) (c d text : List �
   -- the text limit always suffices
   short : length written ≤ mostText
   short =
-      let g = files-good H x (roomsOf t) f files-read in
-      text-short H (g .horizon .1) (chosen (f .rows) (merge s r)) (chosen-lawful H (f .rows) (merge s r) (g .timetable .lawful) (are-offered (merge s r) merge-accepted))
+      let g = files-good S x (roomsOf t) f files-read in
+      text-short (S .horizon) (g .horizon .1) (chosen (f .rows) (merge s r)) (chosen-lawful (S .horizon) (f .rows) (merge s r) (g .timetable .lawful) (are-offered (merge s r) merge-accepted))
 
   -- both are read, both verdicts are accepted, no travel times differ, and the text fits: it is written
-  merge-written : length written ≤ length text → merged merge H x a b t c d text ≡ mergeFitted t c d text true written both
+  merge-written : length written ≤ length text → merged merge S x a b t c d text ≡ mergeFitted t c d text true written both
   unfolding merged
   merge-written fits =
       rw (
-        good-both H x a b (roomsOf t) (length c) (length d) f s r files-read first-read second-read,
+        good-both S x a b (roomsOf t) (length c) (length d) f s r files-read first-read second-read,
         first-accepted,
         second-accepted,
         no-unequal,
@@ -77,17 +78,17 @@ module _ (H : ℕ) (x : Texts) (a b : List ℕ) (t : Tables) (c d text : List �
   room : length (f .rows) ≤ length c / configurationWidth
   room =
       rw (offered-length (f .rows) s (are-offered s first-accepted))
-      (choices-room H f (length c) a s (choices-good H f solutionFile (length c) a s first-read))
+      (choices-room (S .horizon) f (length c) a s (choices-good (S .horizon) f solutionFile (length c) a s first-read))
 
-  reads : allRead H x written (roomsOf t) (length c) ≡ good new
+  reads : allRead S x written (roomsOf t) (length c) ≡ good new
   reads =
-      good-all H x written (roomsOf t) (length c) f (merge s r) files-read
-      (files-choices-back H x (roomsOf t) f solutionFile (length c) (merge s r) files-read (are-offered (merge s r) merge-accepted) room)
+      good-all S x written (roomsOf t) (length c) f (merge s r) files-read
+      (files-choices-back S x (roomsOf t) f solutionFile (length c) (merge s r) files-read (are-offered (merge s r) merge-accepted) room)
 
-  is-accepted : checked H x written t c .answer ≡ Accepted
-  is-accepted = checked-answer H x written t c new reads ∙ answer-accepted solutionFile (verdictOf f (merge s r)) .1 merge-accepted
+  is-accepted : checked S x written t c .answer ≡ Accepted
+  is-accepted = checked-answer S x written t c new reads ∙ answer-accepted solutionFile (verdictOf f (merge s r)) .1 merge-accepted
 
-  one-merge : HasRoom f (merge s r) text → MergedTo (merge s r) f H x t c (merged merge H x a b t c d text)
+  one-merge : HasRoom f (merge s r) text → MergedTo (merge s r) f S x t c (merged merge S x a b t c d text)
   one-merge fits =
       let front : take (length written) (over written text) ≡ written = over-front written text in
       rw (merge-written fits)
@@ -109,36 +110,36 @@ tables-add H f s r e =
 -- ---- the demand
 
 -- the verdict of a solution that was accepted
-verdict-of : (H : ℕ) (x : Texts) (s : List ℕ) (t : Tables) (c : List ℕ) (w : Whole) → allRead H x s (roomsOf t) (length c) ≡ good w
-    → checked H x s t c .answer ≡ Accepted → verdictOf (w .files) (w .choices) ≡ accepted
-verdict-of H x s t c w e h = answer-accepted solutionFile (verdictOf (w .files) (w .choices)) .0 (sym (checked-answer H x s t c w e) ∙ h)
+verdict-of : (S : Stated) (x : Texts) (s : List ℕ) (t : Tables) (c : List ℕ) (w : Whole) → allRead S x s (roomsOf t) (length c) ≡ good w
+    → checked S x s t c .answer ≡ Accepted → verdictOf (w .files) (w .choices) ≡ accepted
+verdict-of S x s t c w e h = answer-accepted solutionFile (verdictOf (w .files) (w .choices)) .0 (sym (checked-answer S x s t c w e) ∙ h)
 
-module _ (H : ℕ) (x : Texts) (a b : List ℕ) (t : Tables) (c d e l : List ℕ) where
+module _ (S : Stated) (x : Texts) (a b : List ℕ) (t : Tables) (c d e l : List ℕ) where
   -- over the same files f
-  from-files : (f : Files) (s r : List Configuration) → filesOf H x (roomsOf t) ≡ good f
-      → choicesRead H f solutionFile (length c) a ≡ good s → choicesRead H f solutionFile (length d) b ≡ good r
-      → verdictOf f s ≡ accepted → verdictOf f r ≡ accepted → SameTravel s r → DemandThree f s r H x a b t c d e l
+  from-files : (f : Files) (s r : List Configuration) → filesOf S x (roomsOf t) ≡ good f
+      → choicesRead (S .horizon) f solutionFile (length c) a ≡ good s → choicesRead (S .horizon) f solutionFile (length d) b ≡ good r
+      → verdictOf f s ≡ accepted → verdictOf f r ≡ accepted → SameTravel s r → DemandThree f s r S x a b t c d e l
   from-files f s r files first second v w same =
       let lengths = travel-lengths s r same in
       let unequal = unequal-none s r lengths .1 same in
       let new = merge-verdicts (offered (f .rows)) (ordered (f .document .constraints)) s r same v w in
-      let again : choicesRead H f secondFile (length d) b ≡ good r = good-choices H f secondFile (length d) b r (choices-good H f solutionFile (length d) b r second) in
+      let again : choicesRead (S .horizon) f secondFile (length d) b ≡ good r = good-choices (S .horizon) f secondFile (length d) b r (choices-good (S .horizon) f solutionFile (length d) b r second) in
       record {
-        earlier-merge = one-merge H x a b t c d e earlier f s r files first again v w unequal (new .0);
-        later-merge = one-merge H x a b t c d l later f s r files first again v w unequal (new .1);
+        earlier-merge = one-merge S x a b t c d e earlier f s r files first again v w unequal (new .0);
+        later-merge = one-merge S x a b t c d l later f s r files first again v w unequal (new .1);
         curves = curves-add (samplesIn (f .curves)) (homesOf (f .document .tracks) (f .rows)) s r lengths;
-        curve-tables = tables-add H f s r lengths;
+        curve-tables = tables-add (S .horizon) f s r lengths;
       }
 
   -- from two accepted solutions with equal travel times, both merges are written and accepted, and the curves add up
-  pub demand-three : (p : TwoAccepted H x a b t c d) → DemandThree (p .first .files) (p .first .choices) (p .second .choices) H x a b t c d e l
+  pub demand-three : (p : TwoAccepted S x a b t c d) → DemandThree (p .first .files) (p .first .choices) (p .second .choices) S x a b t c d e l
   demand-three p =
-      let first = all-good H x a (roomsOf t) (length c) (p .first) (p .first-read) in
-      let second = all-good H x b (roomsOf t) (length d) (p .second) (p .second-read) in
+      let first = all-good S x a (roomsOf t) (length c) (p .first) (p .first-read) in
+      let second = all-good S x b (roomsOf t) (length d) (p .second) (p .second-read) in
       let read = second .0 in
       let same : p .second .files ≡ p .first .files = cc (first .0) in
       from-files (p .first .files) (p .first .choices) (p .second .choices) (first .0) (first .1)
       (rw same at (second .1))
-      (verdict-of H x a t c (p .first) (p .first-read) (p .first-accepted))
-      (rw same at (verdict-of H x b t d (p .second) (p .second-read) (p .second-accepted)))
+      (verdict-of S x a t c (p .first) (p .first-read) (p .first-accepted))
+      (rw same at (verdict-of S x b t d (p .second) (p .second-read) (p .second-accepted)))
       (p .same-travel)

@@ -10,6 +10,7 @@ use Rattle.rules.specs.Constraints.{ordered}
 use Rattle.rules.specs.Reading.{Rooms, Texts, Files, filesOf, legIds}
 use Rattle.rules.specs.Verdict.{All, offered, Kept, Acceptable, Verdict, accepted, violated, answerOf}
 use Rattle.rules.specs.Entries.{Tables, roomsOf, verdictOf, Whole, allRead, checkedFrom, checked}
+use Rattle.rules.specs.declared.stated.Stated.{Stated}
 use Rattle.rules.specs.declared.sizes.Configuration.{Configuration}
 use Rattle.rules.specs.declared.answers.Violation.{Violation}
 use Rattle.rules.specs.declared.answers.Answer.the-variants.{Accepted, Violated}
@@ -46,39 +47,39 @@ module _ (files : Files) (s : List Configuration) (kinds : All OfKind (files .do
   )
 
 -- files that were read without refusal have constraints of the five kinds alone
-pub files-kinds : (H : ℕ) (x : Texts) (room : Rooms) (files : Files) → filesOf H x room ≡ good files → All OfKind (files .document .constraints)
-files-kinds H x room files e =
-    let g = files-good H x room files e in
+pub files-kinds : (S : Stated) (x : Texts) (room : Rooms) (files : Files) → filesOf S x room ≡ good files → All OfKind (files .document .constraints)
+files-kinds S x room files e =
+    let g = files-good S x room files e in
     document-kinds (legIds (files .rows)) _ _ (files .document) (good-is-lawful (legIds (files .rows)) _ _ _ (x .constraints) (files .document) (g .constraints))
 
 -- ---- the demand
 
-module _ (H : ℕ) (x : Texts) (s : List ℕ) (t : Tables) (c : List ℕ) where
+module _ (S : Stated) (x : Texts) (s : List ℕ) (t : Tables) (c : List ℕ) where
   -- a check of texts that all read
-  pub checked-answer : (w : Whole) → allRead H x s (roomsOf t) (length c) ≡ good w → checked H x s t c .answer ≡ answerOf solutionFile (verdictOf (w .files) (w .choices))
+  pub checked-answer : (w : Whole) → allRead S x s (roomsOf t) (length c) ≡ good w → checked S x s t c .answer ≡ answerOf solutionFile (verdictOf (w .files) (w .choices))
   unfolding checked
   checked-answer w e = rw e
 
   -- accepted: then all texts read, and the verdict is accepted
-  pub accepted-read : checked H x s t c .answer ≡ Accepted
-      → (w : Whole) × (allRead H x s (roomsOf t) (length c) ≡ good w) × (verdictOf (w .files) (w .choices) ≡ accepted)
+  pub accepted-read : checked S x s t c .answer ≡ Accepted
+      → (w : Whole) × (allRead S x s (roomsOf t) (length c) ≡ good w) × (verdictOf (w .files) (w .choices) ≡ accepted)
   unfolding checked
-  accepted-read = go (allRead H x s (roomsOf t) (length c)) refl
+  accepted-read = go (allRead S x s (roomsOf t) (length c)) refl
     where
-      go : (m : Reading Whole) → allRead H x s (roomsOf t) (length c) ≡ m → checkedFrom m t c .answer ≡ Accepted
-          → (w : Whole) × (allRead H x s (roomsOf t) (length c) ≡ good w) × (verdictOf (w .files) (w .choices) ≡ accepted)
+      go : (m : Reading Whole) → allRead S x s (roomsOf t) (length c) ≡ m → checkedFrom m t c .answer ≡ Accepted
+          → (w : Whole) × (allRead S x s (roomsOf t) (length c) ≡ good w) × (verdictOf (w .files) (w .choices) ≡ accepted)
       go (refused r) e h = let z : _≡_ {A = ℕ} 0 1 = cc in absurd (omega arith)
       go (good w) e h = (w, e, answer-accepted solutionFile (verdictOf (w .files) (w .choices)) .0 h)
 
-  pub demand-two : (w : Whole) → allRead H x s (roomsOf t) (length c) ≡ good w → DemandTwo H (checked H x s t c .answer) w
+  pub demand-two : (w : Whole) → allRead S x s (roomsOf t) (length c) ≡ good w → DemandTwo (S .horizon) (checked S x s t c .answer) w
   demand-two w e =
       let draft = offered (w .files .rows) in
       let table = ordered (w .files .document .constraints) in
       let v = verdictOf (w .files) (w .choices) in
-      let read = all-good H x s (roomsOf t) (length c) w e .0 in
+      let read = all-good S x s (roomsOf t) (length c) w e .0 in
       let judged = answer-accepted solutionFile v in
       let fair = verdict-accepted draft table (w .choices) in
-      let kinds = files-kinds H x (roomsOf t) (w .files) read in
+      let kinds = files-kinds S x (roomsOf t) (w .files) read in
       let order = acceptable-in-order (w .files) (w .choices) kinds in
       rw (checked-answer w e)
       (record {
@@ -87,5 +88,5 @@ module _ (H : ℕ) (x : Texts) (s : List ℕ) (t : Tables) (c : List ℕ) where
         violated = λ k h. names-the-first draft table (w .choices) (k .kind) (k .position) (k .inequality) (k .shortfall) .0 (answer-violated solutionFile v k h);
         numbered = λ k h. shortfalls draft table (w .choices) (ordered-keeps OfKind (w .files .document .constraints) kinds) (k .kind) (k .position) (k .inequality) (k .shortfall) (answer-violated solutionFile v k h);
         judged = verdict-not-refused solutionFile v;
-        reads-back = λ file room choices. files-choices-back H x (roomsOf t) (w .files) file room choices read;
+        reads-back = λ file room choices. files-choices-back S x (roomsOf t) (w .files) file room choices read;
       })

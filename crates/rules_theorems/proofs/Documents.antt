@@ -12,7 +12,7 @@ use borrow.Author.Tests.{eqb-true, eqb-false, leb-true, ltb-true, not-true}
 use Rattle.rules.specs.Limits.{mostText, mostId, mostSeconds, mostConstraints, mostSubnets, mostTracks}
 use Rattle.rules.specs.Lists.{any, isSome}
 use Rattle.rules.specs.Answers.{refusal, tooLong, outOfRange, tooMany, alreadySeen, badJson, unknownName, repeatedOrMissing, notThere, noRoom, constraintsFile, refused, good}
-use Rattle.rules.specs.Kinds.{listNamed, keyNamed, typeNamed, unknown, subnets, firstLeg, secondLeg, maxConnection, connectionType, subnetId, trackIds}
+use Rattle.rules.specs.Kinds.{listNamed, keyIn, typeNamed, unknown, subnets, firstLeg, secondLeg, maxConnection, connectionType, subnetId, trackIds}
 use Rattle.rules.specs.Tokens.{Token, tokensOf}
 use Rattle.rules.specs.Constraints.{May, table, otherwise, sought, actionOf, classNumber, Document, empty, withSubnet, withConstraint, withTrack, Turn, fault, on, past, numberOf, isNumber, rowOfLeg, start, goes, noEntry, isLow, keysOf, listBit, listName, documentEnds, recordOpens, keyName, recordEnds, stringValue, stringCut, legValue, subnetValue, secondsValue, numberValue, tracksOpen, trackNumber, act, turnOf, constraintsOf}
 use Rattle.rules.specs.declared.answers.Refusal.{Refusal}
@@ -26,7 +26,7 @@ use Rattle.rules.specs.Verdict.{All}
 use Rattle.rules_theorems.specs.LawfulDocument.{LawfulTables, LawfulDocument, LawfulRefusal, isFault}
 use Rattle.rules.proofs.Truth.{by-case}
 use Rattle.rules_theorems.proofs.DocumentWords.{or-first, or-second, is-false}
-use Rattle.rules_theorems.proofs.Keys.{list-known, key-known, type-known, has, tracks-of-subnet, subnet-has-id, no-leg}
+use Rattle.rules_theorems.proofs.Keys.{among, keys, list-known, key-in-known, type-known, has, tracks-of-subnet, subnet-has-id, no-leg}
 use Rattle.rules_theorems.proofs.Entries.{row-within, type-fits, nothing-fits, entry-starts, entry-lawful}
 use Rattle.rules_theorems.proofs.OneMore.{constraint-added, subnet-added, track-added, id-added}
 use Rattle.rules_theorems.proofs.Phases.{pending, Outside, InList, InRecord, AtValue, InTracks, Holds, Keeps, value-given, id-given}
@@ -122,17 +122,17 @@ module _ (legs : List ℕ) (constraints tracks : ℕ) where
               ids = omega (arith, inside .ids);
             }
 
-    keyName-keeps : (word : List ℕ) → InRecord legs constraints (st .list) (st .keys) (st .entry) d → Good (keyName legs constraints tracks (keyNamed word) st d t)
+    keyName-keeps : (key : ℕ) → among keys key ≡ true → InRecord legs constraints (st .list) (st .keys) (st .entry) d → Good (keyName legs constraints tracks key st d t)
     unfolding keyName
-    keyName-keeps word inside =
-        tested unknownName (has (keysOf (st .list)) (keyNamed word)) _ refl (λ carried.
-        tested repeatedOrMissing (eqb (bitAnd (st .keys) (keyNamed word)) 0) _ refl (λ new.
+    keyName-keeps key in-keys inside =
+        tested unknownName (has (keysOf (st .list)) key) _ refl (λ carried.
+        tested repeatedOrMissing (eqb (bitAnd (st .keys) key) 0) _ refl (λ new.
         stays (record {
           given = st .keys;
           before = inside;
           seen-now = refl;
           fresh = eqb-true _ 0 new;
-          in-keys = key-known word;
+          in-keys = in-keys;
           carried = carried;
         })))
 
@@ -307,8 +307,8 @@ module _ (legs : List ℕ) (constraints tracks : ℕ) where
     row-keeps FirstRecord h = (recordOpens-keeps h, (stays (h .ids), tt))
     row-keeps Record h = (recordOpens-keeps h, tt)
     row-keeps AfterRecord h = (stays h, (stays (h .ids), tt))
-    row-keeps FirstKey h = (keyName-keeps (t .word) h, (early, (recordEnds-keeps h, tt)))
-    row-keeps NextKey h = (keyName-keeps (t .word) h, (early, tt))
+    row-keeps FirstKey h = (keyName-keeps (keyIn (st .rules .edition) (st .list) (t .word)) (key-in-known (st .rules .edition) (st .list) (t .word)) h, (early, (recordEnds-keeps h, tt)))
+    row-keeps NextKey h = (keyName-keeps (keyIn (st .rules .edition) (st .list) (t .word)) (key-in-known (st .rules .edition) (st .list) (t .word)) h, (early, tt))
     row-keeps KeyColon h = (stays h, tt)
     row-keeps Value h = (numberValue-keeps h, (stringValue-keeps h (t .word), (stringCut-keeps, (tracksOpen-keeps h, tt))))
     row-keeps AfterValue h = (stays h, (recordEnds-keeps h, tt))

@@ -14,6 +14,7 @@ use Rattle.rules.specs.Answers.{
   badRow,
   badJson,
   differs,
+  unknownEdition,
   refusal,
   Reading,
   refused,
@@ -30,7 +31,7 @@ use Rattle.rules.specs.Rows.{heads, onRow, lastLine, rowsFrom, headed, csvOf, p
 use Rattle.rules.specs.Timetable.{Row, rowTests, judgeForm, formOf, rowOf, draftFits, solutionFits, timetableNames, timetableOf, solutionOf}
 use Rattle.rules.specs.Profiles as Profiles
 use Rattle.rules.specs.Profiles.{Curve, profilesNames, profilesOf, curveOf, lasts, profileFault}
-use Rattle.rules.specs.Kinds.{subnets, firstLeg, secondLeg, connectionType, subnetId, trackIds}
+use Rattle.rules.specs.Kinds.{tableEdition, exampleEdition, subnets, firstLeg, secondLeg, connectionType, subnetId, trackIds}
 use Rattle.rules.specs.Tokens.{Token, tokensOf}
 use Rattle.rules.specs.Constraints.{
   Document,
@@ -40,7 +41,6 @@ use Rattle.rules.specs.Constraints.{
   finish,
   requires,
   empty,
-  plainRules,
   start as begin,
   actionOf,
   listName,
@@ -64,15 +64,17 @@ use Rattle.rules.specs.Constraints.{
   subnetOf,
   subnetFault,
 }
+use Rattle.rules.specs.Stated.{rulesBy, known}
 use Rattle.rules.specs.Reading.{Rooms, Texts, Files, filesOf, legIds, differsFrom, matched, choicesRead}
 use Rattle.rules.specs.Verdict.{All}
+use Rattle.rules.specs.declared.stated.Stated.{Stated}
 use Rattle.rules.specs.declared.sizes.Track.{Track}
 use Rattle.rules.specs.declared.answers.Refusal.{Refusal}
 use Rattle.rules.specs.declared.tokens.Action.{Action}
 use Rattle.rules.specs.declared.tokens.Action.the-variants.{Broken, Early, Goes, ListName, DocumentEnds, RecordOpens, KeyName, RecordEnds, StringValue, StringCut, NumberValue, TracksOpen, TrackNumber, Finishes}
 use Rattle.rules.specs.declared.tokens.Rules.{Rules}
 use Rattle.rules.specs.declared.tokens.State.{State}
-use Rattle.rules_theorems.specs.Cases.{Line, among, horizonLine, timetableLine, profilesLine, constraintsLine, solutionLine}
+use Rattle.rules_theorems.specs.Cases.{Line, among, statedLine, timetableLine, profilesLine, constraintsLine, solutionLine}
 
 -- ---- what is known of a refusal
 
@@ -264,19 +266,26 @@ module _ (legs : List ℕ) (constraints tracks : ℕ) where
 -- ---- all files in order
 
 pub record AllowsFiles (P : Refusal → Type 0) : Type 0 where
-  pub horizon : Allows P horizonLine
+  pub stated : Allows P statedLine
   pub timetable : Allows P timetableLine
   pub profiles : Allows P profilesLine
   pub constraints : Allows P constraintsLine
 
-pub files-refuse : {P : Refusal → Type 0} (H : ℕ) (x : Texts) (room : Rooms) → AllowsFiles P → Refuses P (filesOf H x room)
+known-refuses : {P : Refusal → Type 0} (S : Stated) → Allows P statedLine → Refuses P (known S)
+unfolding known
+known-refuses {P} S allows =
+    then (either (Refuses P) (leb leastHorizon (S .horizon) && leb (S .horizon) mostHorizon) reads (refuses (allows .atStart badHorizon tt)))
+    (λ horizon. then (either (Refuses P) (eqb (S .edition) tableEdition || eqb (S .edition) exampleEdition) reads (refuses (allows .atStart unknownEdition tt)))
+    (λ edition. reads))
+
+pub files-refuse : {P : Refusal → Type 0} (S : Stated) (x : Texts) (room : Rooms) → AllowsFiles P → Refuses P (filesOf S x room)
 unfolding filesOf
-files-refuse {P} H x room allows =
-    then (either (Refuses P) (leb leastHorizon H && leb H mostHorizon) reads (refuses (allows .horizon .atStart badHorizon tt)))
-    (λ within. then (timetable-refuses H _ _ (x .timetable) (allows .timetable))
+files-refuse S x room allows =
+    then (known-refuses S (allows .stated))
+    (λ within. then (timetable-refuses (S .horizon) _ _ (x .timetable) (allows .timetable))
     (λ rows. then (profiles-refuse _ _ (x .profiles) (allows .profiles))
     (λ curves. then (passed-refuses timetableLine (allows .timetable) (x .timetable) 0 (profileFault curves) rows rows (profile-fault curves))
-    (λ powered. then (constraints-refuse (legIds rows) _ _ (allows .constraints) plainRules (x .constraints))
+    (λ powered. then (constraints-refuse (legIds rows) _ _ (allows .constraints) (rulesBy S) (x .constraints))
     (λ document. then (passed-refuses timetableLine (allows .timetable) (x .timetable) 0 (subnetFault (document .tracks)) rows rows (subnet-fault (document .tracks)))
     (λ placed. reads))))))
 

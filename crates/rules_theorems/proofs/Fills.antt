@@ -21,6 +21,7 @@ use Rattle.rules.specs.Reading.{Rooms, Texts, Files, legIds, filesOf, choicesRe
 use Rattle.rules.specs.Verdict.{All, accepted}
 use Rattle.rules.specs.Energy.{curvesOf}
 use Rattle.rules.specs.Entries.{verdictOf, Whole, allRead}
+use Rattle.rules.specs.declared.stated.Stated.{Stated}
 use Rattle.rules.specs.declared.sizes.Configuration.{Configuration}
 use Rattle.rules.specs.declared.sizes.Constraint.{Constraint}
 use Rattle.rules.specs.declared.sizes.Track.{Track}
@@ -100,23 +101,23 @@ track-unfilled opened few t h = (omega (arith, h .id-in-range), (omega (arith, h
 -- ---- all tables
 
 -- of files that are read without refusal, no field of a table is the number that fills it after a refusal
-pub no-field-is-fill : (H : ℕ) (x : Texts) (room : Rooms) (f : Files) → filesOf H x room ≡ good f → NoFieldIsFill f
-no-field-is-fill H x room f e =
-    let g = files-good H x room f e in
+pub no-field-is-fill : (S : Stated) (x : Texts) (room : Rooms) (f : Files) → filesOf S x room ≡ good f → NoFieldIsFill f
+no-field-is-fill S x room f e =
+    let g = files-good S x room f e in
     let rows = f .rows in
     let curves = f .curves in
     let low : ℕ → Type 0 = λ n. n < unsignedFill in
-    let kept = rows-kept H rows (g .timetable .lawful) in
+    let kept = rows-kept (S .horizon) rows (g .timetable .lawful) in
     let sound = curves-kept _ _ curves (g .profiles .lawful) in
     let document = good-is-lawful (legIds rows) _ _ _ (x .constraints) (f .document) (g .constraints) .tables in
-    let each = configuration-unfilled H (g .horizon .1) in
-    let few : length (legIds rows) ≤ mostLegs = rw (length-map rows (λ r. r .leg)) (legs-most H rows (g .timetable .lawful)) in
+    let each = configuration-unfilled (S .horizon) (g .horizon .1) in
+    let few : length (legIds rows) ≤ mostLegs = rw (length-map rows (λ r. r .leg)) (legs-most (S .horizon) rows (g .timetable .lawful)) in
     record {
-      legs = all-flat low legNumbers (legsOf rows) (legs-unfilled H 0 rows kept (omega (arith, listed-most H rows (g .timetable .lawful))));
+      legs = all-flat low legNumbers (legsOf rows) (legs-unfilled (S .horizon) 0 rows kept (omega (arith, listed-most (S .horizon) rows (g .timetable .lawful))));
       configurations =
           all-flat low configurationNumbers (configurationsOf rows)
           (all-flat (λ c. Unfilled (configurationNumbers c)) (λ r. r .list) rows
-          (all-map (KeptRow H) _ (λ r k. all-map (InRange H) _ each (r .list) (k .listIn)) rows kept));
+          (all-map (KeptRow (S .horizon)) _ (λ r k. all-map (InRange (S .horizon)) _ each (r .list) (k .listIn)) rows kept));
       profiles = all-flat low profileNumbers (profilesFrom 0 curves) (profiles-unfilled 0 curves sound (omega (arith, sampled-most _ _ curves (g .profiles .lawful))));
       samples =
           all-flat (λ x. x ≡ signedFill → ⊥) (λ c. c .samples) curves
@@ -131,18 +132,18 @@ no-field-is-fill H x room f e =
     }
 
 -- of a solution that is read without refusal, whichever file it is, no number of a choice is
-pub no-choice-is-fill : (H : ℕ) (x : Texts) (room : Rooms) (f : Files) → filesOf H x room ≡ good f → (file choices : ℕ) (s : List ℕ) (cs : List Configuration)
-    → choicesRead H f file choices s ≡ good cs → NoChoiceIsFill cs
-no-choice-is-fill H x room f e file choices s cs k =
-    let solution = choices-good H f file choices s cs k in
+pub no-choice-is-fill : (S : Stated) (x : Texts) (room : Rooms) (f : Files) → filesOf S x room ≡ good f → (file choices : ℕ) (s : List ℕ) (cs : List Configuration)
+    → choicesRead (S .horizon) f file choices s ≡ good cs → NoChoiceIsFill cs
+no-choice-is-fill S x room f e file choices s cs k =
+    let solution = choices-good (S .horizon) f file choices s cs k in
     all-flat (λ n. n < unsignedFill) configurationNumbers cs
     (rw (← solution .choices)
     (all-mapped (λ c. Unfilled (configurationNumbers c)) (λ r. r .nominal) (solution .rows)
-    (all-map (KeptRow H) _ (λ r k. configuration-unfilled H (files-good H x room f e .horizon .1) (r .nominal) (k .nominalIn)) (solution .rows)
-    (rows-kept H (solution .rows) (solution .solution .lawful)))))
+    (all-map (KeptRow (S .horizon)) _ (λ r k. configuration-unfilled (S .horizon) (files-good S x room f e .horizon .1) (r .nominal) (k .nominalIn)) (solution .rows)
+    (rows-kept (S .horizon) (solution .rows) (solution .solution .lawful)))))
 
 -- and of an accepted solution no power of its curves is
-pub no-power-is-fill : (H : ℕ) (x : Texts) (s : List ℕ) (room : Rooms) (choices : ℕ) (w : Whole) → allRead H x s room choices ≡ good w
-    → verdictOf (w .files) (w .choices) ≡ accepted → NoPowerIsFill H (w .files) (w .choices)
-no-power-is-fill H x s room choices w e v =
-    all-map (λ p. natAbs p ≤ mostPower) _ power-unfilled (curvesOf H (w .files) (w .choices)) (figures-bounded H x s room choices w e v .curves)
+pub no-power-is-fill : (S : Stated) (x : Texts) (s : List ℕ) (room : Rooms) (choices : ℕ) (w : Whole) → allRead S x s room choices ≡ good w
+    → verdictOf (w .files) (w .choices) ≡ accepted → NoPowerIsFill (S .horizon) (w .files) (w .choices)
+no-power-is-fill S x s room choices w e v =
+    all-map (λ p. natAbs p ≤ mostPower) _ power-unfilled (curvesOf (S .horizon) (w .files) (w .choices)) (figures-bounded S x s room choices w e v .curves)

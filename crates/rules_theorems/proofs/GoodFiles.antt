@@ -1,27 +1,31 @@
 -- Files and choices are read without refusal exactly where each of document 01's steps goes well. Assumes nothing.
 use Prim.Native.Nat.{ℕ, suc, _/_, _≤_}
 use mathlib.Core.Path.{_≡_, refl, ap, sym, _∙_}
-use mathlib.Core.Bool.{Bool, true, false, cond, _&&_}
+use mathlib.Core.Bool.{Bool, true, false, cond, _&&_, _||_, or-true}
 use mathlib.Core.List.{List, [], _∷_, map}
+use mathlib.Core.Logic.{inl, inr}
 use mathlib.Core.Option.{Option, none, some}
 use native.Mathlib.Omega.{arith}
 use lib.Dec.{T, leb, eqb, leb→le, eqb→eq}
 use lib.ListN.{length, length-map}
-use borrow.Author.Tests.{le-leb, eq-eqb}
+use borrow.Author.Tests.{le-leb, eq-eqb, eqb-true}
 use Rattle.rules.specs.Limits.{leastHorizon, mostHorizon, legWidth, configurationWidth, profileWidth, constraintWidth, trackWidth}
 use Rattle.rules.specs.Lists.{every, isSome}
-use Rattle.rules.specs.Answers.{Reading, refused, good, _>>=_, notThere, wrongSamples, noSubnet, timetableFile, solutionFile, secondFile}
+use Rattle.rules.specs.Answers.{refusal, unknownEdition, noFile, Reading, refused, good, _>>=_, notThere, wrongSamples, noSubnet, timetableFile, solutionFile, secondFile}
 use Rattle.rules.specs.Rows.{RowFault, orElse, firstFault, passed, placeOfRow}
 use Rattle.rules.specs.Timetable.{Row, idsOf, timetableOf, solutionOf}
 use Rattle.rules.specs.Profiles.{Curve, curveOf, lasts, profilesOf, profileFault}
-use Rattle.rules.specs.Constraints.{Document, plainRules, constraintsOf, subnetOf, subnetFault}
-use Rattle.rules.specs.Reading.{Rooms, Texts, Files, horizonOf, legIds, filesOf, sameLeg, differsFrom, matched, choicesRead}
+use Rattle.rules.specs.Kinds.{tableEdition, exampleEdition}
+use Rattle.rules.specs.Constraints.{Document, constraintsOf, subnetOf, subnetFault}
+use Rattle.rules.specs.Stated.{horizonOf, editionOf, rulesBy, known}
+use Rattle.rules.specs.Reading.{Rooms, Texts, Files, legIds, filesOf, sameLeg, differsFrom, matched, choicesRead}
 use Rattle.rules.specs.Entries.{Whole, allRead, Both, bothRead}
 use Rattle.rules.specs.Verdict.{All}
+use Rattle.rules.specs.declared.stated.Stated.{Stated}
 use Rattle.rules.specs.declared.sizes.Configuration.{Configuration}
 use Rattle.rules.specs.declared.sizes.Track.{Track}
 use Rattle.rules.proofs.Truth.{and-both, every-all, all-map, missing}
-use Rattle.rules_theorems.specs.Files.{HasProfile, HasSubnet, Saying, ByAutomaton, GoodFiles, GoodChoices}
+use Rattle.rules_theorems.specs.Files.{HasProfile, HasSubnet, KnownEdition, Saying, ByAutomaton, GoodFiles, GoodChoices}
 use Rattle.rules_theorems.proofs.GoodText.{never-good, good-test}
 use Rattle.rules_theorems.proofs.LawfulRows.{fit-choices}
 use Rattle.rules_theorems.proofs.GoodRows.{timetable-good, solution-good, profiles-good}
@@ -47,6 +51,31 @@ horizon-good H n e =
 
 good-horizon : (H : ℕ) → (leastHorizon ≤ H) × (H ≤ mostHorizon) → horizonOf H ≡ good H
 good-horizon H h = rw (le-leb leastHorizon H (h .0), le-leb H mostHorizon (h .1))
+
+-- 1 or 2
+edition-good : (e n : ℕ) → editionOf e ≡ good n → KnownEdition e
+edition-good e n k = go (eqb e tableEdition) refl k
+  where
+    go : (b : Bool) → eqb e tableEdition ≡ b → cond (b || eqb e exampleEdition) (good e) (refused (refusal unknownEdition noFile 0)) ≡ good n → KnownEdition e
+    go true p k = inl (eqb-true e tableEdition p)
+    go false p k = inr (eqb→eq e exampleEdition (good-test (eqb e exampleEdition) _ _ n k .0))
+
+good-edition : (e : ℕ) → KnownEdition e → editionOf e ≡ good e
+good-edition e (inl p) = rw (eq-eqb e tableEdition p)
+good-edition e (inr p) = rw (eq-eqb e exampleEdition p, or-true)
+
+-- what is stated is known exactly where both are
+known-good : (S s : Stated) → known S ≡ good s → (leastHorizon ≤ S .horizon) × (S .horizon ≤ mostHorizon) × KnownEdition (S .edition)
+unfolding known
+known-good S s e =
+    let h = good-first (horizonOf (S .horizon)) _ s e in
+    let k = good-first (editionOf (S .edition)) _ s (h .2) in
+    let range = horizon-good (S .horizon) (h .0) (h .1) in
+    (range .0, range .1, edition-good (S .edition) (k .0) (k .1))
+
+pub good-known : (S : Stated) → (leastHorizon ≤ S .horizon) × (S .horizon ≤ mostHorizon) → KnownEdition (S .edition) → known S ≡ good S
+unfolding known
+good-known S h e = rw (good-horizon (S .horizon) h, good-edition (S .edition) e)
 
 -- ---- no row at fault
 
@@ -117,33 +146,34 @@ module _ (tracks : List Track) where
 
 -- ---- all files
 
--- files that are read without refusal: H is in range, the texts write what is lawful, and no row is at fault
-pub files-good : (H : ℕ) (x : Texts) (room : Rooms) (files : Files) → filesOf H x room ≡ good files → GoodFiles ByAutomaton H x room files
+-- files that are read without refusal: what is stated is known, the texts write what is lawful, and no row is at fault
+pub files-good : (S : Stated) (x : Texts) (room : Rooms) (files : Files) → filesOf S x room ≡ good files → GoodFiles ByAutomaton S x room files
 unfolding filesOf
-files-good H x room files e =
-    let h = good-first (horizonOf H) _ files e in
-    let t = good-first (timetableOf H (room .legs / legWidth) (room .configurations / configurationWidth) (x .timetable)) _ files (h .2) in
+files-good S x room files e =
+    let h = good-first (known S) _ files e in
+    let t = good-first (timetableOf (S .horizon) (room .legs / legWidth) (room .configurations / configurationWidth) (x .timetable)) _ files (h .2) in
     let p = good-first (profilesOf (room .profiles / profileWidth) (room .samples) (x .profiles)) _ files (t .2) in
     let q = good-first (passed timetableFile (x .timetable) (firstFault 0 (profileFault (p .0)) (t .0)) (t .0)) _ files (p .2) in
-    let d = good-first (constraintsOf (legIds (t .0)) (room .constraints / constraintWidth) (room .tracks / trackWidth) plainRules (x .constraints)) _ files (q .2) in
+    let d = good-first (constraintsOf (legIds (t .0)) (room .constraints / constraintWidth) (room .tracks / trackWidth) (rulesBy S) (x .constraints)) _ files (q .2) in
     let s = good-first (passed timetableFile (x .timetable) (firstFault 0 (subnetFault (d .0 .tracks)) (t .0)) (t .0)) _ files (d .2) in
-    made (t .0) (p .0) (d .0) (horizon-good H (h .0) (h .1)) (t .1) (p .1)
+    made (t .0) (p .0) (d .0) (known-good S (h .0) (h .1)) (t .1) (p .1)
     (passed-good timetableFile (x .timetable) _ (t .0) (q .0) (q .1)) (d .1) (passed-good timetableFile (x .timetable) _ (t .0) (s .0) (s .1)) (s .2)
   where
-    made : (rows : List Row) (curves : List Curve) (document : Document) → (leastHorizon ≤ H) × (H ≤ mostHorizon)
-        → timetableOf H (room .legs / legWidth) (room .configurations / configurationWidth) (x .timetable) ≡ good rows
+    made : (rows : List Row) (curves : List Curve) (document : Document) → (leastHorizon ≤ S .horizon) × (S .horizon ≤ mostHorizon) × KnownEdition (S .edition)
+        → timetableOf (S .horizon) (room .legs / legWidth) (room .configurations / configurationWidth) (x .timetable) ≡ good rows
         → profilesOf (room .profiles / profileWidth) (room .samples) (x .profiles) ≡ good curves
         → firstFault 0 (profileFault curves) rows ≡ none
-        → constraintsOf (legIds rows) (room .constraints / constraintWidth) (room .tracks / trackWidth) plainRules (x .constraints) ≡ good document
+        → constraintsOf (legIds rows) (room .constraints / constraintWidth) (room .tracks / trackWidth) (rulesBy S) (x .constraints) ≡ good document
         → firstFault 0 (subnetFault (document .tracks)) rows ≡ none
         → _≡_ {A = Reading Files} (good (record { rows = rows; curves = curves; document = document })) (good files)
-        → GoodFiles ByAutomaton H x room files
+        → GoodFiles ByAutomaton S x room files
     made rows curves document h t p q d s e =
         let k : _≡_ {A = Files} (record { rows = rows; curves = curves; document = document }) files = cc in
         rw (← k)
         (record {
-          horizon = h;
-          timetable = timetable-good H (room .legs / legWidth) (room .configurations / configurationWidth) (x .timetable) rows .0 t;
+          horizon = (h .0, h .1);
+          edition = h .2;
+          timetable = timetable-good (S .horizon) (room .legs / legWidth) (room .configurations / configurationWidth) (x .timetable) rows .0 t;
           profiles = profiles-good (room .profiles / profileWidth) (room .samples) (x .profiles) curves .0 p;
           powered = all-map (λ r. profileFault curves r ≡ none) _ (row-powered curves) rows (no-fault (profileFault curves) 0 rows q);
           constraints = d;
@@ -151,12 +181,12 @@ files-good H x room files e =
         })
 
 -- and the other way round: such files are read
-pub good-files : (H : ℕ) (x : Texts) (room : Rooms) (files : Files) → GoodFiles ByAutomaton H x room files → filesOf H x room ≡ good files
+pub good-files : (S : Stated) (x : Texts) (room : Rooms) (files : Files) → GoodFiles ByAutomaton S x room files → filesOf S x room ≡ good files
 unfolding filesOf
-good-files H x room files g =
+good-files S x room files g =
     rw (
-      good-horizon H (g .horizon),
-      timetable-good H (room .legs / legWidth) (room .configurations / configurationWidth) (x .timetable) (files .rows) .1 (g .timetable),
+      good-known S (g .horizon) (g .edition),
+      timetable-good (S .horizon) (room .legs / legWidth) (room .configurations / configurationWidth) (x .timetable) (files .rows) .1 (g .timetable),
       profiles-good (room .profiles / profileWidth) (room .samples) (x .profiles) (files .curves) .1 (g .profiles),
       fault-none (profileFault (files .curves)) 0 (files .rows) (all-map _ (λ r. profileFault (files .curves) r ≡ none) (powered-row (files .curves)) (files .rows) (g .powered)),
       g .constraints,
@@ -165,10 +195,19 @@ good-files H x room files g =
     )
 
 -- whatever else says when constraints.json is read
-pub said-so : (Says Says′ : Saying) → ((legs : List ℕ) (constraints tracks : ℕ) (s : List ℕ) (d : Document) → Says legs constraints tracks s d → Says′ legs constraints tracks s d)
-    → {H : ℕ} {x : Texts} {room : Rooms} {files : Files} → GoodFiles Says H x room files → GoodFiles Says′ H x room files
+pub said-so : (Says Says′ : Saying) {S : Stated}
+    → ((legs : List ℕ) (constraints tracks : ℕ) (s : List ℕ) (d : Document) → Says S legs constraints tracks s d → Says′ S legs constraints tracks s d)
+    → {x : Texts} {room : Rooms} {files : Files} → GoodFiles Says S x room files → GoodFiles Says′ S x room files
 said-so Says Says′ so g =
-    record { horizon = g .horizon; timetable = g .timetable; profiles = g .profiles; powered = g .powered; constraints = so _ _ _ _ _ (g .constraints); placed = g .placed }
+    record {
+      horizon = g .horizon;
+      edition = g .edition;
+      timetable = g .timetable;
+      profiles = g .profiles;
+      powered = g .powered;
+      constraints = so _ _ _ _ _ (g .constraints);
+      placed = g .placed;
+    }
 
 -- ---- 14: the first five columns are the draft's
 
@@ -242,44 +281,44 @@ choices-room H files room text s g =
 -- ---- all texts together
 
 -- four texts that are read without refusal: the files were, and then the solution
-pub all-good : (H : ℕ) (x : Texts) (s : List ℕ) (room : Rooms) (choices : ℕ) (w : Whole) → allRead H x s room choices ≡ good w
-    → (filesOf H x room ≡ good (w .files)) × (choicesRead H (w .files) solutionFile choices s ≡ good (w .choices))
+pub all-good : (S : Stated) (x : Texts) (s : List ℕ) (room : Rooms) (choices : ℕ) (w : Whole) → allRead S x s room choices ≡ good w
+    → (filesOf S x room ≡ good (w .files)) × (choicesRead (S .horizon) (w .files) solutionFile choices s ≡ good (w .choices))
 unfolding allRead
-all-good H x s room choices w e =
-    let f = good-first (filesOf H x room) _ w e in
-    let c = good-first (choicesRead H (f .0) solutionFile choices s) _ w (f .2) in
+all-good S x s room choices w e =
+    let f = good-first (filesOf S x room) _ w e in
+    let c = good-first (choicesRead (S .horizon) (f .0) solutionFile choices s) _ w (f .2) in
     made (f .0) (c .0) (f .1) (c .1) (c .2)
   where
-    made : (files : Files) (cs : List Configuration) → filesOf H x room ≡ good files → choicesRead H files solutionFile choices s ≡ good cs
+    made : (files : Files) (cs : List Configuration) → filesOf S x room ≡ good files → choicesRead (S .horizon) files solutionFile choices s ≡ good cs
         → _≡_ {A = Reading Whole} (good (record { files = files; choices = cs })) (good w)
-        → (filesOf H x room ≡ good (w .files)) × (choicesRead H (w .files) solutionFile choices s ≡ good (w .choices))
+        → (filesOf S x room ≡ good (w .files)) × (choicesRead (S .horizon) (w .files) solutionFile choices s ≡ good (w .choices))
     made files cs f c e = let k : _≡_ {A = Whole} (record { files = files; choices = cs }) w = cc in rw (← k) (f, c)
 
 -- and the other way round
-pub good-all : (H : ℕ) (x : Texts) (s : List ℕ) (room : Rooms) (choices : ℕ) (files : Files) (cs : List Configuration)
-    → filesOf H x room ≡ good files → choicesRead H files solutionFile choices s ≡ good cs → allRead H x s room choices ≡ good (record { files = files; choices = cs })
+pub good-all : (S : Stated) (x : Texts) (s : List ℕ) (room : Rooms) (choices : ℕ) (files : Files) (cs : List Configuration)
+    → filesOf S x room ≡ good files → choicesRead (S .horizon) files solutionFile choices s ≡ good cs → allRead S x s room choices ≡ good (record { files = files; choices = cs })
 unfolding allRead
-good-all H x s room choices files cs f c = rw (f, c)
+good-all S x s room choices files cs f c = rw (f, c)
 
 -- with a second solution
-pub good-both : (H : ℕ) (x : Texts) (s r : List ℕ) (room : Rooms) (choices second : ℕ) (files : Files) (a b : List Configuration)
-    → filesOf H x room ≡ good files → choicesRead H files solutionFile choices s ≡ good a → choicesRead H files secondFile second r ≡ good b
-    → bothRead H x s r room choices second ≡ good (record { files = files; first = a; second = b })
+pub good-both : (S : Stated) (x : Texts) (s r : List ℕ) (room : Rooms) (choices second : ℕ) (files : Files) (a b : List Configuration)
+    → filesOf S x room ≡ good files → choicesRead (S .horizon) files solutionFile choices s ≡ good a → choicesRead (S .horizon) files secondFile second r ≡ good b
+    → bothRead S x s r room choices second ≡ good (record { files = files; first = a; second = b })
 unfolding bothRead
-good-both H x s r room choices second files a b f c d = rw (f, c, d)
+good-both S x s r room choices second files a b f c d = rw (f, c, d)
 
-pub both-good : (H : ℕ) (x : Texts) (s r : List ℕ) (room : Rooms) (choices second : ℕ) (b : Both) → bothRead H x s r room choices second ≡ good b
-    → (filesOf H x room ≡ good (b .files)) × (choicesRead H (b .files) solutionFile choices s ≡ good (b .first))
-    × (choicesRead H (b .files) secondFile second r ≡ good (b .second))
+pub both-good : (S : Stated) (x : Texts) (s r : List ℕ) (room : Rooms) (choices second : ℕ) (b : Both) → bothRead S x s r room choices second ≡ good b
+    → (filesOf S x room ≡ good (b .files)) × (choicesRead (S .horizon) (b .files) solutionFile choices s ≡ good (b .first))
+    × (choicesRead (S .horizon) (b .files) secondFile second r ≡ good (b .second))
 unfolding bothRead
-both-good H x s r room choices second b e =
-    let f = good-first (filesOf H x room) _ b e in
-    let c = good-first (choicesRead H (f .0) solutionFile choices s) _ b (f .2) in
-    let d = good-first (choicesRead H (f .0) secondFile second r) _ b (c .2) in
+both-good S x s r room choices second b e =
+    let f = good-first (filesOf S x room) _ b e in
+    let c = good-first (choicesRead (S .horizon) (f .0) solutionFile choices s) _ b (f .2) in
+    let d = good-first (choicesRead (S .horizon) (f .0) secondFile second r) _ b (c .2) in
     made (f .0) (c .0) (d .0) (f .1) (c .1) (d .1) (d .2)
   where
-    made : (files : Files) (cs ds : List Configuration) → filesOf H x room ≡ good files → choicesRead H files solutionFile choices s ≡ good cs
-        → choicesRead H files secondFile second r ≡ good ds → _≡_ {A = Reading Both} (good (record { files = files; first = cs; second = ds })) (good b)
-        → (filesOf H x room ≡ good (b .files)) × (choicesRead H (b .files) solutionFile choices s ≡ good (b .first))
-        × (choicesRead H (b .files) secondFile second r ≡ good (b .second))
+    made : (files : Files) (cs ds : List Configuration) → filesOf S x room ≡ good files → choicesRead (S .horizon) files solutionFile choices s ≡ good cs
+        → choicesRead (S .horizon) files secondFile second r ≡ good ds → _≡_ {A = Reading Both} (good (record { files = files; first = cs; second = ds })) (good b)
+        → (filesOf S x room ≡ good (b .files)) × (choicesRead (S .horizon) (b .files) solutionFile choices s ≡ good (b .first))
+        × (choicesRead (S .horizon) (b .files) secondFile second r ≡ good (b .second))
     made files cs ds f c d e = let k : _≡_ {A = Both} (record { files = files; first = cs; second = ds }) b = cc in rw (← k) (f, c, d)

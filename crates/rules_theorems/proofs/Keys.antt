@@ -1,7 +1,7 @@
 -- The names of constraints.json: what a name's number can be, and which keys a record of a list carries. Assumes nothing.
 use Prim.Native.Nat.{ℕ, _+_, _*_, _/_, _%_, min, max}
 use mathlib.Core.Path.{_≡_, refl, sym, ap, ap₂, _∙_}
-use mathlib.Core.Bool.{Bool, true, false, not, _&&_, _||_, true≢false}
+use mathlib.Core.Bool.{Bool, true, false, not, cond, _&&_, _||_, true≢false}
 use mathlib.Core.List.{List, [], _∷_}
 use native.Mathlib.Omega.{arith}
 use lib.Dec.{eqb}
@@ -9,7 +9,7 @@ use lib.Bits.{bitAnd, bitOr, and-step, or-step, or-zero-r, and-self}
 use lib.Arith.{bin-ind}
 use borrow.Author.Tests.{eqb-true, eq-eqb}
 use Rattle.rules.specs.Lists.{any, every, sameList}
-use Rattle.rules.specs.Kinds.{unknown, headway, singleTrack, dwell, turnaround, connection, byArrival, byDeparture, subnets, firstLeg, secondLeg, maxConnection, connectionType, subnetId, trackIds, listNames, keyNames, typeNames, numberFrom, bitFrom, listNamed, keyNamed, typeNamed}
+use Rattle.rules.specs.Kinds.{unknown, headway, singleTrack, dwell, turnaround, connection, byArrival, byDeparture, subnets, firstLeg, secondLeg, minDwell, minTurnaround, maxConnection, connectionType, subnetId, trackIds, listNames, keyNames, typeNames, numberFrom, bitFrom, listNamed, keyNamed, typeNamed, renamed, isRenamed, keyIn}
 use Rattle.rules.specs.Constraints.{keysOf, isLow}
 use Rattle.rules.proofs.Truth.{by-case}
 use Rattle.rules_theorems.proofs.DocumentWords.{or-else, passed, exclude}
@@ -75,6 +75,18 @@ list-known word named = or-else (eqb (listNamed word) unknown) _ (number-among 1
 pub key-known : (word : List ℕ) → among keys (keyNamed word) ≡ true
 unfolding keyNamed
 key-known word = bit-among 1 keyNames word
+
+-- and what it is called by in an edition
+pub key-in-known : (edition list : ℕ) (word : List ℕ) → among keys (keyIn edition list word) ≡ true
+unfolding keyIn
+key-in-known edition list word = go (isRenamed edition list)
+  where
+    go : (b : Bool) → among keys (renamed b (keyNamed word)) ≡ true
+    go true =
+        by-case (λ key. among keys key ≡ true) (eqb (keyNamed word) minDwell) minTurnaround (cond (eqb (keyNamed word) minTurnaround) minDwell (keyNamed word))
+        (λ e. refl)
+        (λ e. by-case (λ key. among keys key ≡ true) (eqb (keyNamed word) minTurnaround) minDwell (keyNamed word) (λ f. refl) (λ f. key-known word))
+    go false = key-known word
 
 pub type-known : (word : List ℕ) → eqb (typeNamed word) unknown ≡ false → among types (typeNamed word) ≡ true
 unfolding typeNamed

@@ -14,6 +14,7 @@ use Rattle.rules.specs.Reading.{Texts}
 use Rattle.rules.specs.Verdict.{Verdict, accepted, violated}
 use Rattle.rules.specs.Entries.{Tables, roomsOf, verdictOf, Whole, allRead, checked, checkedFrom, reported, reportAccepted, reportJudged, reportFrom, Both, bothRead, merged, mergeFitted, mergeTravel, mergeSecond, mergeFirst, mergeFrom}
 use Rattle.rules.specs.Merge.{unequalFrom, chosen, textOf}
+use Rattle.rules.specs.declared.stated.Stated.{Stated}
 use Rattle.rules.specs.declared.sizes.Configuration.{Configuration}
 use Rattle.rules.specs.declared.answers.Answer.{Answer}
 use Rattle.rules.specs.declared.answers.Answer.the-variants.{Accepted, Violated, Refused}
@@ -39,15 +40,15 @@ same-tables a b e i =
 
 -- ---- an outcome for every input
 
-module _ (H : ℕ) (x : Texts) (s : List ℕ) (t : Tables) (c : List ℕ) where
-  pub check-total : Outcome (checked H x s t c .answer)
-  check-total = one-outcome (checked H x s t c .answer)
+module _ (S : Stated) (x : Texts) (s : List ℕ) (t : Tables) (c : List ℕ) where
+  pub check-total : Outcome (checked S x s t c .answer)
+  check-total = one-outcome (checked S x s t c .answer)
 
-  pub report-total : (curves : List ℤ) → Outcome (reported H x s t c curves .answer)
-  report-total curves = one-outcome (reported H x s t c curves .answer)
+  pub report-total : (curves : List ℤ) → Outcome (reported S x s t c curves .answer)
+  report-total curves = one-outcome (reported S x s t c curves .answer)
 
-  pub merge-total : (merge : List Configuration → List Configuration → List Configuration) (s₂ d text : List ℕ) → Outcome (merged merge H x s s₂ t c d text .answer)
-  merge-total merge s₂ d text = one-outcome (merged merge H x s s₂ t c d text .answer)
+  pub merge-total : (merge : List Configuration → List Configuration → List Configuration) (s₂ d text : List ℕ) → Outcome (merged merge S x s s₂ t c d text .answer)
+  merge-total merge s₂ d text = one-outcome (merged merge S x s s₂ t c d text .answer)
 
 -- ---- an entry judges its own input: the texts, and how much was lent
 
@@ -95,16 +96,16 @@ module _ (t t′ : Tables) (c c′ d d′ text text′ : List ℕ) where
     merge-from (refused r) = record { answer = refl; length = refl }
     merge-from (good b) = merge-first (verdictOf (b .files) (b .first)) b
 
-module _ (H : ℕ) (x : Texts) (s : List ℕ) where
-  pub check-own-input : ChecksOwnInput H x s
+module _ (S : Stated) (x : Texts) (s : List ℕ) where
+  pub check-own-input : ChecksOwnInput S x s
   unfolding checked
-  check-own-input t t′ c c′ e = rw (e .tables, e .choices) (check-from (allRead H x s (roomsOf t′) (length c′)) t t′ c c′)
+  check-own-input t t′ c c′ e = rw (e .tables, e .choices) (check-from (allRead S x s (roomsOf t′) (length c′)) t t′ c c′)
 
-  pub report-own-input : ReportsOwnInput H x s
+  pub report-own-input : ReportsOwnInput S x s
   unfolding reported
-  report-own-input t t′ c c′ p p′ e long = rw (e .tables, e .choices) (report-from H t t′ c c′ p p′ long (allRead H x s (roomsOf t′) (length c′)))
+  report-own-input t t′ c c′ p p′ e long = rw (e .tables, e .choices) (report-from (S .horizon) t t′ c c′ p p′ long (allRead S x s (roomsOf t′) (length c′)))
 
-  pub merge-own-input : (merge : List Configuration → List Configuration → List Configuration) (s₂ : List ℕ) → MergesOwnInput H x s merge s₂
+  pub merge-own-input : (merge : List Configuration → List Configuration → List Configuration) (s₂ : List ℕ) → MergesOwnInput S x s merge s₂
   unfolding merged
   merge-own-input merge s₂ t t′ c c′ d d′ text text′ e second long =
-      rw (e .tables, e .choices, second) (merge-from t t′ c c′ d d′ text text′ long s₂ merge (bothRead H x s s₂ (roomsOf t′) (length c′) (length d′)))
+      rw (e .tables, e .choices, second) (merge-from t t′ c c′ d d′ text text′ long s₂ merge (bothRead S x s s₂ (roomsOf t′) (length c′) (length d′)))

@@ -35,6 +35,7 @@ use Rattle.rules.specs.Entries.{
   mergeFrom,
   merged,
 }
+use Rattle.rules.specs.declared.stated.Stated.{Stated}
 use Rattle.rules.specs.declared.sizes.Configuration.{Configuration}
 use Rattle.rules.specs.declared.answers.Refusal.{Refusal}
 use Rattle.rules.specs.declared.answers.Answer.{Answer}
@@ -58,46 +59,46 @@ verdict-says : (P : Refusal → Type 0) (file : ℕ) (v : Verdict) → Says P (a
 verdict-says P file accepted = tt
 verdict-says P file (violated k n i m) = tt
 
-module _ (P : Refusal → Type 0) (files : AllowsFiles P) (first : Allows P (solutionLine solutionFile)) (H : ℕ) (x : Texts) (s : List ℕ) (t : Tables) (c : List ℕ) where
-  all-refuse : Refuses P (allRead H x s (roomsOf t) (length c))
+module _ (P : Refusal → Type 0) (files : AllowsFiles P) (first : Allows P (solutionLine solutionFile)) (S : Stated) (x : Texts) (s : List ℕ) (t : Tables) (c : List ℕ) where
+  all-refuse : Refuses P (allRead S x s (roomsOf t) (length c))
   unfolding allRead
   all-refuse =
-      then (files-refuse H x (roomsOf t) files)
-      (λ f. then (choices-refuse H f solutionFile (length c) s first)
+      then (files-refuse S x (roomsOf t) files)
+      (λ f. then (choices-refuse (S .horizon) f solutionFile (length c) s first)
       (λ cs. reads))
 
-  check-says : Says P (checked H x s t c .answer)
+  check-says : Says P (checked S x s t c .answer)
   unfolding checked
-  check-says = go (allRead H x s (roomsOf t) (length c)) all-refuse
+  check-says = go (allRead S x s (roomsOf t) (length c)) all-refuse
     where
       go : (m : Reading Whole) → Refuses P m → Says P (checkedFrom m t c .answer)
       go m (refuses p) = p
       go m (reads {a = w}) = verdict-says P solutionFile (verdictOf (w .files) (w .choices))
 
   module _ (curves : List ℤ) (room : Allows P roomLine) where
-    accepted-says : (fits : Bool) (w : Whole) → Says P (reportAccepted fits H w t c curves .answer)
+    accepted-says : (fits : Bool) (w : Whole) → Says P (reportAccepted fits (S .horizon) w t c curves .answer)
     accepted-says true w = tt
     accepted-says false w = room .atStart noRoom tt
 
-    judged-says : (v : Verdict) (w : Whole) → Says P (reportJudged v H w t c curves .answer)
-    judged-says accepted w = accepted-says (leb (w .files .document .opened * H) (length curves)) w
+    judged-says : (v : Verdict) (w : Whole) → Says P (reportJudged v (S .horizon) w t c curves .answer)
+    judged-says accepted w = accepted-says (leb (w .files .document .opened * S .horizon) (length curves)) w
     judged-says (violated k n i m) w = tt
 
-    report-says : Says P (reported H x s t c curves .answer)
+    report-says : Says P (reported S x s t c curves .answer)
     unfolding reported
-    report-says = go (allRead H x s (roomsOf t) (length c)) all-refuse
+    report-says = go (allRead S x s (roomsOf t) (length c)) all-refuse
       where
-        go : (m : Reading Whole) → Refuses P m → Says P (reportFrom m H t c curves .answer)
+        go : (m : Reading Whole) → Refuses P m → Says P (reportFrom m (S .horizon) t c curves .answer)
         go m (refuses p) = p
         go m (reads {a = w}) = judged-says (verdictOf (w .files) (w .choices)) w
 
   module _ (s₂ d text : List ℕ) (second : Allows P (solutionLine secondFile)) (travel : Allows P travelLine) (room : Allows P roomLine) (merge : List Configuration → List Configuration → List Configuration) where
-    both-refuse : Refuses P (bothRead H x s s₂ (roomsOf t) (length c) (length d))
+    both-refuse : Refuses P (bothRead S x s s₂ (roomsOf t) (length c) (length d))
     unfolding bothRead
     both-refuse =
-        then (files-refuse H x (roomsOf t) files)
-        (λ f. then (choices-refuse H f solutionFile (length c) s first)
-        (λ a. then (choices-refuse H f secondFile (length d) s₂ second)
+        then (files-refuse S x (roomsOf t) files)
+        (λ f. then (choices-refuse (S .horizon) f solutionFile (length c) s first)
+        (λ a. then (choices-refuse (S .horizon) f secondFile (length d) s₂ second)
         (λ b. reads)))
 
     fitted-says : (fits : Bool) (written : List ℕ) (b : Both) → Says P (mergeFitted t c d text fits written b .answer)
@@ -118,9 +119,9 @@ module _ (P : Refusal → Type 0) (files : AllowsFiles P) (first : Allows P (sol
     first-says accepted b = second-says (verdictOf (b .files) (b .second)) b
     first-says (violated k n i m) b = tt
 
-    merge-says : Says P (merged merge H x s s₂ t c d text .answer)
+    merge-says : Says P (merged merge S x s s₂ t c d text .answer)
     unfolding merged
-    merge-says = go (bothRead H x s s₂ (roomsOf t) (length c) (length d)) both-refuse
+    merge-says = go (bothRead S x s s₂ (roomsOf t) (length c) (length d)) both-refuse
       where
         go : (m : Reading Both) → Refuses P m → Says P (mergeFrom t c d text s₂ merge m .answer)
         go m (refuses p) = p
@@ -137,36 +138,36 @@ next a = record { atStart = λ n t. further (a .atStart n t); atPlace = λ n pla
 next-files : {m : Line} {ls : List Line} → AllowsFiles (Case ls) → AllowsFiles (Case (m ∷ ls))
 next-files a =
     record {
-      horizon = next (a .horizon);
+      stated = next (a .stated);
       timetable = next (a .timetable);
       profiles = next (a .profiles);
       constraints = next (a .constraints);
     }
 
 check-files : AllowsFiles (Case checkCases)
-check-files = record { horizon = here; timetable = next here; profiles = next (next here); constraints = next (next (next here)) }
+check-files = record { stated = here; timetable = next here; profiles = next (next here); constraints = next (next (next here)) }
 
 check-solution : Allows (Case checkCases) (solutionLine solutionFile)
 check-solution = next (next (next (next here)))
 
 -- ---- THE CASES
 
-module _ (H : ℕ) (x : Texts) (s : List ℕ) (t : Tables) (c : List ℕ) (r : Refusal) where
+module _ (S : Stated) (x : Texts) (s : List ℕ) (t : Tables) (c : List ℕ) (r : Refusal) where
   -- a check's refusal stands in document 01's table
-  pub refusal-cases : checked H x s t c .answer ≡ Refused r → Case checkCases r
-  refusal-cases = said (Case checkCases) (checked H x s t c .answer) r (check-says (Case checkCases) check-files check-solution H x s t c)
+  pub refusal-cases : checked S x s t c .answer ≡ Refused r → Case checkCases r
+  refusal-cases = said (Case checkCases) (checked S x s t c .answer) r (check-says (Case checkCases) check-files check-solution S x s t c)
 
   -- a report's too: also 16 of the curves
-  pub report-cases : (curves : List ℤ) → reported H x s t c curves .answer ≡ Refused r → Case reportCases r
+  pub report-cases : (curves : List ℤ) → reported S x s t c curves .answer ≡ Refused r → Case reportCases r
   report-cases curves =
-      said (Case reportCases) (reported H x s t c curves .answer) r
-      (report-says (Case reportCases) (next-files check-files) (next check-solution) H x s t c curves here)
+      said (Case reportCases) (reported S x s t c curves .answer) r
+      (report-says (Case reportCases) (next-files check-files) (next check-solution) S x s t c curves here)
 
   -- a merge's too, by whatever rule it chooses: also the second solution's, 17, and 16 of the text buffer
-  pub merge-cases : (merge : List Configuration → List Configuration → List Configuration) (s₂ d text : List ℕ) → merged merge H x s s₂ t c d text .answer ≡ Refused r → Case mergeCases r
+  pub merge-cases : (merge : List Configuration → List Configuration → List Configuration) (s₂ d text : List ℕ) → merged merge S x s s₂ t c d text .answer ≡ Refused r → Case mergeCases r
   merge-cases merge s₂ d text =
-      said (Case mergeCases) (merged merge H x s s₂ t c d text .answer) r
-      (merge-says (Case mergeCases) (next-files (next-files (next-files check-files))) (next (next (next check-solution))) H x s t c s₂ d text (next (next here)) (next here) here merge)
+      said (Case mergeCases) (merged merge S x s s₂ t c d text .answer) r
+      (merge-says (Case mergeCases) (next-files (next-files (next-files check-files))) (next (next (next check-solution))) S x s t c s₂ d text (next (next here)) (next here) here merge)
 
 -- ---- what is in no line is no case
 

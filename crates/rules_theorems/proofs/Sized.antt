@@ -17,6 +17,7 @@ use Rattle.rules.specs.Reading.{Rooms, Texts, Files, legIds}
 use Rattle.rules.specs.Verdict.{All, offered, Offered, Verdict, accepted, violated}
 use Rattle.rules.specs.Energy.{samplesIn, homesOf, power, beforeAt, drawnAt, figuresOf, curvesOf}
 use Rattle.rules.specs.Entries.{Tables, roomsOf, verdictOf, Whole, allRead, noFigures, reportAccepted, reportJudged, reportFrom, reported}
+use Rattle.rules.specs.declared.stated.Stated.{Stated}
 use Rattle.rules.specs.declared.sizes.Configuration.{Configuration}
 use Rattle.rules.specs.declared.sizes.Track.{Track}
 use Rattle.rules.proofs.Truth.{all-map}
@@ -68,25 +69,25 @@ row-placed n ts h r p = track-placed n ts (r .track) h (rw (p .inside) tt)
 
 -- ---- of files that were read without refusal
 
-module _ (H : ℕ) (x : Texts) (room : Rooms) (f : Files) (g : GoodFiles ByAutomaton H x room f) (s : List Configuration) (o : Offered (offered (f .rows)) s) where
+module _ (S : Stated) (x : Texts) (room : Rooms) (f : Files) (g : GoodFiles ByAutomaton S x room f) (s : List Configuration) (o : Offered (offered (f .rows)) s) where
   -- offered choices
-  offered-sized : SizedFiles H f s
+  offered-sized : SizedFiles (S .horizon) f s
   offered-sized =
       let lawful = g .timetable .lawful in
-      let kept = rows-kept H (f .rows) lawful in
+      let kept = rows-kept (S .horizon) (f .rows) lawful in
       let document = good-is-lawful (legIds (f .rows)) _ _ _ (x .constraints) (f .document) (g .constraints) in
       let many : length (f .rows) ≡ length s = offered-length (f .rows) s o in
       record {
         horizon = g .horizon;
         sized = record {
-          few = rw (← many) (legs-most H (f .rows) lawful);
+          few = rw (← many) (legs-most (S .horizon) (f .rows) lawful);
           powered =
               choices-keep (Powered (samplesIn (f .curves))) (f .rows) s o
-              (rows-powered H (f .curves) (curves-kept _ _ (f .curves) (g .profiles .lawful)) (f .rows) kept (g .powered));
+              (rows-powered (S .horizon) (f .curves) (curves-kept _ _ (f .curves) (g .profiles .lawful)) (f .rows) kept (g .powered));
         };
         fits =
-            choices-keep (λ c. c .departure + c .travel ≤ H) (f .rows) s o
-            (all-map (KeptRow H) _ (λ r k. all-map (InRange H) _ (λ c h. h .ends) (r .list) (k .listIn)) (f .rows) kept);
+            choices-keep (λ c. c .departure + c .travel ≤ S .horizon) (f .rows) s o
+            (all-map (KeptRow (S .horizon)) _ (λ r k. all-map (InRange (S .horizon)) _ (λ c h. h .ends) (r .list) (k .listIn)) (f .rows) kept);
         placed = (
           length-map (f .rows) _ ∙ many,
           all-mapped (IsPlaced (f .document .opened)) (λ r. subnetOf (f .document .tracks) (r .track)) (f .rows)
@@ -96,10 +97,10 @@ module _ (H : ℕ) (x : Texts) (room : Rooms) (f : Files) (g : GoodFiles ByAutom
       }
 
 -- an accepted solution: an H in range; few legs, each with its samples; runs that end by H; and a subnet for each leg
-pub accepted-sized : (H : ℕ) (x : Texts) (s : List ℕ) (room : Rooms) (choices : ℕ) (w : Whole) → allRead H x s room choices ≡ good w
-    → verdictOf (w .files) (w .choices) ≡ accepted → SizedFiles H (w .files) (w .choices)
-accepted-sized H x s room choices w e v =
-    offered-sized H x room (w .files) (files-good H x room (w .files) (all-good H x s room choices w e .0)) (w .choices)
+pub accepted-sized : (S : Stated) (x : Texts) (s : List ℕ) (room : Rooms) (choices : ℕ) (w : Whole) → allRead S x s room choices ≡ good w
+    → verdictOf (w .files) (w .choices) ≡ accepted → SizedFiles (S .horizon) (w .files) (w .choices)
+accepted-sized S x s room choices w e v =
+    offered-sized S x room (w .files) (files-good S x room (w .files) (all-good S x s room choices w e .0)) (w .choices)
     (verdict-accepted (offered (w .files .rows)) (ordered (w .files .document .constraints)) (w .choices) .1 v .offered)
 
 -- ---- the figures
@@ -139,27 +140,27 @@ sized-figures H f cs k =
     }
 
 -- of an accepted solution: every energy is at most 2,359,296,000,000 kJ, and every power at most 655,360,000 kW
-pub figures-bounded : (H : ℕ) (x : Texts) (s : List ℕ) (room : Rooms) (choices : ℕ) (w : Whole) → allRead H x s room choices ≡ good w
-    → verdictOf (w .files) (w .choices) ≡ accepted → BoundedFigures H (w .files) (w .choices)
-figures-bounded H x s room choices w e v = sized-figures H (w .files) (w .choices) (accepted-sized H x s room choices w e v)
+pub figures-bounded : (S : Stated) (x : Texts) (s : List ℕ) (room : Rooms) (choices : ℕ) (w : Whole) → allRead S x s room choices ≡ good w
+    → verdictOf (w .files) (w .choices) ≡ accepted → BoundedFigures (S .horizon) (w .files) (w .choices)
+figures-bounded S x s room choices w e v = sized-figures (S .horizon) (w .files) (w .choices) (accepted-sized S x s room choices w e v)
 
 none-moderate : Moderate noFigures
 none-moderate =
     record { before = omega arith; drawn = omega arith; lost = omega arith; fluctuation = omega arith; peakBefore = omega arith; peakDrawn = omega arith }
 
 -- whatever the input, a report's figures keep these bounds: short of acceptance they are 0
-pub report-bounded : (H : ℕ) (x : Texts) (s : List ℕ) (t : Tables) (c : List ℕ) (p : List ℤ) → Moderate (reported H x s t c p .figures)
+pub report-bounded : (S : Stated) (x : Texts) (s : List ℕ) (t : Tables) (c : List ℕ) (p : List ℤ) → Moderate (reported S x s t c p .figures)
 unfolding reported
-report-bounded H x s t c p = go (allRead H x s (roomsOf t) (length c)) refl
+report-bounded S x s t c p = go (allRead S x s (roomsOf t) (length c)) refl
   where
-    fitted : (w : Whole) (fits : Bool) → BoundedFigures H (w .files) (w .choices) → Moderate (reportAccepted fits H w t c p .figures)
+    fitted : (w : Whole) (fits : Bool) → BoundedFigures (S .horizon) (w .files) (w .choices) → Moderate (reportAccepted fits (S .horizon) w t c p .figures)
     fitted w true b = b .figures
     fitted w false b = none-moderate
 
-    judged : (w : Whole) (v : Verdict) → (v ≡ accepted → BoundedFigures H (w .files) (w .choices)) → Moderate (reportJudged v H w t c p .figures)
-    judged w accepted b = fitted w (leb (w .files .document .opened * H) (length p)) (b refl)
+    judged : (w : Whole) (v : Verdict) → (v ≡ accepted → BoundedFigures (S .horizon) (w .files) (w .choices)) → Moderate (reportJudged v (S .horizon) w t c p .figures)
+    judged w accepted b = fitted w (leb (w .files .document .opened * S .horizon) (length p)) (b refl)
     judged w (violated k n i m) b = none-moderate
 
-    go : (m : Reading Whole) → allRead H x s (roomsOf t) (length c) ≡ m → Moderate (reportFrom m H t c p .figures)
+    go : (m : Reading Whole) → allRead S x s (roomsOf t) (length c) ≡ m → Moderate (reportFrom m (S .horizon) t c p .figures)
     go (refused r) e = none-moderate
-    go (good w) e = judged w (verdictOf (w .files) (w .choices)) (figures-bounded H x s (roomsOf t) (length c) w e)
+    go (good w) e = judged w (verdictOf (w .files) (w .choices)) (figures-bounded S x s (roomsOf t) (length c) w e)

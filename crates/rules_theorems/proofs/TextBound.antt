@@ -12,6 +12,7 @@ use Rattle.rules.specs.Timetable.{Row, listed, timetableHeader, timetableOf, le
 use Rattle.rules.specs.Reading.{Rooms, Texts, Files, filesOf, choicesRead}
 use Rattle.rules.specs.Verdict.{All, offered, Offered}
 use Rattle.rules.specs.Merge.{spelledConfiguration, spelledRow, textOf, chosen}
+use Rattle.rules.specs.declared.stated.Stated.{Stated}
 use Rattle.rules.specs.declared.sizes.Configuration.{Configuration}
 use Rattle.rules.specs.declared.sizes.Leg.{Leg}
 use Rattle.rules.proofs.Numbers.{spelled-length}
@@ -132,8 +133,8 @@ module _ (H : ℕ) (within : H ≤ mostHorizon) where
       choices-back H files file room s lawful chosenFrom fits (text-short (chosen (files .rows) s) (chosen-lawful H (files .rows) s lawful chosenFrom))
 
 -- offered choices of files that were read without refusal, written as a solution, are read back as these choices
-pub files-choices-back : (H : ℕ) (x : Texts) (rooms : Rooms) (files : Files) (file room : ℕ) (s : List Configuration) → filesOf H x rooms ≡ good files
-    → Offered (offered (files .rows)) s → length (files .rows) ≤ room / configurationWidth → choicesRead H files file room (textOf (chosen (files .rows) s)) ≡ good s
-files-choices-back H x rooms files file room s e chosenFrom fits =
-    let g = files-good H x rooms files e in
-    choices-read-back H (g .horizon .1) files file room s (g .timetable .lawful) chosenFrom fits
+pub files-choices-back : (S : Stated) (x : Texts) (rooms : Rooms) (files : Files) (file room : ℕ) (s : List Configuration) → filesOf S x rooms ≡ good files
+    → Offered (offered (files .rows)) s → length (files .rows) ≤ room / configurationWidth → choicesRead (S .horizon) files file room (textOf (chosen (files .rows) s)) ≡ good s
+files-choices-back S x rooms files file room s e chosenFrom fits =
+    let g = files-good S x rooms files e in
+    choices-read-back (S .horizon) (g .horizon .1) files file room s (g .timetable .lawful) chosenFrom fits

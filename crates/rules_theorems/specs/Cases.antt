@@ -22,6 +22,7 @@ use Rattle.rules.specs.Answers.{
   noSubnet,
   noRoom,
   unequalTravel,
+  unknownEdition,
   noFile,
   timetableFile,
   profilesFile,
@@ -52,8 +53,9 @@ pub data Case : List Line → Refusal → Type 0 where
 
 -- ---- the lines
 
-abbrev pub horizonLine : Line
-horizonLine = line noFile (badHorizon ∷ []) []
+-- what is stated
+abbrev pub statedLine : Line
+statedLine = line noFile (badHorizon ∷ unknownEdition ∷ []) []
 
 -- a row's own numbers, and 12, 13 and 15 over the rows
 abbrev pub timetableLine : Line
@@ -84,7 +86,7 @@ travelLine = line secondFile [] (unequalTravel ∷ [])
 -- ---- THE TABLES
 
 abbrev pub checkCases : List Line
-checkCases = horizonLine ∷ timetableLine ∷ profilesLine ∷ constraintsLine ∷ solutionLine solutionFile ∷ []
+checkCases = statedLine ∷ timetableLine ∷ profilesLine ∷ constraintsLine ∷ solutionLine solutionFile ∷ []
 
 abbrev pub reportCases : List Line
 reportCases = roomLine ∷ checkCases

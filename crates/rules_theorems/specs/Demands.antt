@@ -16,6 +16,7 @@ use Rattle.rules.specs.Verdict.{All, offered, Offered, Acceptable}
 use Rattle.rules.specs.Energy.{samplesIn, homesOf, power, curvesOf}
 use Rattle.rules.specs.Merge.{zipped, earlier, later, SameTravel, chosen, textOf}
 use Rattle.rules.specs.Entries.{Tables, roomsOf, filled, filledTables, noFigures, Whole, allRead, Checked, checked, Reported, Merged, merged}
+use Rattle.rules.specs.declared.stated.Stated.{Stated}
 use Rattle.rules.specs.declared.sizes.Configuration.{Configuration}
 use Rattle.rules.specs.declared.answers.Refusal.{Refusal}
 use Rattle.rules.specs.declared.answers.Violation.{Violation}
@@ -100,24 +101,24 @@ pub record DemandTwo (H : ℕ) (a : Answer) (w : Whole) : Type 0 where
 
 -- "Take two solutions, both accepted against the same files, with equal travel times leg by leg."
 -- first and second are what the two texts say; an accepted one says something (`accepted-read`)
-pub record TwoAccepted (H : ℕ) (x : Texts) (a b : List ℕ) (t : Tables) (c d : List ℕ) : Type 0 where
-  pub first-accepted : checked H x a t c .answer ≡ Accepted
-  pub second-accepted : checked H x b t d .answer ≡ Accepted
+pub record TwoAccepted (S : Stated) (x : Texts) (a b : List ℕ) (t : Tables) (c d : List ℕ) : Type 0 where
+  pub first-accepted : checked S x a t c .answer ≡ Accepted
+  pub second-accepted : checked S x b t d .answer ≡ Accepted
   pub first : Whole
-  pub first-read : allRead H x a (roomsOf t) (length c) ≡ good first
+  pub first-read : allRead S x a (roomsOf t) (length c) ≡ good first
   pub second : Whole
-  pub second-read : allRead H x b (roomsOf t) (length d) ≡ good second
+  pub second-read : allRead S x b (roomsOf t) (length d) ≡ good second
   pub same-travel : SameTravel (first .choices) (second .choices)
 
 -- a merge of them to the choices cs: "both are written and accepted"
-pub record MergedTo (cs : List Configuration) (f : Files) (H : ℕ) (x : Texts) (t : Tables) (c : List ℕ) (m : Merged) : Type 0 where
+pub record MergedTo (cs : List Configuration) (f : Files) (S : Stated) (x : Texts) (t : Tables) (c : List ℕ) (m : Merged) : Type 0 where
   pub answer : m .answer ≡ Accepted
   -- the text is written: the draft's rows with these choices
   pub written : take (m .length) (m .text) ≡ textOf (chosen (f .rows) cs)
   -- it reads as these choices
-  pub read : allRead H x (take (m .length) (m .text)) (roomsOf t) (length c) ≡ good (record { files = f; choices = cs })
+  pub read : allRead S x (take (m .length) (m .text)) (roomsOf t) (length c) ≡ good (record { files = f; choices = cs })
   -- and it is accepted against the same files
-  pub accepted : checked H x (take (m .length) (m .text)) t c .answer ≡ Accepted
+  pub accepted : checked S x (take (m .length) (m .text)) t c .answer ≡ Accepted
 
 -- the written text fits the lent buffer; the text limit always suffices
 abbrev pub HasRoom : Files → List Configuration → (buffer : List ℕ) → Type 0
@@ -131,11 +132,11 @@ module _ (f : Files) (s r : List Configuration) where
       let P : List Configuration → ℕ → ℕ → ℤ = power (samplesIn (f .curves)) (homesOf (f .document .tracks) (f .rows)) in
       (subnet second : ℕ) → P (earlier s r) subnet second +ℤ P (later s r) subnet second ≡ P s subnet second +ℤ P r subnet second
 
-  pub record DemandThree (H : ℕ) (x : Texts) (a b : List ℕ) (t : Tables) (c d e l : List ℕ) : Type 0 where
+  pub record DemandThree (S : Stated) (x : Texts) (a b : List ℕ) (t : Tables) (c d e l : List ℕ) : Type 0 where
     -- the earlier choice at each leg, the first file's at equal departures
-    pub earlier-merge : HasRoom f (earlier s r) e → MergedTo (earlier s r) f H x t c (merged earlier H x a b t c d e)
+    pub earlier-merge : HasRoom f (earlier s r) e → MergedTo (earlier s r) f S x t c (merged earlier S x a b t c d e)
     -- the later choice at each leg, the second file's at equal departures
-    pub later-merge : HasRoom f (later s r) l → MergedTo (later s r) f H x t c (merged later H x a b t c d l)
+    pub later-merge : HasRoom f (later s r) l → MergedTo (later s r) f S x t c (merged later S x a b t c d l)
     pub curves : CurvesAdd
     -- and so do the curve tables that a report hands back
-    pub curve-tables : zipped _+ℤ_ (curvesOf H f (earlier s r)) (curvesOf H f (later s r)) ≡ zipped _+ℤ_ (curvesOf H f s) (curvesOf H f r)
+    pub curve-tables : zipped _+ℤ_ (curvesOf (S .horizon) f (earlier s r)) (curvesOf (S .horizon) f (later s r)) ≡ zipped _+ℤ_ (curvesOf (S .horizon) f s) (curvesOf (S .horizon) f r)

@@ -14,6 +14,8 @@ use Rattle.rules.specs.Lists.{every, any, flat, sameList}
 use Rattle.rules.specs.Bytes.{bytes, spelled, joined, space}
 use Rattle.rules.specs.Timetable.{timetableHeader}
 use Rattle.rules.specs.Profiles.{profilesHeader}
+use Rattle.rules.specs.Kinds.{tableEdition, exampleEdition}
+use Rattle.rules.specs.Stated.{stated}
 use Rattle.rules.specs.Reading.{Texts}
 use Rattle.rules.specs.Answers.{
   badHorizon,
@@ -33,6 +35,7 @@ use Rattle.rules.specs.Answers.{
   noSubnet,
   noRoom,
   unequalTravel,
+  unknownEdition,
   noFile,
   timetableFile,
   profilesFile,
@@ -44,6 +47,7 @@ use Rattle.rules.specs.Answers.{
 }
 use Rattle.rules.specs.Entries.{Tables, checked, reported, merged}
 use Rattle.rules.specs.Merge.{earlier, later}
+use Rattle.rules.specs.declared.stated.Stated.{Stated}
 use Rattle.rules.specs.declared.sizes.Configuration.{Configuration}
 use Rattle.rules.specs.Computed.{computed}
 use Rattle.rules.specs.declared.answers.Refusal.{Refusal}
@@ -55,6 +59,9 @@ use Rattle.rules_theorems.specs.Cases.{Line, solutionLine, roomLine, tra
 
 abbrev horizon : ℕ
 horizon = 100
+
+abbrev caller : Stated
+caller = stated horizon exampleEdition
 
 abbrev firstRow : String
 firstRow = "1,1,1,1,2,10_4_7,10_4_7 15_4_7\n"
@@ -104,7 +111,7 @@ worked = record { timetable = draft; profiles = profiles; constraints = constrai
 -- ---- an example: the input, and the refusal that it gives
 
 pub record Example : Type 0 where
-  pub H : ℕ
+  pub stated : Stated
   pub texts : Texts
   pub solution : List ℕ
   pub tables : Tables
@@ -116,7 +123,7 @@ abbrev pub gives : Answer → Refusal → Bool
 gives a r = sameList (valuesOf a) (valuesOf (Refused r))
 
 abbrev pub holds : Example → Bool
-holds e = gives (checked (e .H) (e .texts) (e .solution) (e .tables) (replicate (e .choices) 0) .answer) (e .given)
+holds e = gives (checked (e .stated) (e .texts) (e .solution) (e .tables) (replicate (e .choices) 0) .answer) (e .given)
 
 -- an example of a number
 abbrev pub Maker : Type 0
@@ -126,7 +133,7 @@ Maker = ℕ → Example
 abbrev example : (t p c s : List ℕ) → (file place : ℕ) → Maker
 example t p c s file place n =
     record {
-      H = horizon;
+      stated = caller;
       texts = record { timetable = t; profiles = p; constraints = c };
       solution = s;
       tables = lent;
@@ -134,14 +141,20 @@ example t p c s file place n =
       given = refusal n file place;
     }
 
--- with another H
+-- with another H, or another edition
+abbrev stating : (Stated → Stated) → Maker → Maker
+stating other m n =
+    record { stated = other (m n .stated); texts = m n .texts; solution = m n .solution; tables = m n .tables; choices = m n .choices; given = m n .given }
+
 abbrev atHorizon : ℕ → Maker → Maker
-atHorizon H m n =
-    record { H = H; texts = m n .texts; solution = m n .solution; tables = m n .tables; choices = m n .choices; given = m n .given }
+atHorizon H = stating (λ s. stated H (s .edition))
+
+abbrev inEdition : ℕ → Maker → Maker
+inEdition E = stating (λ s. stated (s .horizon) E)
 
 -- with other room
 abbrev lending : Tables → ℕ → Maker → Maker
-lending t k m n = record { H = m n .H; texts = m n .texts; solution = m n .solution; tables = t; choices = k; given = m n .given }
+lending t k m n = record { stated = m n .stated; texts = m n .texts; solution = m n .solution; tables = t; choices = k; given = m n .given }
 
 -- ---- the text at fault is cut where the fault starts
 
@@ -190,6 +203,17 @@ horizons =
     atHorizon (leastHorizon - 1) (example draft profiles constraints draft noFile 0)
     ∷ atHorizon (mostHorizon + 1) (example draft profiles constraints draft noFile 0)
     ∷ atHorizon (leastHorizon - 1) (example [] [] [] [] noFile 0)
+    -- 1 before 21
+    ∷ atHorizon (leastHorizon - 1) (inEdition 3 (example [] [] [] [] noFile 0))
+    ∷ []
+
+-- ---- 21: an edition that is not known
+
+abbrev editions : List Maker
+editions =
+    inEdition 0 (example draft profiles constraints draft noFile 0)
+    ∷ inEdition 3 (example draft profiles constraints draft noFile 0)
+    ∷ inEdition 3 (example [] [] [] [] noFile 0)
     ∷ []
 
 -- ---- 3: header differs
@@ -355,6 +379,7 @@ unknowns =
     ∷ dwells "{" "\"min_headway_time\": 1}"
     ∷ dwells "{" "\"track_ids\": []}"
     ∷ turnarounds "{" "\"min_dwell_time\": 1}"
+    ∷ inEdition tableEdition (turnarounds "{" "\"min_turnaround_time\": 1}")
     ∷ connections "{\"connection_type\": " "\"arrival_to_arrival\"}"
     ∷ []
 
@@ -437,7 +462,7 @@ Merge = List Configuration → List Configuration → List Configuration
 abbrev pub mergeHolds : Merge → MergeExample → Bool
 mergeHolds merge e =
     gives
-    (merged merge horizon (e .texts) (e .first) (e .second) lent (replicate choices 0) (replicate (e .choices) 0) (replicate (e .text) 0) .answer)
+    (merged merge caller (e .texts) (e .first) (e .second) lent (replicate choices 0) (replicate (e .choices) 0) (replicate (e .text) 0) .answer)
     (e .given)
 
 abbrev pub MergeMaker : Type 0
@@ -478,7 +503,7 @@ mergeRooms =
 
 abbrev curvesShort : Bool
 curvesShort =
-    gives (reported horizon worked draft lent (replicate choices 0) (replicate (horizon - 1) (pos 0)) .answer) (refusal noRoom noFile 0)
+    gives (reported caller worked draft lent (replicate choices 0) (replicate (horizon - 1) (pos 0)) .answer) (refusal noRoom noFile 0)
 
 -- ---- THE TABLE: the numbers with their examples
 
@@ -507,6 +532,7 @@ numbers =
     ∷ differs givenBy differing
     ∷ noSubnet givenBy tracks
     ∷ noRoom givenBy rooms
+    ∷ unknownEdition givenBy editions
     ∷ []
 
 abbrev pub mergeNumbers : List (Numbered MergeExample)
@@ -526,15 +552,15 @@ abbrev pub allHold : {E : Type 0} → (E → Bool) → Numbered E → Bool
 allHold test l = every (λ m. test (m (l .number))) (l .makers)
 
 -- the worked example itself is accepted, with no number of room to spare
-pub worked-is-accepted : checked horizon worked draft lent (replicate choices 0) .answer ≡ Accepted
+pub worked-is-accepted : checked caller worked draft lent (replicate choices 0) .answer ≡ Accepted
 unfolding computed
 worked-is-accepted = refl
 
-pub worked-is-merged : merged earlier horizon worked draft draft lent (replicate choices 0) (replicate choices 0) (replicate (length draft) 0) .answer ≡ Accepted
+pub worked-is-merged : merged earlier caller worked draft draft lent (replicate choices 0) (replicate choices 0) (replicate (length draft) 0) .answer ≡ Accepted
 unfolding computed
 worked-is-merged = refl
 
-pub worked-is-reported : reported horizon worked draft lent (replicate choices 0) (replicate horizon (pos 0)) .answer ≡ Accepted
+pub worked-is-reported : reported caller worked draft lent (replicate choices 0) (replicate horizon (pos 0)) .answer ≡ Accepted
 unfolding computed
 worked-is-reported = refl
 

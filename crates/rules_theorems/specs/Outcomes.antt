@@ -7,6 +7,7 @@ use lib.ListN.{length}
 use lib.IntN.{ℤ}
 use Rattle.rules.specs.Reading.{Texts}
 use Rattle.rules.specs.Entries.{Tables, roomsOf, checked, Reported, reported, Merged, merged}
+use Rattle.rules.specs.declared.stated.Stated.{Stated}
 use Rattle.rules.specs.declared.sizes.Configuration.{Configuration}
 use Rattle.rules.specs.declared.answers.Refusal.{Refusal}
 use Rattle.rules.specs.declared.answers.Violation.{Violation}
@@ -42,16 +43,16 @@ pub record SameMerge (a b : Merged) : Type 0 where
   pub answer : a .answer ≡ b .answer
   pub length : a .length ≡ b .length
 
-module _ (H : ℕ) (x : Texts) (s : List ℕ) where
+module _ (S : Stated) (x : Texts) (s : List ℕ) where
   abbrev pub ChecksOwnInput : Type 0
-  ChecksOwnInput = (t t′ : Tables) (c c′ : List ℕ) → SameRoom t t′ c c′ → checked H x s t c .answer ≡ checked H x s t′ c′ .answer
+  ChecksOwnInput = (t t′ : Tables) (c c′ : List ℕ) → SameRoom t t′ c c′ → checked S x s t c .answer ≡ checked S x s t′ c′ .answer
 
   abbrev pub ReportsOwnInput : Type 0
   ReportsOwnInput =
-      (t t′ : Tables) (c c′ : List ℕ) (p p′ : List ℤ) → SameRoom t t′ c c′ → length p ≡ length p′ → SameReport (reported H x s t c p) (reported H x s t′ c′ p′)
+      (t t′ : Tables) (c c′ : List ℕ) (p p′ : List ℤ) → SameRoom t t′ c c′ → length p ≡ length p′ → SameReport (reported S x s t c p) (reported S x s t′ c′ p′)
 
   -- by whatever rule it chooses
   abbrev pub MergesOwnInput : (merge : List Configuration → List Configuration → List Configuration) → (second : List ℕ) → Type 0
   MergesOwnInput merge s₂ =
       (t t′ : Tables) (c c′ d d′ text text′ : List ℕ) → SameRoom t t′ c c′ → length d ≡ length d′ → length text ≡ length text′
-      → SameMerge (merged merge H x s s₂ t c d text) (merged merge H x s s₂ t′ c′ d′ text′)
+      → SameMerge (merged merge S x s s₂ t c d text) (merged merge S x s s₂ t′ c′ d′ text′)

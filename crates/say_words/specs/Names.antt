@@ -41,7 +41,7 @@ formulas =
 abbrev pub formulaOf : (kind inequality : ℕ) → List ℕ
 formulaOf kind inequality = getD formulas (2 * kind + inequality) []
 
--- "Refusal numbers": what each is given for, from 1 on
+-- "Refusal numbers": what each is given for, from 1 on; 18 to 20 are given for nothing
 abbrev pub meanings : List (List ℕ)
 meanings =
     []
@@ -62,6 +62,10 @@ meanings =
     ∷ bytes "a leg's track is in no subnet"
     ∷ bytes "lent room too short"
     ∷ bytes "two choices of a leg have unequal travel times"
+    ∷ []
+    ∷ []
+    ∷ []
+    ∷ bytes "an edition that is not known"
     ∷ []
 
 -- the files: 0 where a refusal lies in none

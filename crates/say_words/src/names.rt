@@ -116,7 +116,11 @@ pub fn put_meaning(buffer: &mut [u8], at: usize, number: u8) -> usize
           solution's first five columns differ from the draft's, row by row, or the row count does\n\
           a leg's track is in no subnet\n\
           lent room too short\n\
-          two choices of a leg have unequal travel times",
+          two choices of a leg have unequal travel times\n\
+          \n\
+          \n\
+          \n\
+          an edition that is not known",
         number as usize,
     )
 }

@@ -4,6 +4,7 @@ ghost use Rattle.io.specs.Counts.{Counts};
 ghost use Rattle.small_input.specs.Words.{ofSolution, ofTwo};
 use rules::answers::File;
 use rules::outcomes::Direction;
+use rules::stated::Stated;
 use say_answers::say;
 use small_check::checks;
 use small_check::energies;
@@ -42,9 +43,10 @@ pub fn entry_at(at: usize) -> Entry {
     Entry::Unknown
 }
 
-// What every group gives beside its solutions: H, and how long each of the three texts is.
+// What every group gives beside its solutions: H, the edition, and how long each of the three texts is.
 struct Draft {
     h: Given,
+    edition: Given,
     // All three files were read whole.
     whole: bool,
     timetable: usize,
@@ -63,12 +65,14 @@ fn read_draft(at: usize, timetable: &mut [u8], profiles: &mut [u8], constraints:
     ensures { λ r. ⌜ Counts (r .profiles) (now (profiles .exit)) ⌝ }
     ensures { λ r. ⌜ Counts (r .constraints) (now (constraints .exit)) ⌝ }
 {
-    let h = arguments::horizon(at + Words::HORIZON);
+    let h = arguments::number(at + Words::HORIZON);
+    let edition = arguments::number(at + Words::EDITION);
     let t = files::load(at + Words::TIMETABLE, File::TIMETABLE, timetable);
     let p = files::load(at + Words::PROFILES, File::PROFILES, profiles);
     let c = files::load(at + Words::CONSTRAINTS, File::CONSTRAINTS, constraints);
     Draft {
         h,
+        edition,
         whole: are_whole(t, p, c),
         timetable: t.length,
         profiles: p.length,
@@ -76,20 +80,24 @@ fn read_draft(at: usize, timetable: &mut [u8], profiles: &mut [u8], constraints:
     }
 }
 
-// H, where an entry can be called.
+// What is stated, where an entry can be called.
 enum Ready {
-    At(u32),
+    At(Stated),
     No,
 }
 
-// Where there is no H, or a file was not read whole, there is no answer.
-fn ready_at(given: Given, whole: bool) -> Ready {
-    let Given::Seconds(h) = given else {
+// Where H or the edition is no number, or a file was not read whole, there is no answer.
+fn ready_at(h: Given, edition: Given, whole: bool) -> Ready {
+    let Given::Number(horizon) = h else {
         say::no_answer(b"H is no whole number");
         return Ready::No;
     };
+    let Given::Number(edition) = edition else {
+        say::no_answer(b"the edition is no whole number");
+        return Ready::No;
+    };
     if whole {
-        return Ready::At(h);
+        return Ready::At(Stated { horizon, edition });
     }
     say::answer(b"none");
     Ready::No
@@ -104,12 +112,12 @@ fn show_solution<'a>(
     constraints: &[u8],
     solution: &'a [u8],
 ) {
-    let Ready::At(h) = ready else {
+    let Ready::At(stated) = ready else {
         return;
     };
     match asked {
-        Asked::Verdict => checks::judge(h, timetable, profiles, constraints, solution),
-        Asked::Energies => energies::report(h, timetable, profiles, constraints, solution),
+        Asked::Verdict => checks::judge(stated, timetable, profiles, constraints, solution),
+        Asked::Energies => energies::report(stated, timetable, profiles, constraints, solution),
     }
 }
 
@@ -124,10 +132,10 @@ fn merge_two<'a>(
     second: &'a [u8],
     out: usize,
 ) {
-    if let Ready::At(h) = ready {
+    if let Ready::At(stated) = ready {
         small_merge::merge(
             direction,
-            h,
+            stated,
             timetable,
             profiles,
             constraints,
@@ -140,12 +148,14 @@ fn merge_two<'a>(
 
 fn solution_ready(d: Draft, s: Loaded) -> Ready {
     let h = d.h;
-    ready_at(h, d.whole && s.whole)
+    let edition = d.edition;
+    ready_at(h, edition, d.whole && s.whole)
 }
 
 fn two_ready(d: Draft, first: Loaded, second: Loaded) -> Ready {
     let h = d.h;
-    ready_at(h, d.whole && first.whole && second.whole)
+    let edition = d.edition;
+    ready_at(h, edition, d.whole && first.whole && second.whole)
 }
 
 // The group whose word is argument `at`.

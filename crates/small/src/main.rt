@@ -1,8 +1,8 @@
 // The small program of document 01: it runs the library on texts of up to 16 KiB each. Its arguments come in groups,
-//     check H TIMETABLE PROFILES CONSTRAINTS SOLUTION
-//     energy H TIMETABLE PROFILES CONSTRAINTS SOLUTION
-//     merge-earlier H TIMETABLE PROFILES CONSTRAINTS FIRST SECOND OUT
-//     merge-later H TIMETABLE PROFILES CONSTRAINTS FIRST SECOND OUT
+//     check H EDITION TIMETABLE PROFILES CONSTRAINTS SOLUTION
+//     energy H EDITION TIMETABLE PROFILES CONSTRAINTS SOLUTION
+//     merge-earlier H EDITION TIMETABLE PROFILES CONSTRAINTS FIRST SECOND OUT
+//     merge-later H EDITION TIMETABLE PROFILES CONSTRAINTS FIRST SECOND OUT
 // and each group is answered in turn: the label, what was found, and a last line that a script can read.
 mod groups; // the groups
 
@@ -25,7 +25,7 @@ fn solution_group(at: usize, left: usize, asked: Asked) -> usize
         return Words::OF_SOLUTION;
     }
     say::no_answer(
-        b"arguments are missing: check or energy, H TIMETABLE PROFILES CONSTRAINTS SOLUTION",
+        b"arguments are missing: check or energy, H EDITION TIMETABLE PROFILES CONSTRAINTS SOLUTION",
     );
     left
 }
@@ -40,7 +40,7 @@ fn merge_group(at: usize, left: usize, direction: Direction) -> usize
         return Words::OF_TWO;
     }
     say::no_answer(
-        b"arguments are missing: merge-earlier or merge-later, H TIMETABLE PROFILES CONSTRAINTS FIRST SECOND OUT",
+        b"arguments are missing: merge-earlier or merge-later, H EDITION TIMETABLE PROFILES CONSTRAINTS FIRST SECOND OUT",
     );
     left
 }

@@ -1,7 +1,8 @@
-// `check H TIMETABLE PROFILES CONSTRAINTS SOLUTION`.
+// `check H EDITION TIMETABLE PROFILES CONSTRAINTS SOLUTION`.
 use checker::display;
 use checker::verdicts;
 use rules::answers::Answer;
+use rules::stated::Stated;
 use small_input::rooms;
 
 // The row that a refusal shows; empty for another answer.
@@ -15,7 +16,7 @@ pub fn refused_row<'a>(answer: Answer, timetable: &'a [u8], solution: &'a [u8]) 
 
 // Every table is lent full of a number that no field can have.
 pub fn judge<'a>(
-    h: u32,
+    stated: Stated,
     timetable: &'a [u8],
     profiles: &[u8],
     constraints: &[u8],
@@ -29,7 +30,7 @@ pub fn judge<'a>(
     let mut tracks = rooms::table();
     let mut choices = rooms::table();
     let checked = verdicts::check(
-        h,
+        stated,
         timetable,
         profiles,
         constraints,

@@ -1,8 +1,9 @@
-// `energy H TIMETABLE PROFILES CONSTRAINTS SOLUTION`.
+// `energy H EDITION TIMETABLE PROFILES CONSTRAINTS SOLUTION`.
 use crate::checks;
 use checker::energies;
 use rules::answers::Answer;
 use rules::figures::Figures;
+use rules::stated::Stated;
 use small_input::rooms;
 
 // Only an accepted solution has energies.
@@ -14,7 +15,7 @@ fn show_figures(answer: Answer, h: u32, g: Figures) {
 
 // Every table but the curves is lent full of a number that no field can have.
 pub fn report<'a>(
-    h: u32,
+    stated: Stated,
     timetable: &'a [u8],
     profiles: &[u8],
     constraints: &[u8],
@@ -29,7 +30,7 @@ pub fn report<'a>(
     let mut choices = rooms::table();
     let mut curves = rooms::curves();
     let report = energies::energy(
-        h,
+        stated,
         timetable,
         profiles,
         constraints,
@@ -54,6 +55,6 @@ pub fn report<'a>(
         &tracks,
         &choices,
     );
-    show_figures(answer, h, report.figures);
+    show_figures(answer, stated.horizon, report.figures);
     say_answers::close(answer);
 }

@@ -6,9 +6,9 @@ use text_read::numbers::Whole;
 // No word or number that means something is longer.
 const WORD: usize = 32;
 
-// H as it was given. A number past every id is out of range for the checker, too.
+// H or the edition, as it was given. A number past every id is neither an H nor an edition for the checker, too.
 pub enum Given {
-    Seconds(u32),
+    Number(u32),
     NoNumber,
 }
 
@@ -18,12 +18,12 @@ pub fn is_word(at: usize, name: &[u8]) -> bool {
     text_read::words::spells(&word[..length], name)
 }
 
-pub fn horizon(at: usize) -> Given {
+pub fn number(at: usize) -> Given {
     let mut word = [0u8; WORD];
     let length = os::arg(at, &mut word);
     match numbers::read_whole(&word[..length]) {
-        Whole::Number(n) => Given::Seconds(n),
-        Whole::Beyond => Given::Seconds(Id::MOST + 1),
+        Whole::Number(n) => Given::Number(n),
+        Whole::Beyond => Given::Number(Id::MOST + 1),
         Whole::Malformed => Given::NoNumber,
     }
 }

@@ -8,17 +8,19 @@ pub struct Words {}
 impl Words {
     pub const HORIZON: usize = 1;
 
-    pub const TIMETABLE: usize = 2;
+    pub const EDITION: usize = 2;
 
-    pub const PROFILES: usize = 3;
+    pub const TIMETABLE: usize = 3;
 
-    pub const CONSTRAINTS: usize = 4;
+    pub const PROFILES: usize = 4;
 
-    pub const SOLUTION: usize = 5;
+    pub const CONSTRAINTS: usize = 5;
 
-    pub const SECOND_SOLUTION: usize = 6;
+    pub const SOLUTION: usize = 6;
 
-    pub const OUT: usize = 7;
+    pub const SECOND_SOLUTION: usize = 7;
+
+    pub const OUT: usize = 8;
 
     pub const OF_SOLUTION: usize = Self::SOLUTION + 1;
 

@@ -1,9 +1,10 @@
-// `merge-earlier H TIMETABLE PROFILES CONSTRAINTS FIRST SECOND OUT`, and `merge-later`: the merged timetable goes to OUT and the report to standard output.
+// `merge-earlier H EDITION TIMETABLE PROFILES CONSTRAINTS FIRST SECOND OUT`, and `merge-later`: the merged timetable goes to OUT and the report to standard output.
 use checker::display;
 use checker::merges;
 use rules::answers::Answer;
 use rules::answers::File;
 use rules::outcomes::Direction;
+use rules::stated::Stated;
 use say_answers::say;
 use small_input::files;
 use small_input::rooms;
@@ -60,7 +61,7 @@ fn close(answer: Answer, out: usize, text: &[u8], length: usize) {
 // which stands in its list too, so it is not twice as long.
 pub fn merge<'a>(
     direction: Direction,
-    h: u32,
+    stated: Stated,
     timetable: &'a [u8],
     profiles: &[u8],
     constraints: &[u8],
@@ -79,7 +80,7 @@ pub fn merge<'a>(
     let mut text = io::large_buffer();
     let merged = merges::merge(
         direction,
-        h,
+        stated,
         timetable,
         profiles,
         constraints,

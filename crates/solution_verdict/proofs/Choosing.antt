@@ -34,10 +34,10 @@ module _ {H : ℕ} {counts : Counts} {legs : List ℕ} (k : Choosable H counts l
   pub choose-able : Able H legs (counts .legs)
   choose-able =
       let rows = k .left .files .rows in
-      let was-good = files-good H (k .left .texts) (roomsOf (k .left .lent)) (k .left .files) (k .left .read) in
+      let was-good = files-good (k .left .stated) (k .left .texts) (roomsOf (k .left .lent)) (k .left .files) (k .left .read) in
       record {
-        horizon = was-good .horizon .1;
-        legs-there = legs-apart legs (counts .legs) rows (held .many) (held .front) (legs-distinct H rows (was-good .timetable .lawful));
+        horizon = rw (k .left .at) at (was-good .horizon .1);
+        legs-there = legs-apart legs (counts .legs) rows (held .many) (held .front) (legs-distinct (k .left .stated .horizon) rows (was-good .timetable .lawful));
       }
 
 -- a solution's refusals lie in its file

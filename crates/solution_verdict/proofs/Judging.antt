@@ -3,6 +3,8 @@ use Prim.Native.Nat.{ℕ}
 use mathlib.Core.Path.{_≡_, sym, ap, _∙_, subst}
 use mathlib.Core.List.{List}
 use lib.ListN.{length}
+use Rattle.rules.specs.Answers.{good}
+use Rattle.rules.specs.Reading.{choicesRead}
 use Rattle.rules.specs.Verdict.{verdict, answerOf}
 use Rattle.rules.specs.Entries.{Tables, roomsOf, writtenTables, verdictOf}
 use Rattle.rules.specs.declared.answers.Answer.{Answer}
@@ -28,19 +30,22 @@ module _ {counts : Counts} {legs configurations constraints choices : List ℕ} 
   records : length (k .tables .left .files .document .constraints) ≡ m
   records = ap (λ (c : Counts). c .constraints) (sym (k .tables .left .counted))
 
+  chosen-read : choicesRead (k .tables .left .stated .horizon) (k .tables .left .files) (k .file) (k .room) (k .text) ≡ good (k .chosen)
+  chosen-read = rw (k .tables .left .at) (k .read)
+
   pub judge-able : Within (constraintsIn m constraints) (configurationsIn n choices)
   judge-able =
       let l = k .tables .left in
       subst (λ t. Within (constraintsIn m t) (configurationsIn n choices)) (sym (k .tables .constraints-are))
       (subst (λ t. Within (constraintsIn m (written .constraints)) (configurationsIn n t)) (sym (k .choices-are))
-      (tables-within (k .H) (l .texts) (roomsOf (l .lent)) (l .files) (l .read) (k .file) (k .room) (k .text) (k .chosen) (k .read) (l .lent) (k .lent) n m rows records))
+      (tables-within (l .stated) (l .texts) (roomsOf (l .lent)) (l .files) (l .read) (k .file) (k .room) (k .text) (k .chosen) chosen-read (l .lent) (k .lent) n m rows records))
 
   judged : (file : ℕ) → answerOf file (verdict (offersIn n legs configurations) (constraintsIn m constraints) (configurationsIn n choices))
       ≡ answerOf file (verdictOf (k .tables .left .files) (k .chosen))
   judged file =
       let l = k .tables .left in
       (λ j. answerOf file (verdict (offersIn n (k .tables .legs-are j) (k .tables .configurations-are j)) (constraintsIn m (k .tables .constraints-are j)) (configurationsIn n (k .choices-are j))))
-      ∙ tables-judged (k .H) (l .texts) (roomsOf (l .lent)) (l .files) (l .read) (k .file) (k .room) (k .text) (k .chosen) (k .read) (l .lent) (k .lent) n m rows records file
+      ∙ tables-judged (l .stated) (l .texts) (roomsOf (l .lent)) (l .files) (l .read) (k .file) (k .room) (k .text) (k .chosen) chosen-read (l .lent) (k .lent) n m rows records file
 
 pub judge-right : {counts : Counts} {legs configurations constraints choices : List ℕ} (file : ℕ) {answer : Answer}
     → answer ≡ answerOf file (verdict (offersIn (counts .legs) legs configurations) (constraintsIn (counts .constraints) constraints) (configurationsIn (counts .legs) choices))

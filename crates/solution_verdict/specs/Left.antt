@@ -7,6 +7,7 @@ use Rattle.rules.specs.Answers.{Reading, refused, good}
 use Rattle.rules.specs.Reading.{Texts, Files, filesOf, choicesRead}
 use Rattle.rules.specs.Verdict.{answerOf}
 use Rattle.rules.specs.Entries.{Tables, roomsOf, writtenTables, writtenChoices, verdictOf}
+use Rattle.rules.specs.declared.stated.Stated.{Stated}
 use Rattle.rules.specs.declared.sizes.Configuration.{Configuration}
 use Rattle.rules.specs.declared.answers.Answer.{Answer}
 use Rattle.tables_lent.specs.declared.Counts.{Counts}
@@ -14,12 +15,14 @@ use Rattle.tables_lent.specs.Filing.{countsOf}
 use Rattle.solution_verdict.specs.declared.Chosen.{Chosen}
 use Rattle.solution_verdict.specs.declared.Chosen.the-variants.{Whole, Refused}
 
--- counts by value, and tables of which a tail takes those that it needs
+-- counts by value, and tables of which a tail takes those that it needs; of what was stated, H alone counts from here on
 pub record Left (H : ℕ) (counts : Counts) : Type 0 where
+  pub stated : Stated
+  pub at : stated .horizon ≡ H
   pub texts : Texts
   pub lent : Tables
   pub files : Files
-  pub read : filesOf H texts (roomsOf lent) ≡ good files
+  pub read : filesOf stated texts (roomsOf lent) ≡ good files
   pub counted : counts ≡ countsOf files
 
 -- ---- choosing

@@ -7,10 +7,12 @@ use lib.ListN.{length, length-map}
 use Rattle.rules.specs.Limits.{mostLegs, constraintWidth, trackWidth}
 use Rattle.rules.specs.Answers.{good}
 use Rattle.rules.specs.Timetable.{Row, choicesOf}
-use Rattle.rules.specs.Constraints.{plainRules, ordered}
+use Rattle.rules.specs.Constraints.{ordered}
+use Rattle.rules.specs.Stated.{rulesBy}
 use Rattle.rules.specs.Reading.{Rooms, Texts, Files, legIds, filesOf, choicesRead}
 use Rattle.rules.specs.Verdict.{All, verdict, answerOf}
 use Rattle.rules.specs.Entries.{Tables, writtenTables, writtenChoices, verdictOf}
+use Rattle.rules.specs.declared.stated.Stated.{Stated}
 use Rattle.rules.specs.declared.sizes.Configuration.{Configuration}
 use Rattle.rules.proofs.Truth.{all-map}
 use Rattle.rules_theorems.specs.LawfulDocument.{LawfulConstraint, LawfulDocument}
@@ -25,7 +27,7 @@ use Rattle.tables_views.specs.View.{offersIn, constraintsIn, configurationsIn}
 use Rattle.verdict.specs.Within.{Timely, Brief, Within}
 use Rattle.verdict.proofs.Written.{verdict-written, within-written}
 
-module _ (H : ℕ) (x : Texts) (room : Rooms) (files : Files) (read : filesOf H x room ≡ good files) where
+module _ (S : Stated) (x : Texts) (room : Rooms) (files : Files) (read : filesOf S x room ≡ good files) where
   abbrev constraintRoom : ℕ
   constraintRoom = room .constraints / constraintWidth
 
@@ -34,12 +36,12 @@ module _ (H : ℕ) (x : Texts) (room : Rooms) (files : Files) (read : filesOf H 
 
   document-lawful : LawfulDocument (legIds (files .rows)) constraintRoom trackRoom (files .document)
   document-lawful =
-      good-is-lawful (legIds (files .rows)) constraintRoom trackRoom plainRules (x .constraints) (files .document)
-      (files-good H x room files read .constraints)
+      good-is-lawful (legIds (files .rows)) constraintRoom trackRoom (rulesBy S) (x .constraints) (files .document)
+      (files-good S x room files read .constraints)
 
-  module _ (file choiceRoom : ℕ) (text : List ℕ) (s : List Configuration) (chosen : choicesRead H files file choiceRoom text ≡ good s) where
-    solution : GoodChoices H files choiceRoom text s
-    solution = choices-good H files file choiceRoom text s chosen
+  module _ (file choiceRoom : ℕ) (text : List ℕ) (s : List Configuration) (chosen : choicesRead (S .horizon) files file choiceRoom text ≡ good s) where
+    solution : GoodChoices (S .horizon) files choiceRoom text s
+    solution = choices-good (S .horizon) files file choiceRoom text s chosen
 
     many : length s ≡ length (solution .rows)
     many = ap length (sym (solution .choices)) ∙ length-map (solution .rows) (λ r. r .nominal)
@@ -51,8 +53,8 @@ module _ (H : ℕ) (x : Texts) (room : Rooms) (files : Files) (read : filesOf H 
     timely : All Timely (choicesOf (solution .rows))
     timely =
         all-mapped Timely (λ (r : Row). r .nominal) (solution .rows)
-        (all-map (KeptRow H) (λ (r : Row). Timely (r .nominal)) (λ r k. omega (arith, k .nominalIn .ends, files-good H x room files read .horizon .1))
-        (solution .rows) (rows-kept H (solution .rows) (solution .solution .lawful)))
+        (all-map (KeptRow (S .horizon)) (λ (r : Row). Timely (r .nominal)) (λ r k. omega (arith, k .nominalIn .ends, files-good S x room files read .horizon .1))
+        (solution .rows) (rows-kept (S .horizon) (solution .rows) (solution .solution .lawful)))
 
     -- the limits of document 01
     pub choices-within : Within (ordered (files .document .constraints)) s
@@ -60,7 +62,7 @@ module _ (H : ℕ) (x : Texts) (room : Rooms) (files : Files) (read : filesOf H 
         let cs = files .document .constraints in
         let lawful = document-lawful .tables .constraints-lawful in
         record {
-          rows = subst (λ n. n ≤ mostLegs) (sym many) (legs-most H (solution .rows) (solution .solution .lawful));
+          rows = subst (λ n. n ≤ mostLegs) (sym many) (legs-most (S .horizon) (solution .rows) (solution .solution .lawful));
           records =
               omega (arith, lawful .in-limit, table-length (legIds (files .rows)) constraintRoom trackRoom (files .document) document-lawful);
           timely = subst (All Timely) (solution .choices) timely;

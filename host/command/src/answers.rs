@@ -87,7 +87,7 @@ pub struct Violation {
     pub file: File,
 }
 
-/// Document 01's refusal numbers.
+/// The refusal numbers: document 01's, and 21 of document 02's E4.
 #[derive(Clone, Copy, Debug, PartialEq, Eq)]
 pub enum Reason {
     Horizon = 1,
@@ -107,10 +107,11 @@ pub enum Reason {
     NoSubnet,
     Room,
     Travel,
+    Edition = 21,
 }
 
 impl Reason {
-    pub const ALL: [Reason; 17] = [
+    pub const ALL: [Reason; 18] = [
         Reason::Horizon,
         Reason::TooLong,
         Reason::Header,
@@ -128,6 +129,7 @@ impl Reason {
         Reason::NoSubnet,
         Reason::Room,
         Reason::Travel,
+        Reason::Edition,
     ];
 
     pub fn number(self) -> u8 {
@@ -138,7 +140,7 @@ impl Reason {
         Reason::ALL.into_iter().find(|reason| u64::from(reason.number()) == number)
     }
 
-    /// When it is given, in document 01's words.
+    /// When it is given, in the documents' words.
     pub fn meaning(self) -> &'static str {
         match self {
             Reason::Horizon => "H out of range",
@@ -158,6 +160,7 @@ impl Reason {
             Reason::NoSubnet => "a leg's track is in no subnet",
             Reason::Room => "lent room too short",
             Reason::Travel => "two choices of a leg have unequal travel times",
+            Reason::Edition => "an edition that is not known",
         }
     }
 }
@@ -313,6 +316,8 @@ mod tests {
         assert_eq!(checked(numbers(&[1, 3, 7, 1, 3, 5])), Ok(Answer::Violated(violation)));
         let refusal = Refusal { reason: Reason::Travel, file: File::SecondSolution, place: 113 };
         assert_eq!(checked(numbers(&[2, 17, 5, 113])), Ok(Answer::Refused(refusal)));
+        let refusal = Refusal { reason: Reason::Edition, file: File::None, place: 0 };
+        assert_eq!(checked(numbers(&[2, 21, 0, 0])), Ok(Answer::Refused(refusal)));
         assert_eq!(merged(numbers(&[0, 9]), 9), Ok(Answer::Accepted(9)));
         assert_eq!(row(numbers(&[3, 4, 5]), 9), Ok((4, 5)));
     }
@@ -331,6 +336,8 @@ mod tests {
             numbers(&[1, 1, 1 << 32, 1, 1, 4]),
             numbers(&[2, 0, 1, 0]),
             numbers(&[2, 18, 0, 0]),
+            numbers(&[2, 20, 1, 0]),
+            numbers(&[2, 22, 0, 0]),
             numbers(&[2, 4, 6, 0]),
             numbers(&[2, 4, 1, 0, 1]),
         ];

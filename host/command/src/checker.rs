@@ -3,6 +3,7 @@
 use crate::answers::{self, Answer, Energies, File, Numbers, Unknown};
 use crate::exports;
 use crate::room::{NoRoom, Room, Rooms};
+use crate::stated::Stated;
 
 /// The texts that every entry takes beside the solution.
 #[derive(Clone, Copy, Debug)]
@@ -31,27 +32,28 @@ impl Checker {
         Ok(Checker { room: Room::new(rooms)? })
     }
 
-    pub fn check(&mut self, h: u32, files: &Files, solution: &[u8]) -> Result<Answer<()>, Unknown> {
-        answers::checked(exports::check(h, files.timetable, files.profiles, files.constraints, solution, &mut self.room))
+    pub fn check(&mut self, stated: Stated, files: &Files, solution: &[u8]) -> Result<Answer<()>, Unknown> {
+        answers::checked(exports::check(stated, files.timetable, files.profiles, files.constraints, solution, &mut self.room))
     }
 
-    pub fn energy(&mut self, h: u32, files: &Files, solution: &[u8]) -> Result<Answer<Energies<'_>>, Unknown> {
+    pub fn energy(&mut self, stated: Stated, files: &Files, solution: &[u8]) -> Result<Answer<Energies<'_>>, Unknown> {
         // The answer does not say how many subnets there are, and the curve table keeps its contents past the last curve: a curve that is written
         // starts with a power.
-        self.room.curves.iter_mut().step_by(h.max(1) as usize).for_each(|first| *first = NO_POWER);
-        let said = answers::reported(exports::energy(h, files.timetable, files.profiles, files.constraints, solution, &mut self.room))?;
-        Ok(said.map(|figures| Energies { figures, curves: curves(&self.room.curves, h) }))
+        self.room.curves.iter_mut().step_by(stated.horizon.max(1) as usize).for_each(|first| *first = NO_POWER);
+        let said =
+            answers::reported(exports::energy(stated, files.timetable, files.profiles, files.constraints, solution, &mut self.room))?;
+        Ok(said.map(|figures| Energies { figures, curves: curves(&self.room.curves, stated.horizon) }))
     }
 
     /// The text of the earlier choice at each leg, the first solution's at equal departures.
-    pub fn merge_earlier(&mut self, h: u32, files: &Files, first: &[u8], second: &[u8]) -> Result<Answer<&[u8]>, Unknown> {
-        let numbers = exports::merge_earlier(h, files.timetable, files.profiles, files.constraints, first, second, &mut self.room);
+    pub fn merge_earlier(&mut self, stated: Stated, files: &Files, first: &[u8], second: &[u8]) -> Result<Answer<&[u8]>, Unknown> {
+        let numbers = exports::merge_earlier(stated, files.timetable, files.profiles, files.constraints, first, second, &mut self.room);
         self.written(numbers)
     }
 
     /// The text of the later choice at each leg, the second solution's at equal departures.
-    pub fn merge_later(&mut self, h: u32, files: &Files, first: &[u8], second: &[u8]) -> Result<Answer<&[u8]>, Unknown> {
-        let numbers = exports::merge_later(h, files.timetable, files.profiles, files.constraints, first, second, &mut self.room);
+    pub fn merge_later(&mut self, stated: Stated, files: &Files, first: &[u8], second: &[u8]) -> Result<Answer<&[u8]>, Unknown> {
+        let numbers = exports::merge_later(stated, files.timetable, files.profiles, files.constraints, first, second, &mut self.room);
         self.written(numbers)
     }
 

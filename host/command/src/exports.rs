@@ -1,23 +1,24 @@
-//! The C exports, as include/wagontulip.h says them, each as a safe function. No text is looked at here, nor H: every export judges its own input.
+//! The C exports, as include/wagontulip.h says them, each as a safe function. No text is looked at here, nor what is stated: every export judges its own input.
 //! They are only declared: the program that uses the wrapper links the library.
 
 use crate::answers::Numbers;
 use crate::room::Room;
+use crate::stated::Stated;
 
 /// No code, so that an export that writes nothing answers nothing.
 const UNWRITTEN: Numbers = [u64::MAX; 16];
 
-/// An entry takes H, its texts, the tables it fills, and room for its answer; a slice goes as its pointer and its length.
+/// An entry takes what is stated, its texts, the tables it fills, and room for its answer; a slice goes as its pointer and its length.
 macro_rules! entry {
     ($name:ident is $export:ident($($text:ident),*) filling $($table:ident: $number:ty),*) => {
-        pub fn $name(h: u32, $($text: &[u8],)* room: &mut Room) -> Numbers {
+        pub fn $name(stated: Stated, $($text: &[u8],)* room: &mut Room) -> Numbers {
             extern "C" {
-                fn $export(h: u32, $($text: *const u8, _: usize,)* $($table: *mut $number, _: usize,)* answer: *mut Numbers);
+                fn $export(h: u32, edition: u32, $($text: *const u8, _: usize,)* $($table: *mut $number, _: usize,)* answer: *mut Numbers);
             }
             let mut answer = UNWRITTEN;
             // Safe: each pointer goes with the length of its slice. The tables are vectors of their own, lent for this call alone (`&mut Room`), so
             // none overlaps another or a text.
-            unsafe { $export(h, $($text.as_ptr(), $text.len(),)* $(room.$table.as_mut_ptr(), room.$table.len(),)* &mut answer) };
+            unsafe { $export(stated.horizon, stated.edition, $($text.as_ptr(), $text.len(),)* $(room.$table.as_mut_ptr(), room.$table.len(),)* &mut answer) };
             answer
         }
     };

@@ -2,8 +2,10 @@
 
 mod common;
 
-use common::{constraints, draft, dwell, solution, H, PROFILES};
-use wagontulip::{row_at, Answer, Checker, Energies, File, Files, Kind, NoRoom, Reason, Refusal, Rooms, Table, Violation};
+use common::{constraints, draft, dwell, solution, turnaround, H, PROFILES};
+use wagontulip::{row_at, Answer, Checker, Edition, Energies, File, Files, Kind, NoRoom, Reason, Refusal, Rooms, Stated, Table, Violation};
+
+const STATED: Stated = Stated { horizon: H, edition: Edition::EXAMPLE };
 
 struct Texts {
     timetable: String,
@@ -46,7 +48,7 @@ fn small() -> Checker {
 #[test]
 fn an_accepted_solution_leaves_its_tables() {
     let mut checker = small();
-    let said = checker.check(H, &Texts::new().files(), solution("15_4_7", "40_3_8").as_bytes());
+    let said = checker.check(STATED, &Texts::new().files(), solution("15_4_7", "40_3_8").as_bytes());
     assert_eq!(said, Ok(Answer::Accepted(())));
     let room = &checker.room;
     assert_eq!(room.legs[..], [1, 1, 1, 1, 2, 0, 2, 0, 2, 1, 2, 2, 3, 2, 2, 0, 7, 7, 7, 7, 7, 7, 7, 7]);
@@ -61,16 +63,40 @@ fn an_accepted_solution_leaves_its_tables() {
 #[test]
 fn a_violation_is_named() {
     let texts = Texts { constraints: dwell(22), ..Texts::new() };
-    let said = Checker::new().unwrap().check(H, &texts.files(), solution("15_4_7", "40_3_8").as_bytes());
+    let said = Checker::new().unwrap().check(STATED, &texts.files(), solution("15_4_7", "40_3_8").as_bytes());
     let violation = Violation { kind: Kind::Dwell, position: 0, inequality: 1, shortfall: 1, file: File::Solution };
     assert_eq!(said, Ok(Answer::Violated(violation)));
+}
+
+/// Horizon and edition arrive as they are stated, at every entry: each edition has its own key, and any other number is refused after the horizon.
+#[test]
+fn what_is_stated_arrives() {
+    let mut checker = Checker::new().unwrap();
+    let refused = |reason, file, place| Answer::Refused(Refusal { reason, file, place });
+    for (key, known) in [("min_dwell_time", Edition::TABLE), ("min_turnaround_time", Edition::EXAMPLE)] {
+        let texts = Texts { constraints: turnaround(key, 26), ..Texts::new() };
+        let place = texts.constraints.find(key).unwrap() as u32 - 1;
+        for (horizon, edition) in [H, 0].into_iter().flat_map(|horizon| [0, 1, 2, 3, u32::MAX].map(|edition| (horizon, edition))) {
+            let wanted = match (horizon, edition) {
+                (0, _) => refused(Reason::Horizon, File::None, 0),
+                (_, edition) if edition == known => Answer::Accepted(()),
+                (_, Edition::TABLE | Edition::EXAMPLE) => refused(Reason::UnknownName, File::Constraints, place),
+                _ => refused(Reason::Edition, File::None, 0),
+            };
+            let (stated, files, draft) = (Stated { horizon, edition }, texts.files(), draft());
+            assert_eq!(checker.check(stated, &files, draft.as_bytes()), Ok(wanted));
+            assert_eq!(checker.energy(stated, &files, draft.as_bytes()).unwrap().map(|_| ()), wanted);
+            assert_eq!(checker.merge_earlier(stated, &files, draft.as_bytes(), draft.as_bytes()).unwrap().map(|_| ()), wanted);
+            assert_eq!(checker.merge_later(stated, &files, draft.as_bytes(), draft.as_bytes()).unwrap().map(|_| ()), wanted);
+        }
+    }
 }
 
 #[test]
 fn a_refusal_fills_every_table() {
     let mut checker = small();
     let texts = Texts { timetable: draft().replace(",2,3,40", ",2,3,41"), ..Texts::new() };
-    let said = checker.energy(H, &texts.files(), draft().as_bytes()).unwrap();
+    let said = checker.energy(STATED, &texts.files(), draft().as_bytes()).unwrap();
     assert_eq!(said, Answer::Refused(Refusal { reason: Reason::Nominal, file: File::Timetable, place: 145 }));
     let room = &checker.room;
     for table in [&room.legs, &room.configurations, &room.profiles, &room.constraints, &room.tracks, &room.choices] {
@@ -83,7 +109,7 @@ fn a_refusal_fills_every_table() {
 fn energies_come_with_a_curve_for_each_subnet() {
     let texts = Texts::new();
     let mut checker = small();
-    let energies = match checker.energy(H, &texts.files(), draft().as_bytes()) {
+    let energies = match checker.energy(STATED, &texts.files(), draft().as_bytes()) {
         Ok(Answer::Accepted(energies)) => energies,
         other => panic!("{other:?}"),
     };
@@ -105,7 +131,7 @@ fn empty_subnets_count() {
     let mut texts = Texts::new();
     texts.constraints = texts.constraints.replace("[1, 2]}]", "[1, 2]}, {\"subnet_id\": 2, \"track_ids\": []}]");
     let mut checker = Checker::new().unwrap();
-    match checker.energy(H, &texts.files(), draft().as_bytes()) {
+    match checker.energy(STATED, &texts.files(), draft().as_bytes()) {
         Ok(Answer::Accepted(energies)) => assert_eq!(energies.curves.len(), 2),
         other => panic!("{other:?}"),
     }
@@ -116,13 +142,13 @@ fn merged_texts_are_handed_out_whole() {
     let texts = Texts::new();
     let (first, second) = (solution("15_4_7", "40_3_8"), solution("10_4_7", "45_3_8"));
     let mut checker = small();
-    let said = checker.merge_earlier(H, &texts.files(), first.as_bytes(), second.as_bytes());
+    let said = checker.merge_earlier(STATED, &texts.files(), first.as_bytes(), second.as_bytes());
     assert_eq!(said, Ok(Answer::Accepted(draft().as_bytes())));
-    let said = checker.merge_later(H, &texts.files(), first.as_bytes(), second.as_bytes());
+    let said = checker.merge_later(STATED, &texts.files(), first.as_bytes(), second.as_bytes());
     assert_eq!(said, Ok(Answer::Accepted(solution("15_4_7", "45_3_8").as_bytes())));
     assert_eq!(checker.room.text[draft().len()..], [7; 300][draft().len()..]);
     checker.room.text.truncate(draft().len() - 1);
-    let said = checker.merge_later(H, &texts.files(), first.as_bytes(), second.as_bytes());
+    let said = checker.merge_later(STATED, &texts.files(), first.as_bytes(), second.as_bytes());
     assert_eq!(said, Ok(Answer::Refused(Refusal { reason: Reason::Room, file: File::None, place: 0 })));
     assert!(checker.room.text.iter().all(|byte| *byte == 0));
 }
@@ -149,7 +175,7 @@ fn nothing_can_be_lent() {
         rooms[table] = 0;
     }
     let files = Files { timetable: b"", profiles: b"", constraints: b"" };
-    let said = Checker::with_rooms(&rooms).unwrap().check(H, &files, b"");
+    let said = Checker::with_rooms(&rooms).unwrap().check(STATED, &files, b"");
     assert_eq!(said, Ok(Answer::Refused(Refusal { reason: Reason::Header, file: File::Timetable, place: 0 })));
 }
 
@@ -170,7 +196,7 @@ fn room_that_cannot_be_had_is_an_error() {
 fn a_peak_has_its_quarter() {
     let quarters = |timetable: &str| {
         let texts = Texts { timetable: timetable.to_string(), constraints: constraints("", "") };
-        match Checker::new().unwrap().energy(2_700, &texts.files(), timetable.as_bytes()) {
+        match Checker::new().unwrap().energy(Stated { horizon: 2_700, ..STATED }, &texts.files(), timetable.as_bytes()) {
             Ok(Answer::Accepted(Energies { figures: f, .. })) => (f.peak_before_kj, f.peak_before_quarter, f.peak_drawn_quarter),
             other => panic!("{other:?}"),
         }

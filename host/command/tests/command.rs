@@ -7,7 +7,7 @@ mod calls;
 #[path = "command/outputs.rs"]
 mod outputs;
 
-use common::{constraints, draft, dwell, exported, solution, HEADER, PROFILES};
+use common::{constraints, draft, dwell, exported, solution, turnaround, HEADER, PROFILES};
 use std::fs;
 use std::io::Write;
 use std::path::PathBuf;
@@ -148,8 +148,7 @@ answer: violated
 ";
     assert_eq!(folder.told("check --horizon 100 t p c a", 1), format!("{LABEL}{words}"));
     let object = folder.told("check --json --horizon 100 t p c a", 1);
-    let start =
-        r#"{"label": "no violation shown is not no violation", "schema": 1, "command": "check", "answer": "violated", "horizon": 100, "#;
+    let start = r#"{"label": "no violation shown is not no violation", "schema": 2, "command": "check", "answer": "violated", "horizon": 100, "edition": 2, "#;
     assert!(object.starts_with(start), "{object}");
 }
 
@@ -479,6 +478,35 @@ fn a_horizon_is_a_whole_number() {
         let output = folder.call("check t p c a --horizon").arg(horizon).output().unwrap();
         assert_eq!((output.status.code(), &output.stdout[..]), (Some(3), &b""[..]), "{output:?}");
     }
+}
+
+/// Each edition reads its own key, 2 is taken where none is given, and the library judges any other number.
+#[test]
+fn an_edition_may_be_stated() {
+    let folder = Folder::new("edition");
+    folder.put("1", &turnaround("min_dwell_time", 21));
+    folder.put("2", &turnaround("min_turnaround_time", 21));
+    for words in ["check --horizon 100 --edition 1 t p 1 a", "check --horizon 100 --edition=2 t p 2 a", "check --horizon 100 t p 2 a"] {
+        assert_eq!(folder.told(words, 0), format!("{LABEL}{ACCEPTED}answer: accepted\n"), "{words}");
+    }
+    folder.told("energy --horizon 100 --edition 1 t p 1 a", 0);
+    folder.told("merge --horizon 100 --edition 1 t p 1 a b --earlier earlier --later later", 0);
+    for (words, key) in
+        [("--edition 2 t p 1 a", "min_dwell_time"), ("t p 1 a", "min_dwell_time"), ("--edition 1 t p 2 a", "min_turnaround_time")]
+    {
+        let said = folder.told(&format!("check --horizon 100 {words}"), 2);
+        let lines: Vec<&str> = said.lines().collect();
+        assert_eq!(lines[1], "refused 10: unknown list, key or connection type");
+        assert!(lines[3][lines[4].find('^').unwrap()..].starts_with(&format!("\"{key}\"")), "{said}");
+    }
+    for edition in ["0", "3", "4294967295", "4294967297", "99999999999999999999999999"] {
+        let said = folder.told(&format!("check --horizon 100 --edition {edition} t p 2 a"), 2);
+        assert_eq!(said, format!("{LABEL}refused 21: an edition that is not known\nfile: no file, place: 0\nanswer: refused\n"));
+        let said = folder.told(&format!("check --horizon 0 --edition {edition} t p 2 a"), 2);
+        assert!(said.contains("\nrefused 1: "), "{said}");
+    }
+    folder.not_run("check --horizon 100 --edition 01 t p 2 a", "--edition wants a whole number, and this is none: 01");
+    folder.not_run("row --edition 1 --place 50 p", "no option of row: --edition");
 }
 
 #[test]

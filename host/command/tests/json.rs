@@ -1,4 +1,4 @@
-//! What the command prints with `--json`: every object keeps docs/schema/answer-1.json, and carries what the words carry.
+//! What the command prints with `--json`: every object keeps docs/schema/answer-2.json, and carries what the words carry.
 
 mod common;
 
@@ -24,7 +24,7 @@ fn root() -> &'static Path {
 }
 
 fn schema() -> Schema {
-    Schema::read(&fs::read_to_string(root().join("docs/schema/answer-1.json")).unwrap())
+    Schema::read(&fs::read_to_string(root().join("docs/schema/answer-2.json")).unwrap())
 }
 
 /// By their statuses.
@@ -199,6 +199,7 @@ fn an_acceptance_says_how_much_was_tested() {
     let object = folder.object("check --json --horizon 100 t p c a", 0);
     is(&object, "command", r#""check""#);
     is(&object, "horizon", "100");
+    is(&object, "edition", "2");
     is(&object, "read", r#"{"legs": 2, "configurations": 4, "profiles": 2, "samples": 7, "constraints": 1, "tracks": 2}"#);
     is(&object, "nothing_tested", "false");
     folder.put(b"c", constraints("", ""));
@@ -355,6 +356,8 @@ fn a_refusal_of_the_constraints_has_a_column() {
     is(&object, "refusal.end_of_text", "true");
     let object = folder.object("check --json --horizon 0 t p c a", 2);
     is(&object, "refusal", r#"{"number": 1, "file": {"number": 0}, "place": 0, "meaning": "H out of range"}"#);
+    let object = folder.object("check --json --horizon 100 --edition 3 t p c a", 2);
+    is(&object, "refusal", r#"{"number": 21, "file": {"number": 0}, "place": 0, "meaning": "an edition that is not known"}"#);
     folder.put(b"c", dwell(20));
     let object = folder.object("energy --json --horizon 100 t p c a --room curves=99", 2);
     is(&object, "refusal", r#"{"number": 16, "file": {"number": 0}, "place": 0, "meaning": "lent room too short"}"#);
@@ -390,7 +393,7 @@ fn bytes_that_are_no_text_are_kept_apart() {
 }
 
 #[test]
-fn a_horizon_is_as_it_was_given() {
+fn what_is_stated_is_told_as_it_was_given() {
     let folder = Folder::new("horizon");
     for (given, shown) in [
         ("176401", "176401"),
@@ -401,7 +404,28 @@ fn a_horizon_is_as_it_was_given() {
         let object = folder.object(format!("check --json --horizon {given} t p c a"), 2);
         is(&object, "horizon", shown);
         is(&object, "refusal.number", "1");
+        let object = folder.object(format!("check --json --horizon 100 --edition {given} t p c a"), 2);
+        is(&object, "edition", shown);
+        is(&object, "refusal.number", "21");
     }
+}
+
+/// Whatever is answered, the edition stands in the object, also where none was given.
+#[test]
+fn an_edition_is_always_told() {
+    let folder = Folder::new("edition");
+    for (edition, words) in [("1", " --edition 1"), ("2", " --edition=2"), ("2", "")] {
+        let calls = [
+            ("check --json --horizon 100 t p c a", 0),
+            ("energy --json --horizon 100 t p c a", 0),
+            ("merge --json --horizon 100 t p c a b --earlier x --later y", 0),
+            ("check --json --horizon 100 t p t a", 2),
+        ];
+        for (call, status) in calls {
+            is(&folder.object(format!("{call}{words}"), status), "edition", edition);
+        }
+    }
+    assert_eq!(folder.object("row --json --place 50 p", 0).member("edition"), None);
 }
 
 #[test]

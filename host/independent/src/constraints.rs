@@ -4,6 +4,7 @@
 use crate::answers::{Refusal, Rooms};
 use crate::numbers::{id, Whole};
 use crate::rows::judge_length;
+use crate::stated::Edition;
 use crate::tokens::{Placed, Token, Tokens};
 use std::collections::{HashMap, HashSet};
 
@@ -61,10 +62,16 @@ impl Constraints {
 }
 
 /// Reads the constraints. `rows` gives the draft's row for each leg id.
-pub fn read(text: &[u8], rows: &HashMap<u32, u32>, rooms: &Rooms) -> Result<Constraints, Refusal> {
+pub fn read(
+    text: &[u8],
+    edition: Edition,
+    rows: &HashMap<u32, u32>,
+    rooms: &Rooms,
+) -> Result<Constraints, Refusal> {
     judge_length(text, FILE)?;
     let mut reader = Reader {
         tokens: Tokens::of(text),
+        edition,
         rows,
         room_constraints: rooms.constraints / 6,
         room_tracks: rooms.tracks / 2,
@@ -90,14 +97,15 @@ fn list_name(kind: usize) -> &'static str {
     }
 }
 
-/// The keys that a record of each kind must carry.
-fn keys(kind: usize) -> &'static [&'static str] {
-    match kind {
-        1 => &["first_leg_id", "second_leg_id", "min_headway_time"],
-        2 => &["first_leg_id", "second_leg_id"],
-        3 => &["first_leg_id", "second_leg_id", "min_dwell_time"],
-        4 => &["first_leg_id", "second_leg_id", "min_turnaround_time"],
-        5 => &[
+/// The keys that a record of each kind must carry in each edition.
+fn keys(kind: usize, edition: Edition) -> &'static [&'static str] {
+    match (kind, edition) {
+        (1, _) => &["first_leg_id", "second_leg_id", "min_headway_time"],
+        (2, _) => &["first_leg_id", "second_leg_id"],
+        (3, _) => &["first_leg_id", "second_leg_id", "min_dwell_time"],
+        (4, Edition::Table) => &["first_leg_id", "second_leg_id", "min_dwell_time"],
+        (4, Edition::Example) => &["first_leg_id", "second_leg_id", "min_turnaround_time"],
+        (5, _) => &[
             "first_leg_id",
             "second_leg_id",
             "min_connection_time",
@@ -119,6 +127,7 @@ type ReadMember<'m, 'a> = dyn FnMut(&mut Reader<'a>, &'a [u8], usize) -> Result<
 /// The reader: the tokens still to come, and what was read so far.
 struct Reader<'a> {
     tokens: Tokens<'a>,
+    edition: Edition,
     rows: &'a HashMap<u32, u32>,
     room_constraints: usize,
     room_tracks: usize,
@@ -175,17 +184,18 @@ impl<'a> Reader<'a> {
         if self.constraints_seen > self.room_constraints {
             return refuse(16, opening.place);
         }
+        let keys = keys(kind, self.edition);
         let mut values: [Option<u32>; 5] = [None; 5];
         let closing = self.members(&mut |reader, name, place| {
-            let key = key_of(kind, name, place)?;
+            let key = key_of(keys, name, place)?;
             if values[key].is_some() {
                 return refuse(11, place);
             }
             reader.sign(b':')?;
-            values[key] = Some(reader.value(keys(kind)[key])?);
+            values[key] = Some(reader.value(keys[key])?);
             Ok(())
         })?;
-        if values[..keys(kind).len()].contains(&None) {
+        if values[..keys.len()].contains(&None) {
             return refuse(11, closing);
         }
         let value = |key: usize| values[key].unwrap_or(0);
@@ -250,15 +260,16 @@ impl<'a> Reader<'a> {
         if self.read.subnets + 1 > MOST_SUBNETS {
             return refuse(6, opening.place);
         }
+        let keys = keys(6, self.edition);
         let mut seen = [false; 2];
         let closing = self.members(&mut |reader, name, place| {
-            let key = key_of(6, name, place)?;
+            let key = key_of(keys, name, place)?;
             if seen[key] {
                 return refuse(11, place);
             }
             seen[key] = true;
             reader.sign(b':')?;
-            match keys(6)[key] {
+            match keys[key] {
                 "subnet_id" => reader.subnet_id(),
                 _ => reader.track_ids(),
             }
@@ -383,9 +394,9 @@ impl<'a> Reader<'a> {
     }
 }
 
-/// The place of a name among the keys of a kind; "A key of another kind is 10".
-fn key_of(kind: usize, name: &[u8], place: usize) -> Result<usize, Refusal> {
-    match keys(kind).iter().position(|key| key.as_bytes() == name) {
+/// The place of a name among the keys of a record; "A key of another kind is 10", and so is "The other edition's key".
+fn key_of(keys: &[&str], name: &[u8], place: usize) -> Result<usize, Refusal> {
+    match keys.iter().position(|key| key.as_bytes() == name) {
         Some(key) => Ok(key),
         None => refuse(10, place),
     }

@@ -2,6 +2,7 @@
 
 use crate::answers::{Answer, Rooms};
 use crate::files::Files;
+use crate::stated::Stated;
 use crate::tables::Tables;
 use crate::timetable::Leg;
 use crate::verdict::{read_all, verdict};
@@ -55,14 +56,15 @@ pub struct Report {
 
 /// Reads the four texts, judges the solution and, if it is accepted, reckons its energies.
 pub fn energy(
-    h: u32,
+    stated: Stated,
     timetable: &[u8],
     profiles: &[u8],
     constraints: &[u8],
     solution: &[u8],
     rooms: &Rooms,
 ) -> Report {
-    let (files, solution) = match read_all(h, timetable, profiles, constraints, solution, rooms) {
+    let h = stated.horizon;
+    let (files, solution) = match read_all(stated, timetable, profiles, constraints, solution, rooms) {
         Err(refusal) => return report_without_figures(refusal.into(), None),
         Ok(read) => read,
     };

@@ -5,6 +5,7 @@ use crate::display::row_at;
 use crate::energy::{energy, Desk, Figures, Report};
 use crate::lent::Lent;
 use crate::merge::{merge, Direction, Merged};
+use crate::stated::Stated;
 use crate::verdict::check;
 
 /// The public entries.
@@ -31,29 +32,34 @@ impl Entry {
     }
 }
 
-/// H, the texts and how much room is lent.
+/// H, the edition, the texts and how much room is lent.
 #[derive(Clone, Debug, PartialEq, Eq)]
 pub struct Case {
     pub h: u32,
+    pub edition: u32,
     /// Timetable, profiles, constraints, solution, second solution.
     pub texts: [Vec<u8>; 5],
     pub rooms: Rooms,
 }
 
 impl Case {
+    pub fn stated(&self) -> Stated {
+        Stated { horizon: self.h, edition: self.edition }
+    }
+
     pub fn check(&self) -> Checked {
         let [t, p, c, s, _] = &self.texts;
-        check(self.h, t, p, c, s, &self.rooms)
+        check(self.stated(), t, p, c, s, &self.rooms)
     }
 
     pub fn energy(&self) -> Report {
         let [t, p, c, s, _] = &self.texts;
-        energy(self.h, t, p, c, s, &self.rooms)
+        energy(self.stated(), t, p, c, s, &self.rooms)
     }
 
     pub fn merge(&self, direction: Direction) -> Merged {
         let [t, p, c, a, b] = &self.texts;
-        merge(direction, self.h, t, p, c, a, b, &self.rooms)
+        merge(direction, self.stated(), t, p, c, a, b, &self.rooms)
     }
 }
 

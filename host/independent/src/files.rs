@@ -4,6 +4,7 @@
 use crate::answers::{Refusal, Rooms};
 use crate::constraints::{self, Constraints};
 use crate::profiles::{self, Profile};
+use crate::stated::Stated;
 use crate::timetable::{self, Leg};
 use std::collections::HashMap;
 
@@ -15,21 +16,21 @@ pub struct Files {
     pub constraints: Constraints,
 }
 
-/// Judges H, then reads the first three texts in their order.
+/// Judges what is stated, then reads the first three texts in their order.
 pub fn read_files(
-    h: u32,
+    stated: Stated,
     timetable: &[u8],
     profiles: &[u8],
     constraints: &[u8],
     rooms: &Rooms,
 ) -> Result<Files, Refusal> {
-    judge_horizon(h)?;
-    let legs = timetable::read(timetable, h, 1, &|legs, configurations| {
+    let edition = stated.judge()?;
+    let legs = timetable::read(timetable, stated.horizon, 1, &|legs, configurations| {
         legs <= rooms.legs / 8 && configurations <= rooms.configurations / 3
     })?;
     let profiles = profiles::read(profiles, rooms)?;
     judge_profiles_of_legs(&legs, &profiles)?;
-    let constraints = constraints::read(constraints, &rows_by_id(&legs), rooms)?;
+    let constraints = constraints::read(constraints, edition, &rows_by_id(&legs), rooms)?;
     judge_tracks_of_legs(&legs, &constraints)?;
     Ok(Files { legs, profiles, constraints })
 }
@@ -46,15 +47,6 @@ pub fn read_solution(
     let solution = timetable::read(text, h, file, &|legs, _| legs <= room / 3)?;
     judge_rows(&solution, draft, text.len(), file)?;
     Ok(solution)
-}
-
-/// "H 1..176,400"; number 1, file 0, place 0.
-fn judge_horizon(h: u32) -> Result<(), Refusal> {
-    if (1..=176_400).contains(&h) {
-        Ok(())
-    } else {
-        Err(Refusal { number: 1, file: 0, place: 0 })
-    }
 }
 
 /// "12 and 13 over the timetable's rows": every entry of the list counts, and in one row 12 comes

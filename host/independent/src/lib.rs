@@ -1,4 +1,4 @@
-//! An independent program for document 01, with E1 of document 02: it reads the four texts of a metro timetable and
+//! An independent program for document 01, with E1 and E4 of document 02: it reads the four texts of a metro timetable and
 //! answers accepted, the first violation, or a numbered refusal.
 //!
 //! It is written from document 01's sentences in their order, and shares no code and no table
@@ -16,6 +16,7 @@ pub mod merge;
 pub mod numbers;
 pub mod profiles;
 pub mod rows;
+pub mod stated;
 pub mod tables;
 pub mod timetable;
 pub mod tokens;
@@ -27,5 +28,6 @@ pub use energy::{energy, Desk, Figures, Report};
 pub use entries::{Call, Case, Entry, Said};
 pub use lent::Lent;
 pub use merge::{merge, Direction, Merged};
+pub use stated::{Edition, Stated};
 pub use tables::Tables;
 pub use verdict::check;

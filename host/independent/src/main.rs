@@ -1,13 +1,13 @@
 //! The command: runs the library on files. The status is 0 for every answer, and 1 where there is none.
 
 use independent::numbers::Whole;
-use independent::{check, energy, merge, Answer, Direction, Rooms};
+use independent::{check, energy, merge, Answer, Direction, Rooms, Stated};
 use std::io::Write;
 use std::process::ExitCode;
 
-const USAGE: &str = "independent check H T P C S
-independent energy H T P C S
-independent merge earlier|later H T P C A B";
+const USAGE: &str = "independent check H EDITION T P C S
+independent energy H EDITION T P C S
+independent merge earlier|later H EDITION T P C A B";
 
 fn main() -> ExitCode {
     let arguments: Vec<String> = std::env::args().skip(1).collect();
@@ -31,16 +31,16 @@ fn main() -> ExitCode {
 /// What the command prints.
 fn run(words: &[&str]) -> Result<Vec<u8>, String> {
     match words {
-        ["check", h, files @ ..] if files.len() == 4 => {
-            let h = number(h)?;
+        ["check", h, edition, files @ ..] if files.len() == 4 => {
+            let stated = stated(h, edition)?;
             let texts = texts(files)?;
-            let checked = check(h, &texts[0], &texts[1], &texts[2], &texts[3], &ample_rooms());
+            let checked = check(stated, &texts[0], &texts[1], &texts[2], &texts[3], &ample_rooms());
             Ok(line(&checked.answer))
         }
-        ["energy", h, files @ ..] if files.len() == 4 => {
-            let h = number(h)?;
+        ["energy", h, edition, files @ ..] if files.len() == 4 => {
+            let stated = stated(h, edition)?;
             let texts = texts(files)?;
-            let report = energy(h, &texts[0], &texts[1], &texts[2], &texts[3], &ample_rooms());
+            let report = energy(stated, &texts[0], &texts[1], &texts[2], &texts[3], &ample_rooms());
             let figures = report.figures;
             let mut output = line(&report.answer);
             output.extend(
@@ -57,16 +57,16 @@ fn run(words: &[&str]) -> Result<Vec<u8>, String> {
             );
             Ok(output)
         }
-        ["merge", direction, h, files @ ..] if files.len() == 5 => {
+        ["merge", direction, h, edition, files @ ..] if files.len() == 5 => {
             let direction = match *direction {
                 "earlier" => Direction::Earlier,
                 "later" => Direction::Later,
                 _ => return Err(String::from(USAGE)),
             };
-            let h = number(h)?;
+            let stated = stated(h, edition)?;
             let t = texts(files)?;
             let merged =
-                merge(direction, h, &t[0], &t[1], &t[2], &t[3], &t[4], &ample_rooms());
+                merge(direction, stated, &t[0], &t[1], &t[2], &t[3], &t[4], &ample_rooms());
             let mut output = line(&merged.answer);
             output.extend(merged.text.unwrap_or_default());
             Ok(output)
@@ -85,10 +85,14 @@ fn line(answer: &Answer) -> Vec<u8> {
     format!("{}\n", answer.line()).into_bytes()
 }
 
-/// H from the command's words, a whole number. One past 32 bits is out of range, as the greatest
-/// of 32 bits is.
-fn number(word: &str) -> Result<u32, String> {
-    let whole = Whole::parse(word.as_bytes()).ok_or_else(|| format!("H is no whole number: {word:?}"))?;
+fn stated(h: &str, edition: &str) -> Result<Stated, String> {
+    Ok(Stated { horizon: number("H", h)?, edition: number("EDITION", edition)? })
+}
+
+/// A whole number of the command's words. One past 32 bits is out of range or not known, as the
+/// greatest of 32 bits is.
+fn number(name: &str, word: &str) -> Result<u32, String> {
+    let whole = Whole::parse(word.as_bytes()).ok_or_else(|| format!("{name} is no whole number: {word:?}"))?;
     Ok(whole.at_most(u32::MAX).unwrap_or(u32::MAX))
 }
 

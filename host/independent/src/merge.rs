@@ -3,6 +3,7 @@
 use crate::answers::{Answer, Refusal, Rooms};
 use crate::files::{read_files, read_solution, Files};
 use crate::rows::LONGEST_TEXT;
+use crate::stated::Stated;
 use crate::tables::{choices, Tables};
 use crate::timetable::{Configuration, Leg, HEADER};
 use crate::verdict::verdict;
@@ -26,7 +27,7 @@ pub struct Merged {
 #[allow(clippy::too_many_arguments)]
 pub fn merge(
     direction: Direction,
-    h: u32,
+    stated: Stated,
     timetable: &[u8],
     profiles: &[u8],
     constraints: &[u8],
@@ -34,7 +35,7 @@ pub fn merge(
     second: &[u8],
     rooms: &Rooms,
 ) -> Merged {
-    let read = read_both(h, timetable, profiles, constraints, first, second, rooms);
+    let read = read_both(stated, timetable, profiles, constraints, first, second, rooms);
     let (files, first, second) = match read {
         Err(refusal) => return Merged { answer: refusal.into(), tables: None, text: None },
         Ok(read) => read,
@@ -61,7 +62,7 @@ pub fn merge(
 
 /// The files and both solutions, read without refusal, or the first refusal.
 fn read_both(
-    h: u32,
+    stated: Stated,
     timetable: &[u8],
     profiles: &[u8],
     constraints: &[u8],
@@ -69,9 +70,9 @@ fn read_both(
     second: &[u8],
     rooms: &Rooms,
 ) -> Result<(Files, Vec<Leg>, Vec<Leg>), Refusal> {
-    let files = read_files(h, timetable, profiles, constraints, rooms)?;
-    let first = read_solution(h, first, 4, rooms.choices, &files.legs)?;
-    let second = read_solution(h, second, 5, rooms.second_choices, &files.legs)?;
+    let files = read_files(stated, timetable, profiles, constraints, rooms)?;
+    let first = read_solution(stated.horizon, first, 4, rooms.choices, &files.legs)?;
+    let second = read_solution(stated.horizon, second, 5, rooms.second_choices, &files.legs)?;
     Ok((files, first, second))
 }
 

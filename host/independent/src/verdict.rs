@@ -3,19 +3,20 @@
 use crate::answers::{Answer, Checked, Refusal, Rooms};
 use crate::constraints::Constraint;
 use crate::files::{read_files, read_solution, Files};
+use crate::stated::Stated;
 use crate::tables::Tables;
 use crate::timetable::Leg;
 
 /// Reads the four texts and judges the solution.
 pub fn check(
-    h: u32,
+    stated: Stated,
     timetable: &[u8],
     profiles: &[u8],
     constraints: &[u8],
     solution: &[u8],
     rooms: &Rooms,
 ) -> Checked {
-    match read_all(h, timetable, profiles, constraints, solution, rooms) {
+    match read_all(stated, timetable, profiles, constraints, solution, rooms) {
         Err(refusal) => Checked { answer: refusal.into(), tables: None },
         Ok((files, solution)) => Checked {
             answer: verdict(&files, &solution, 4),
@@ -26,15 +27,15 @@ pub fn check(
 
 /// The four texts, read without refusal, or the first refusal.
 pub fn read_all(
-    h: u32,
+    stated: Stated,
     timetable: &[u8],
     profiles: &[u8],
     constraints: &[u8],
     solution: &[u8],
     rooms: &Rooms,
 ) -> Result<(Files, Vec<Leg>), Refusal> {
-    let files = read_files(h, timetable, profiles, constraints, rooms)?;
-    let solution = read_solution(h, solution, 4, rooms.choices, &files.legs)?;
+    let files = read_files(stated, timetable, profiles, constraints, rooms)?;
+    let solution = read_solution(stated.horizon, solution, 4, rooms.choices, &files.legs)?;
     Ok((files, solution))
 }
 

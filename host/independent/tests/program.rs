@@ -8,7 +8,11 @@ fn run(words: &[&str]) -> Output {
 }
 
 fn check(h: &str, constraints: &str, solution: &str) -> Output {
-    run(&["check", h, "timetable.csv", "profiles.csv", constraints, solution])
+    check_in(h, "2", constraints, solution)
+}
+
+fn check_in(h: &str, edition: &str, constraints: &str, solution: &str) -> Output {
+    run(&["check", h, edition, "timetable.csv", "profiles.csv", constraints, solution])
 }
 
 #[test]
@@ -27,12 +31,27 @@ fn an_answer_is_a_line() {
 }
 
 #[test]
+fn an_edition_is_stated() {
+    for (edition, constraints, line) in [
+        ("1", "turnaround-edition-1.json", "accepted"),
+        ("2", "turnaround-edition-2.json", "accepted"),
+        ("2", "turnaround-edition-1.json", "refused 10 3 193"),
+        ("1", "turnaround-edition-2.json", "refused 10 3 193"),
+        ("3", "turnaround-edition-2.json", "refused 21 0 0"),
+        ("4294967298", "turnaround-edition-2.json", "refused 21 0 0"),
+    ] {
+        let output = check_in("100", edition, constraints, "solution-nominal.csv");
+        assert_eq!((output.status.code(), output.stdout), (Some(0), format!("{line}\n").into_bytes()), "{edition} {constraints}");
+    }
+}
+
+#[test]
 fn figures_and_texts_follow_the_answer() {
-    let energy = run(&["energy", "100", "timetable.csv", "profiles.csv", "constraints.json", "timetable.csv"]);
+    let energy = run(&["energy", "100", "2", "timetable.csv", "profiles.csv", "constraints.json", "timetable.csv"]);
     let figures = "accepted\nbefore 2050 drawn 2050 lost 600 fluctuation 1400 peak_before 2050 peak_drawn 2050\n";
     assert_eq!((energy.status.code(), energy.stdout), (Some(0), figures.as_bytes().to_vec()));
     let solutions = ["solution-15-40.csv", "solution-10-45.csv"];
-    let merged = run(&["merge", "later", "100", "timetable.csv", "profiles.csv", "constraints.json", solutions[0], solutions[1]]);
+    let merged = run(&["merge", "later", "100", "2", "timetable.csv", "profiles.csv", "constraints.json", solutions[0], solutions[1]]);
     let text = [&b"accepted\n"[..], include_bytes!("../../../examples/solution-15-45.csv")].concat();
     assert_eq!((merged.status.code(), merged.stdout), (Some(0), text));
 }
@@ -43,7 +62,8 @@ fn what_cannot_be_asked_has_no_answer() {
         let output = check(h, "constraints.json", "solution-15-40.csv");
         assert_eq!((output.status.code(), &output.stdout[..]), (Some(1), &b""[..]), "{h}");
     }
-    for output in [check("100", "missing.json", "solution-15-40.csv"), run(&["check", "100"]), run(&[])] {
+    let no_edition = check_in("100", "02", "constraints.json", "solution-15-40.csv");
+    for output in [no_edition, check("100", "missing.json", "solution-15-40.csv"), run(&["check", "100"]), run(&[])] {
         assert_eq!((output.status.code(), &output.stdout[..]), (Some(1), &b""[..]), "{output:?}");
         assert!(!output.stderr.is_empty());
     }

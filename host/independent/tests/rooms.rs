@@ -11,6 +11,7 @@ fn run(texts: &Texts, entry: Entry) -> (Said, Lent) {
     let texts = texts.clone();
     let case = Case {
         h: texts.h,
+        edition: texts.edition,
         texts: [texts.timetable, texts.profiles, texts.constraints, texts.solution, texts.second],
         rooms: Rooms::all(300),
     };

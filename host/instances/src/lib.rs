@@ -17,6 +17,6 @@ mod worst;
 
 pub use aim::{Aim, Violated};
 pub use plan::{Choices, Leg, Offer, Plan, Record};
-pub use shape::{Ids, Shape, Style};
+pub use shape::{Edition, Ids, Shape, Style};
 pub use text::{exported, indented};
 pub use worst::Worst;

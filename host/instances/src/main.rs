@@ -1,15 +1,16 @@
 //! Writes an instance to a folder, with solutions and with one variant for each violation, and prints the answers to expect.
 
-use instances::{exported, indented, Aim, Choices, Ids, Plan, Shape, Style, Worst};
+use instances::{exported, indented, Aim, Choices, Edition, Ids, Plan, Shape, Style, Worst};
 use std::fs;
 use std::path::Path;
 use std::process::ExitCode;
 
 const USAGE: &str = "\
-instances FOLDER [--style underground|railway] [--legs N] [--worst] [--seed S] [--shuffled] [--exported] [--indented]
+instances FOLDER [--style underground|railway] [--legs N] [--worst] [--seed S] [--edition 1|2] [--shuffled] [--exported] [--indented]
 
-Without --legs, the largest instance of the style. With --worst, the worst file that document 01 allows, of no style, without violations. With --exported, CSV files
-as a spreadsheet exports them: every field in quotes, CR LF at every line. With --indented, constraints with each member on a line of its own.
+Without --legs, the largest instance of the style; without --edition, 2, in which a turnaround has min_turnaround_time. With --worst, the worst file that document
+01 allows, of no style, without turnarounds or violations. With --exported, CSV files as a spreadsheet exports them: every field in quotes, CR LF at every line. With
+--indented, constraints with each member on a line of its own.
 ";
 
 fn main() -> ExitCode {
@@ -35,6 +36,7 @@ struct Asked<'a> {
     worst: bool,
     seed: u64,
     ids: Ids,
+    edition: Edition,
     exported: bool,
     indented: bool,
 }
@@ -42,7 +44,8 @@ struct Asked<'a> {
 fn asked(words: &[String]) -> Option<Asked<'_>> {
     let (folder, options) = words.split_first()?;
     let (folder, style, ids) = (Path::new(folder), Style::Underground, Ids::InOrder);
-    let mut asked = Asked { folder, style, legs: None, worst: false, seed: 1, ids, exported: false, indented: false };
+    let mut asked =
+        Asked { folder, style, legs: None, worst: false, seed: 1, ids, edition: Edition::Example, exported: false, indented: false };
     let mut options = options.iter();
     while let Some(option) = options.next() {
         match option.as_str() {
@@ -50,6 +53,7 @@ fn asked(words: &[String]) -> Option<Asked<'_>> {
             "--legs" => asked.legs = Some(options.next()?.parse().ok().filter(|legs| *legs > 1)?),
             "--worst" => asked.worst = true,
             "--seed" => asked.seed = options.next()?.parse().ok()?,
+            "--edition" => asked.edition = self::edition(options.next()?)?,
             "--shuffled" => asked.ids = Ids::Shuffled,
             "--exported" => asked.exported = true,
             "--indented" => asked.indented = true,
@@ -69,7 +73,7 @@ impl Asked<'_> {
             (None, Style::Underground) => Shape::largest_underground(),
             (None, Style::Railway) => Shape::largest_railway(),
         };
-        Plan::new(shape.seeded(self.seed).with_ids(self.ids))
+        Plan::new(shape.seeded(self.seed).with_ids(self.ids).in_edition(self.edition))
     }
 
     /// A CSV file or constraints, spelled as is asked for.
@@ -88,13 +92,17 @@ fn style(name: &str) -> Option<Style> {
     }
 }
 
+fn edition(number: &str) -> Option<Edition> {
+    [Edition::Table, Edition::Example].into_iter().find(|edition| edition.number().to_string() == number)
+}
+
 fn write(asked: &Asked) -> Result<String, String> {
     fs::create_dir_all(asked.folder).map_err(|error| format!("{}: {error}\n", asked.folder.display()))?;
     let plan = asked.plan();
     asked.put("timetable.csv", &plan.timetable())?;
     asked.put("profiles.csv", &plan.profiles_text())?;
     asked.put("constraints.json", &plan.constraints())?;
-    let mut expected = format!("horizon {}\n", plan.horizon());
+    let mut expected = format!("horizon {}\nedition {}\n", plan.horizon(), plan.edition().number());
     let faster = plan.choose(Choices::Faster(asked.seed));
     for (name, solution) in [
         ("moved", plan.solution(&plan.choose(Choices::Moved(asked.seed)))),

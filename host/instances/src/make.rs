@@ -96,7 +96,7 @@ struct Maker {
 impl Maker {
     fn new(shape: Shape) -> Maker {
         let measures = Measures::of(shape.style);
-        let plan = Plan::empty(shape.style, shape.style.horizon());
+        let plan = Plan::empty(shape.style, shape.edition, shape.style.horizon());
         let mut maker = Maker { dice: Dice::new(shape.seed), shape, measures, sections: Vec::new(), plan };
         let starts = (maker.measures.day.1 - maker.measures.day.0) / maker.measures.spacing;
         let lines = shape.trains / (2 * starts as usize) + 1;

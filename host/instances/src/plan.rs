@@ -1,7 +1,7 @@
 //! An instance before it is text.
 
 use crate::dice::Dice;
-use crate::shape::Style;
+use crate::shape::{Edition, Style};
 
 /// A configuration: `d_t_p`.
 #[derive(Clone, Copy, Debug, PartialEq, Eq)]
@@ -42,6 +42,7 @@ pub struct Record {
 pub struct Plan {
     /// By which departures are offered around the nominal.
     style: Style,
+    edition: Edition,
     horizon: u32,
     pub legs: Vec<Leg>,
     /// The records of kinds 1 to 5.
@@ -64,8 +65,12 @@ pub enum Choices {
 
 impl Plan {
     /// One with nothing in it.
-    pub(crate) fn empty(style: Style, horizon: u32) -> Plan {
-        Plan { style, horizon, legs: Vec::new(), records: Default::default(), profiles: Vec::new(), subnets: Vec::new() }
+    pub(crate) fn empty(style: Style, edition: Edition, horizon: u32) -> Plan {
+        Plan { style, edition, horizon, legs: Vec::new(), records: Default::default(), profiles: Vec::new(), subnets: Vec::new() }
+    }
+
+    pub fn edition(&self) -> Edition {
+        self.edition
     }
 
     pub fn horizon(&self) -> u32 {

@@ -50,6 +50,28 @@ impl Ids {
     }
 }
 
+/// The edition of constraints.json, which decides the key of a turnaround.
+#[derive(Clone, Copy, Debug, PartialEq, Eq)]
+pub enum Edition {
+    /// By Table 3 of document 000.
+    Table = 1,
+    /// By that document's example, and by 001.
+    Example = 2,
+}
+
+impl Edition {
+    pub fn number(self) -> u32 {
+        self as u32
+    }
+
+    pub fn turnaround_key(self) -> &'static str {
+        match self {
+            Edition::Table => "min_dwell_time",
+            Edition::Example => "min_turnaround_time",
+        }
+    }
+}
+
 /// How much of everything; a record of each dwell there can be comes by itself.
 #[derive(Clone, Copy, Debug, PartialEq, Eq)]
 pub struct Shape {
@@ -61,6 +83,7 @@ pub struct Shape {
     pub turnarounds: usize,
     pub connections: usize,
     pub ids: Ids,
+    pub edition: Edition,
     pub seed: u64,
 }
 
@@ -76,6 +99,7 @@ impl Shape {
             turnarounds: 1_442,
             connections: 152,
             ids: Ids::InOrder,
+            edition: Edition::Example,
             seed: 1,
         }
     }
@@ -91,6 +115,7 @@ impl Shape {
             turnarounds: 0,
             connections: 13_136,
             ids: Ids::InOrder,
+            edition: Edition::Example,
             seed: 1,
         }
     }
@@ -119,5 +144,9 @@ impl Shape {
 
     pub fn with_ids(self, ids: Ids) -> Shape {
         Shape { ids, ..self }
+    }
+
+    pub fn in_edition(self, edition: Edition) -> Shape {
+        Shape { edition, ..self }
     }
 }

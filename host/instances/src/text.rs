@@ -131,7 +131,7 @@ impl Plan {
             1 => put_seconds(text, "min_headway_time", record.low),
             2 => {}
             3 => put_seconds(text, "min_dwell_time", record.low),
-            4 => put_seconds(text, "min_turnaround_time", record.low),
+            4 => put_seconds(text, self.edition().turnaround_key(), record.low),
             _ => {
                 put_seconds(text, "min_connection_time", record.low);
                 put_seconds(text, "max_connection_time", record.high);

@@ -4,7 +4,7 @@
 use crate::dice::Dice;
 use crate::make::split;
 use crate::plan::{Leg, Offer, Plan, Record};
-use crate::shape::{Ids, Style};
+use crate::shape::{Edition, Ids, Style};
 
 /// How much of everything.
 #[derive(Clone, Copy, Debug, PartialEq, Eq)]
@@ -64,7 +64,7 @@ const APART: usize = (SLACK / STYLE.step()) as usize;
 
 impl Plan {
     pub fn worst(size: Worst) -> Plan {
-        let mut maker = Maker { dice: Dice::new(size.seed), size, plan: Plan::empty(STYLE, HORIZON) };
+        let mut maker = Maker { dice: Dice::new(size.seed), size, plan: Plan::empty(STYLE, Edition::Example, HORIZON) };
         maker.profiles();
         maker.legs();
         maker.headways();

@@ -1,10 +1,10 @@
 //! Every instance reads, its solutions are accepted, and each aimed violation is the one that is found: by the independent program.
 
-use independent::{check, energy, merge, Answer, Direction, Rooms};
-use instances::{exported, indented, Aim, Choices, Ids, Plan, Shape, Style, Worst};
+use independent::{check, energy, merge, Answer, Direction, Rooms, Stated};
+use instances::{exported, indented, Aim, Choices, Edition, Ids, Plan, Shape, Style, Worst};
 
 struct Texts {
-    h: u32,
+    stated: Stated,
     timetable: String,
     profiles: String,
     constraints: String,
@@ -12,12 +12,13 @@ struct Texts {
 
 impl Texts {
     fn of(plan: &Plan) -> Texts {
-        Texts { h: plan.horizon(), timetable: plan.timetable(), profiles: plan.profiles_text(), constraints: plan.constraints() }
+        let stated = Stated { horizon: plan.horizon(), edition: plan.edition().number() };
+        Texts { stated, timetable: plan.timetable(), profiles: plan.profiles_text(), constraints: plan.constraints() }
     }
 
     fn check(&self, constraints: &str, solution: &str) -> Answer {
         let (timetable, profiles) = (self.timetable.as_bytes(), self.profiles.as_bytes());
-        check(self.h, timetable, profiles, constraints.as_bytes(), solution.as_bytes(), &ample()).answer
+        check(self.stated, timetable, profiles, constraints.as_bytes(), solution.as_bytes(), &ample()).answer
     }
 }
 
@@ -98,6 +99,21 @@ fn exported_solutions_are_accepted() {
     }
 }
 
+/// The other edition has another key for turnarounds and says the same; under the edition of the other it is not read.
+#[test]
+fn each_edition_is_accepted_as_itself() {
+    let texts =
+        [Edition::Table, Edition::Example].map(|edition| Texts::of(&Plan::new(Shape::of(Style::Underground, 40).in_edition(edition))));
+    for (one, other) in [(&texts[0], &texts[1]), (&texts[1], &texts[0])] {
+        assert_eq!(one.check(&one.constraints, &one.timetable), Answer::Accepted);
+        assert!(matches!(one.check(&other.constraints, &one.timetable), Answer::Refused { number: 10, file: 3, .. }));
+    }
+    assert_eq!(
+        texts[0].constraints.replace("min_dwell_time", ""),
+        texts[1].constraints.replace("min_turnaround_time", "").replace("min_dwell_time", "")
+    );
+}
+
 #[test]
 fn solutions_differ() {
     for shape in shapes().into_iter().filter(|shape| shape.legs > 7) {
@@ -118,7 +134,8 @@ fn moved_solutions_can_be_merged() {
         let texts = Texts::of(&plan);
         let [first, second] = [1, 2].map(|seed| plan.solution(&plan.choose(Choices::Moved(seed))));
         let (timetable, profiles, constraints) = (texts.timetable.as_bytes(), texts.profiles.as_bytes(), texts.constraints.as_bytes());
-        let merged = merge(Direction::Earlier, texts.h, timetable, profiles, constraints, first.as_bytes(), second.as_bytes(), &ample());
+        let merged =
+            merge(Direction::Earlier, texts.stated, timetable, profiles, constraints, first.as_bytes(), second.as_bytes(), &ample());
         assert_eq!(merged.answer, Answer::Accepted, "{shape:?}");
     }
 }
@@ -173,7 +190,7 @@ fn the_largest_are_accepted() {
         let plan = Plan::new(shape);
         let texts = Texts::of(&plan);
         let (timetable, profiles, constraints) = (texts.timetable.as_bytes(), texts.profiles.as_bytes(), texts.constraints.as_bytes());
-        let report = energy(texts.h, timetable, profiles, constraints, timetable, &ample());
+        let report = energy(texts.stated, timetable, profiles, constraints, timetable, &ample());
         assert_eq!(report.answer, Answer::Accepted);
         let figures = report.figures;
         assert!(0 < figures.lost && figures.lost < figures.drawn && figures.drawn < figures.before, "{figures:?}");

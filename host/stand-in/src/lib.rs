@@ -3,7 +3,7 @@
 
 #![allow(non_upper_case_globals)]
 
-use independent::{check, energy, merge, row_at, Answer, Direction, Lent, Rooms};
+use independent::{check, energy, merge, row_at, Answer, Direction, Lent, Rooms, Stated};
 
 /// By this name an archive of the stand-in is known, and not linked to what a user runs.
 #[no_mangle]
@@ -77,7 +77,7 @@ fn numbers(answer: &Answer, accepted: &[u64]) -> Numbers {
     numbers
 }
 
-/// An export of H, its texts (each with its length), its tables (each with its room) and what it answers.
+/// An export of what is stated, its texts (each with its length), its tables (each with its room) and what it answers.
 macro_rules! entry {
     ($export:ident, $work:expr; $($text:ident $length:ident),*; $($table:ident $room:ident $number:ty),*) => {
         /// As include/wagontulip.h says.
@@ -89,26 +89,27 @@ macro_rules! entry {
         #[allow(clippy::too_many_arguments)]
         pub unsafe extern "C" fn $export(
             h: u32,
+            edition: u32,
             $($text: *const u8, $length: usize,)*
             $($table: *mut $number, $room: usize,)*
             answer: *mut Numbers,
         ) {
             // A copy of the tables, with those that the entry does not have empty.
             let mut lent = Lent { $($table: table($table, $room).to_vec(),)* ..Lent::full_of(0, &Rooms::all(0)) };
-            *answer = $work(h, [$(bytes($text, $length)),*], &mut lent);
+            *answer = $work(Stated { horizon: h, edition }, [$(bytes($text, $length)),*], &mut lent);
             $(table($table, $room).copy_from_slice(&lent.$table);)*
         }
     };
 }
 
-fn checked(h: u32, [timetable, profiles, constraints, solution]: [&[u8]; 4], lent: &mut Lent) -> Numbers {
-    let checked = check(h, timetable, profiles, constraints, solution, &rooms(lent));
+fn checked(stated: Stated, [timetable, profiles, constraints, solution]: [&[u8]; 4], lent: &mut Lent) -> Numbers {
+    let checked = check(stated, timetable, profiles, constraints, solution, &rooms(lent));
     lent.leave_checked(&checked);
     numbers(&checked.answer, &[])
 }
 
-fn reported(h: u32, [timetable, profiles, constraints, solution]: [&[u8]; 4], lent: &mut Lent) -> Numbers {
-    let report = energy(h, timetable, profiles, constraints, solution, &rooms(lent));
+fn reported(stated: Stated, [timetable, profiles, constraints, solution]: [&[u8]; 4], lent: &mut Lent) -> Numbers {
+    let report = energy(stated, timetable, profiles, constraints, solution, &rooms(lent));
     lent.leave_reported(&report);
     let figures = report.figures;
     let kj = [figures.before, figures.drawn, figures.lost, figures.fluctuation, figures.peak_before, figures.peak_drawn];
@@ -118,18 +119,18 @@ fn reported(h: u32, [timetable, profiles, constraints, solution]: [&[u8]; 4], le
     numbers(&report.answer, &given)
 }
 
-fn merged(direction: Direction, h: u32, [timetable, profiles, constraints, first, second]: [&[u8]; 5], lent: &mut Lent) -> Numbers {
-    let merged = merge(direction, h, timetable, profiles, constraints, first, second, &rooms(lent));
+fn merged(direction: Direction, stated: Stated, [timetable, profiles, constraints, first, second]: [&[u8]; 5], lent: &mut Lent) -> Numbers {
+    let merged = merge(direction, stated, timetable, profiles, constraints, first, second, &rooms(lent));
     lent.leave_merged(&merged);
     numbers(&merged.answer, &[merged.text.map_or(0, |text| text.len() as u64)])
 }
 
-fn merged_earlier(h: u32, texts: [&[u8]; 5], lent: &mut Lent) -> Numbers {
-    merged(Direction::Earlier, h, texts, lent)
+fn merged_earlier(stated: Stated, texts: [&[u8]; 5], lent: &mut Lent) -> Numbers {
+    merged(Direction::Earlier, stated, texts, lent)
 }
 
-fn merged_later(h: u32, texts: [&[u8]; 5], lent: &mut Lent) -> Numbers {
-    merged(Direction::Later, h, texts, lent)
+fn merged_later(stated: Stated, texts: [&[u8]; 5], lent: &mut Lent) -> Numbers {
+    merged(Direction::Later, stated, texts, lent)
 }
 
 entry!(wagontulip_check, checked;

@@ -6,7 +6,7 @@ use Rattle.constraints.proofs.read_constraints.Statement.{statement}
 use Rattle.constraints.proofs.read_constraints.Tie as tie
 
 returns : tie.Need-returns
-returns c = reads-long (now (c .before .before .before .before .before .args .text)) (now (c .before .before .before .before .before .args .legs)) (c .before .before .before .before .before .args .n) (now (c .before .before .before .before .before .args .constraints)) (now (c .before .before .before .before .before .args .tracks)) (c .if1 .taken)
+returns c = reads-long (c .before .before .before .before .before .args .rules) (now (c .before .before .before .before .before .args .text)) (now (c .before .before .before .before .before .args .legs)) (c .before .before .before .before .before .args .n) (now (c .before .before .before .before .before .args .constraints)) (now (c .before .before .before .before .before .args .tracks)) (c .if1 .taken)
 
 rising-of-requires : tie.Need-rising-of-requires
 rising-of-requires c κs = search needs
@@ -30,7 +30,7 @@ in-order-requires c κs =
     let given = c .before .before .before .before .before .before .before .before .before .before .before .before .before .before .before .before .before .before .before .args in
     let if1 = c .before .before .before .before .before .before .before .before .before .before .before .before .before .before .if1 in
     let walk = c .before .before .before .before .before .before .before .before .before .walk in
-    long-enough (now (given .text)) (now (given .legs)) (given .n) (now (given .constraints)) (now (given .tracks)) (if1 .left) _ (walk .last .1 .1 .1 .1 .1 .1 .0) (walk .last .1 .1 .1 .1 .0) (walk .last .1 .1 .1 .1 .1 .0) (walk .ensures) _ (c .before .before .seen .given .1) (walk .kept .1 .1 .1 .1 .0)
+    long-enough (given .rules) (now (given .text)) (now (given .legs)) (given .n) (now (given .constraints)) (now (given .tracks)) (if1 .left) _ (walk .last .1 .1 .1 .1 .1 .1 .1 .0) (walk .last .1 .1 .1 .1 .1 .0) (walk .last .1 .1 .1 .1 .1 .1 .0) (walk .ensures) _ (c .before .before .seen .given .1) (walk .kept .1 .1 .1 .1 .1 .0)
 
 same-length : tie.Need-same-length
 same-length c = search needs
@@ -44,7 +44,7 @@ returns-2 c =
     let if1 = c .before .before .before .before .before .before .before .before .before .before .before .before .before .before .before .before .if1 in
     let walk = c .before .before .before .before .before .before .before .before .before .before .before .walk in
     let seen = c .before .before .before .before .seen in
-    reads-once (now (given .text)) (now (given .legs)) (given .n) (now (given .constraints)) (now (given .tracks)) (if1 .left) _ (walk .last .1 .1 .1 .1 .1 .1 .0) (walk .last .1 .1 .1 .1 .0) (walk .last .1 .1 .1 .1 .1 .0) (walk .ensures) _ (seen .given .1) (c .before .in-order .ensures (c .if2 .taken))
+    reads-once (given .rules) (now (given .text)) (now (given .legs)) (given .n) (now (given .constraints)) (now (given .tracks)) (if1 .left) _ (walk .last .1 .1 .1 .1 .1 .1 .1 .0) (walk .last .1 .1 .1 .1 .1 .0) (walk .last .1 .1 .1 .1 .1 .1 .0) (walk .ensures) _ (seen .given .1) (c .before .in-order .ensures (c .if2 .taken))
 
 starts-of-requires : tie.Need-starts-of-requires
 starts-of-requires c κs =
@@ -52,7 +52,7 @@ starts-of-requires c κs =
     let if1 = c .before .before .before .before .before .before .before .before .before .before .before .before .before .before .before .before .if1 in
     let walk = c .before .before .before .before .before .before .before .before .before .before .before .walk in
     let seen = c .before .before .before .before .seen in
-    few-counted (now (given .text)) (now (given .legs)) (given .n) (now (given .constraints)) (now (given .tracks)) (if1 .left) _ (walk .last .1 .1 .1 .1 .1 .1 .0) (walk .last .1 .1 .1 .1 .0) (walk .last .1 .1 .1 .1 .1 .0) (walk .ensures) _ (seen .given .1)
+    few-counted (given .rules) (now (given .text)) (now (given .legs)) (given .n) (now (given .constraints)) (now (given .tracks)) (if1 .left) _ (walk .last .1 .1 .1 .1 .1 .1 .1 .0) (walk .last .1 .1 .1 .1 .1 .0) (walk .last .1 .1 .1 .1 .1 .1 .0) (walk .ensures) _ (seen .given .1)
 
 slice-aggregate-walk-2 : tie.Need-slice-aggregate-walk-2
 slice-aggregate-walk-2 c = search needs
@@ -65,7 +65,7 @@ walk-requires-2 c κs =
     let rising = c .before .before .before .before .before .before .before .before .before .before .before .before .before .before .before .before .before .before .before .rising-of in
     let walk = c .before .before .before .before .before .before .before .before .before .before .before .before .before .before .before .walk in
     let seen = c .before .before .before .before .before .before .before .before .seen in
-    able-second _ _ _ _ (walk .last .1 .1 .1 .1 .1 .1 .0) _ (if1 .left) (asked .0) (asked .1) (rising .ensures) (few-counted (now (given .text)) (now (given .legs)) (given .n) (now (given .constraints)) (now (given .tracks)) (if1 .left) _ (walk .last .1 .1 .1 .1 .1 .1 .0) (walk .last .1 .1 .1 .1 .0) (walk .last .1 .1 .1 .1 .1 .0) (walk .ensures) _ (seen .given .1)) (c .before .before .before .starts-of .ensures)
+    able-second _ _ _ _ (walk .last .1 .1 .1 .1 .1 .1 .1 .0) _ (if1 .left) (asked .0) (asked .1) (rising .ensures) (few-counted (given .rules) (now (given .text)) (now (given .legs)) (given .n) (now (given .constraints)) (now (given .tracks)) (if1 .left) _ (walk .last .1 .1 .1 .1 .1 .1 .1 .0) (walk .last .1 .1 .1 .1 .1 .0) (walk .last .1 .1 .1 .1 .1 .1 .0) (walk .ensures) _ (seen .given .1)) (c .before .before .before .starts-of .ensures)
 
 same-length-3 : tie.Need-same-length-3
 same-length-3 c = search needs
@@ -78,7 +78,7 @@ returns-3 c =
     let given = c .before .before .before .before .before .before .before .before .before .before .before .before .before .before .before .before .before .before .args in
     let if1 = c .before .before .before .before .before .before .before .before .before .before .before .before .before .if1 in
     let walk = c .before .before .before .before .before .before .before .before .walk in
-    reads-refused (now (given .text)) (now (given .legs)) (given .n) (now (given .constraints)) (now (given .tracks)) (if1 .left) _ (walk .last .1 .1 .1 .1 .1 .1 .0) (walk .last .1 .1 .1 .1 .0) (walk .last .1 .1 .1 .1 .1 .0) (walk .ensures) _ _ (c .before .number .given .1)
+    reads-refused (given .rules) (now (given .text)) (now (given .legs)) (given .n) (now (given .constraints)) (now (given .tracks)) (if1 .left) _ (walk .last .1 .1 .1 .1 .1 .1 .1 .0) (walk .last .1 .1 .1 .1 .1 .0) (walk .last .1 .1 .1 .1 .1 .1 .0) (walk .ensures) _ _ (c .before .number .given .1)
 
 same-length-5 : tie.Need-same-length-5
 same-length-5 c = search needs
@@ -94,7 +94,7 @@ returns-4 c =
     let seen = c .before .before .before .before .before .before .before .before .before .before .before .before .before .before .seen in
     let starts-of = c .before .before .before .before .before .before .before .before .before .starts-of in
     let walk2 = c .before .before .before .before .before .walk2 in
-    reads-whole (now (given .text)) (now (given .legs)) (given .n) (now (given .constraints)) (now (given .tracks)) (if1 .left) _ (walk .last .1 .1 .1 .1 .1 .1 .0) (walk .last .1 .1 .1 .1 .0) (walk .last .1 .1 .1 .1 .1 .0) (walk .ensures) _ (seen .given .1) _ _ (walk2 .last .1 .1 .1 .1 .1 .1 .0) (walk2 .last .1 .1 .1 .1 .0) (walk2 .last .1 .1 .1 .1 .1 .0) (starts-of .ensures) (walk .kept .1 .1 .1 .1 .0) (walk .kept .1 .1 .1 .1 .1 .0) (walk2 .ensures)
+    reads-whole (given .rules) (now (given .text)) (now (given .legs)) (given .n) (now (given .constraints)) (now (given .tracks)) (if1 .left) _ (walk .last .1 .1 .1 .1 .1 .1 .1 .0) (walk .last .1 .1 .1 .1 .1 .0) (walk .last .1 .1 .1 .1 .1 .1 .0) (walk .ensures) _ (seen .given .1) _ _ (walk2 .last .1 .1 .1 .1 .1 .1 .1 .0) (walk2 .last .1 .1 .1 .1 .1 .0) (walk2 .last .1 .1 .1 .1 .1 .1 .0) (starts-of .ensures) (walk .kept .1 .1 .1 .1 .1 .0) (walk .kept .1 .1 .1 .1 .1 .1 .0) (walk2 .ensures)
 
 pub read-constraints-spec : {M : Type 1} → statement M
 read-constraints-spec =

@@ -53,7 +53,7 @@ read-rules-requires c κs =
     let read-powers = c .before .before .before .before .before .before .before .before .before .read-powers in
     let power = c .before .before .before .before .power in
     let s = (c .before .before .before .before .before .before .before .before .before .before .before .before .before .before .before .before .before .before .before .before .before .before .before .before .before .before .before .before .before .before .before .before) .args in
-    rules-drafted (s .h) (s .timetable .now) (s .profiles .now) (s .constraints .now) (s .legs .now) (s .configurations .now) (s .profile-table .now) (s .samples .now) (s .constraint-table .now)
+    rules-drafted (s .stated) (s .timetable .now) (s .profiles .now) (s .constraints .now) (s .legs .now) (s .configurations .now) (s .profile-table .now) (s .samples .now) (s .constraint-table .now)
     (s .tracks .now) (read-draft .ensures) (draft .given .1) (read-powers .ensures) (power .given .1)
 
 same-length-7 : tie.Need-same-length-7

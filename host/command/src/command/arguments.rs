@@ -2,16 +2,18 @@
 
 mod help;
 mod number;
+mod stated;
 mod words;
 
 use super::CouldNotRun;
 use std::ffi::{OsStr, OsString};
 use std::path::PathBuf;
-use wagontulip::Table;
+use wagontulip::{Edition, Table};
 use words::{wrong, Words};
 
 pub use help::help;
-pub use number::{Horizon, Number};
+pub use number::Number;
+pub use stated::Stated;
 pub use words::{asks_for_json, STANDARD};
 
 /// What is asked for.
@@ -25,9 +27,9 @@ pub struct Call {
 /// The files of an entry stand in its order.
 #[derive(Debug, PartialEq, Eq)]
 pub enum Work {
-    Check { horizon: Horizon, files: [PathBuf; 4] },
-    Energy { horizon: Horizon, files: [PathBuf; 4], curves: Option<PathBuf> },
-    Merge { horizon: Horizon, files: [PathBuf; 5], earlier: PathBuf, later: PathBuf },
+    Check { stated: Stated, files: [PathBuf; 4] },
+    Energy { stated: Stated, files: [PathBuf; 4], curves: Option<PathBuf> },
+    Merge { stated: Stated, files: [PathBuf; 5], earlier: PathBuf, later: PathBuf },
     Row { place: Number<u32>, rows: Rows },
     Help(Option<Verb>),
     Version,
@@ -84,22 +86,27 @@ fn asks_for_help(words: &[OsString]) -> bool {
 
 fn work(verb: Verb, words: &mut Words) -> Result<Work, CouldNotRun> {
     let work = match verb {
-        Verb::Check => Work::Check { horizon: horizon(words)?, files: words.files(FILES)? },
+        Verb::Check => Work::Check { stated: stated(words)?, files: words.files(FILES)? },
         Verb::Energy => {
             let curves = words.output_if_given("--curves")?;
-            Work::Energy { horizon: horizon(words)?, files: words.files(FILES)?, curves }
+            Work::Energy { stated: stated(words)?, files: words.files(FILES)?, curves }
         }
         Verb::Merge => {
             let (earlier, later) = (words.output("--earlier")?, words.output("--later")?);
-            Work::Merge { horizon: horizon(words)?, files: words.files(MERGE_FILES)?, earlier, later }
+            Work::Merge { stated: stated(words)?, files: words.files(MERGE_FILES)?, earlier, later }
         }
         Verb::Row => Work::Row { place: words.number("--place", u32::MAX)?, rows: rows(words)? },
     };
     Ok(work)
 }
 
-fn horizon(words: &mut Words) -> Result<Horizon, CouldNotRun> {
-    words.number("--horizon", u32::MAX)
+/// Document 01's key for turnarounds, where no edition is given.
+const EDITION: u32 = Edition::EXAMPLE;
+
+fn stated(words: &mut Words) -> Result<Stated, CouldNotRun> {
+    let horizon = words.number("--horizon", u32::MAX)?;
+    let edition = words.number_if_given("--edition", u32::MAX)?.unwrap_or_else(|| Number::of(EDITION));
+    Ok(Stated { horizon, edition })
 }
 
 /// A file number wants the two files that the library tells apart by it.
@@ -126,8 +133,12 @@ mod tests {
         Number::read(word, greatest).unwrap()
     }
 
+    fn stated(horizon: &str, edition: &str) -> Stated {
+        Stated { horizon: number(horizon, u32::MAX), edition: number(edition, u32::MAX) }
+    }
+
     fn check(horizon: &str, files: [&str; 4]) -> Work {
-        Work::Check { horizon: number(horizon, u32::MAX), files: paths(files) }
+        Work::Check { stated: stated(horizon, "2"), files: paths(files) }
     }
 
     #[test]
@@ -154,7 +165,7 @@ mod tests {
     #[test]
     fn a_number_past_its_type_is_the_greatest() {
         let horizon = |word: &str| match call(&format!("check --room text={word} --horizon {word} t p c s")) {
-            Ok(Call { work: Work::Check { horizon, .. }, rooms, .. }) => (horizon.value, rooms[0].1),
+            Ok(Call { work: Work::Check { stated, .. }, rooms, .. }) => (stated.horizon.value, rooms[0].1),
             other => panic!("{other:?}"),
         };
         assert_eq!(horizon("0"), (0, 0));
@@ -163,6 +174,19 @@ mod tests {
         let rows = Rows::Numbered { file: number("260", u8::MAX), files: paths(["t", "s"]) };
         let row = Work::Row { place: number("4294967441", u32::MAX), rows };
         assert_eq!(call("row --file 260 --place 4294967441 t s").unwrap().work, row);
+    }
+
+    /// Any number is handed on, and one past its type as the greatest; no number at all is 2.
+    #[test]
+    fn an_edition_may_be_given() {
+        let work = |words: &str| call(&format!("check {words} t p c s --horizon 100")).unwrap().work;
+        for (given, value) in [("1", 1), ("2", 2), ("0", 0), ("3", 3), ("4294967295", u32::MAX), ("4294967297", u32::MAX)] {
+            let wanted = Work::Check { stated: stated("100", given), files: paths(["t", "p", "c", "s"]) };
+            assert_eq!(work(&format!("--edition {given}")), wanted);
+            assert_eq!(work(&format!("--edition={given}")), wanted);
+            assert!(matches!(wanted, Work::Check { stated, .. } if stated.edition.value == value));
+        }
+        assert_eq!(work(""), work("--edition 2"));
     }
 
     #[test]
@@ -207,6 +231,11 @@ mod tests {
             ("check --horizon=0100 t p c s", "--horizon wants a whole number, and this is none: 0100"),
             ("check --horizon 1e2 t p c s", "--horizon wants a whole number, and this is none: 1e2"),
             ("check --horizon 99999999999x t p c s", "--horizon wants a whole number, and this is none: 99999999999x"),
+            ("check --horizon 1 --edition 01 t p c s", "--edition wants a whole number, and this is none: 01"),
+            ("check --horizon 1 --edition one t p c s", "--edition wants a whole number, and this is none: one"),
+            ("check --horizon 1 --edition 1 --edition 2 t p c s", "given twice: --edition"),
+            ("check --edition 1 t p c s", "an option is missing: --horizon"),
+            ("row --edition 1 --place 1 t", "no option of row: --edition"),
             ("check --horizon 1 --room legs= t p c s", "--room wants TABLE=N: legs="),
             ("check --horizon 1 --room=legs=01 t p c s", "--room wants TABLE=N: legs=01"),
             ("check --horizon 1 --room legs t p c s", "--room wants TABLE=N: legs"),

@@ -1,6 +1,6 @@
 //! What a call does.
 
-use super::arguments::{help, Call, Horizon, Number, Rows, Work};
+use super::arguments::{help, Call, Number, Rows, Stated, Work};
 use super::identity::identity;
 use super::input::Input;
 use super::output::{self, Output};
@@ -30,9 +30,9 @@ pub struct Ran {
 
 pub fn run(call: &Call) -> Result<Ran, CouldNotRun> {
     let told = match &call.work {
-        Work::Energy { horizon, files, curves } => return energy(call, horizon, files, curves.as_deref()),
-        Work::Merge { horizon, files, earlier, later } => return merge(call, horizon, files, [earlier, later]),
-        Work::Check { horizon, files } => check(call, horizon, files)?,
+        Work::Energy { stated, files, curves } => return energy(call, stated, files, curves.as_deref()),
+        Work::Merge { stated, files, earlier, later } => return merge(call, stated, files, [earlier, later]),
+        Work::Check { stated, files } => check(call, stated, files)?,
         Work::Row { place, rows } => row(call, place, rows)?,
         Work::Help(verb) => plain(&help(*verb)),
         Work::Version => plain(&identity().lines()),
@@ -69,45 +69,45 @@ fn texts(inputs: &[Input]) -> Files<'_> {
     Files { timetable: &inputs[0].text, profiles: &inputs[1].text, constraints: &inputs[2].text }
 }
 
-fn check(call: &Call, horizon: &Horizon, files: &[PathBuf]) -> Result<Told, CouldNotRun> {
+fn check(call: &Call, stated: &Stated, files: &[PathBuf]) -> Result<Told, CouldNotRun> {
     let inputs = inputs(&ROLES, files)?;
     let mut checker = checker(call)?;
-    let answer = checker.check(horizon.value, &texts(&inputs), &inputs[3].text)?;
-    let result = Judged { command: "check", horizon, answer, inputs: &inputs, outputs: &[], room: &checker.room };
+    let answer = checker.check(stated.values(), &texts(&inputs), &inputs[3].text)?;
+    let result = Judged { command: "check", stated, answer, inputs: &inputs, outputs: &[], room: &checker.room };
     result.told(call.json, |()| String::new(), |object, ()| object)
 }
 
-fn energy(call: &Call, horizon: &Horizon, files: &[PathBuf], curves: Option<&Path>) -> Result<Ran, CouldNotRun> {
-    let h = horizon.value;
+fn energy(call: &Call, stated: &Stated, files: &[PathBuf], curves: Option<&Path>) -> Result<Ran, CouldNotRun> {
+    let h = stated.horizon.value;
     let inputs = inputs(&ROLES, files)?;
     output::judge(&curves.into_iter().collect::<Vec<&Path>>(), &inputs)?;
     let mut checker = checker(call)?;
     let mut outputs = Vec::new();
-    let answer = checker.energy(h, &texts(&inputs), &inputs[3].text)?.map(|energies| {
+    let answer = checker.energy(stated.values(), &texts(&inputs), &inputs[3].text)?.map(|energies| {
         outputs.extend(curves.map(|path| Output { role: "curves", path, text: energies::curve_lines(&energies.curves, h) }));
         energies.figures
     });
-    let result = Judged { command: "energy", horizon, answer, inputs: &inputs, outputs: &outputs, room: &checker.room };
+    let result = Judged { command: "energy", stated, answer, inputs: &inputs, outputs: &outputs, room: &checker.room };
     let told = result.told(call.json, |figures| energies::lines(&figures, h), |object, figures| energies::values(object, &figures, h))?;
     Ok(Ran { told, outputs: Waiting::written(&outputs)? })
 }
 
 /// Both texts are made before either is written.
-fn merge(call: &Call, horizon: &Horizon, files: &[PathBuf], [earlier, later]: [&Path; 2]) -> Result<Ran, CouldNotRun> {
+fn merge(call: &Call, stated: &Stated, files: &[PathBuf], [earlier, later]: [&Path; 2]) -> Result<Ran, CouldNotRun> {
     let inputs = inputs(&MERGE_ROLES, files)?;
     output::judge(&[earlier, later], &inputs)?;
     let (files, first, second) = (texts(&inputs), &inputs[3].text, &inputs[4].text);
     let mut checker = checker(call)?;
     let mut outputs = Vec::new();
     let mut keep = |role, path, text: &[u8]| outputs.push(Output { role, path, text: text.to_vec() });
-    let mut answer = checker.merge_earlier(horizon.value, &files, first, second)?.map(|text| keep("merged, earlier", earlier, text));
+    let mut answer = checker.merge_earlier(stated.values(), &files, first, second)?.map(|text| keep("merged, earlier", earlier, text));
     if answer == Answer::Accepted(()) {
-        answer = checker.merge_later(horizon.value, &files, first, second)?.map(|text| keep("merged, later", later, text));
+        answer = checker.merge_later(stated.values(), &files, first, second)?.map(|text| keep("merged, later", later, text));
     }
     if answer != Answer::Accepted(()) {
         outputs.clear();
     }
-    let result = Judged { command: "merge", horizon, answer, inputs: &inputs, outputs: &outputs, room: &checker.room };
+    let result = Judged { command: "merge", stated, answer, inputs: &inputs, outputs: &outputs, room: &checker.room };
     let told = result.told(call.json, |()| String::new(), |object, ()| object)?;
     Ok(Ran { told, outputs: Waiting::written(&outputs)? })
 }

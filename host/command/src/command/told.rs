@@ -1,6 +1,6 @@
 //! An answer as it is printed: in words, or as one object, which docs/schema describes.
 
-use super::arguments::{Horizon, Number};
+use super::arguments::{Number, Stated};
 use super::identity::identity;
 use super::input::Input;
 use super::json::{array, Object};
@@ -15,8 +15,8 @@ pub const VIOLATED: u8 = 1;
 pub const REFUSED: u8 = 2;
 pub const COULD_NOT_RUN: u8 = 3;
 
-/// The edition of docs/schema/answer-1.json, which the tests hold every object to. A member that is added, taken away or changed makes another.
-const SCHEMA: u32 = 1;
+/// The number of docs/schema/answer-2.json, which the tests hold every object to. A member that is added, taken away or changed makes another.
+const SCHEMA: u32 = 2;
 
 /// What is printed, and the exit status.
 pub struct Told {
@@ -27,7 +27,7 @@ pub struct Told {
 /// An answer with all that its words and its evidence need.
 pub struct Judged<'a, T> {
     pub command: &'static str,
-    pub horizon: &'a Horizon,
+    pub stated: &'a Stated,
     pub answer: Answer<T>,
     pub inputs: &'a [Input],
     pub outputs: &'a [Output<'a>],
@@ -63,7 +63,7 @@ impl<T: Copy> Judged<'_, T> {
     }
 
     fn object(&self, word: &str, values: impl Fn(Object, T) -> Object) -> Result<String, CouldNotRun> {
-        let object = head(Some(self.command), word).value("horizon", whole(&self.horizon.given));
+        let object = stated(head(Some(self.command), word), self.stated);
         let object = match self.answer {
             Answer::Accepted(given) => values(counted(object, &self.room.counts()), given),
             Answer::Violated(violation) => {
@@ -109,6 +109,10 @@ fn line(object: Object) -> String {
 /// What every object begins with.
 fn head(command: Option<&str>, answer: &str) -> Object {
     Object::new().text("label", LABEL).value("schema", SCHEMA).optional_text("command", command).text("answer", answer)
+}
+
+fn stated(object: Object, stated: &Stated) -> Object {
+    object.value("horizon", whole(&stated.horizon.given)).value("edition", whole(&stated.edition.given))
 }
 
 /// A number of the call as it was given. One past 32 bits is a text of its digits: many readers keep no number of any length.
@@ -207,7 +211,7 @@ mod tests {
     fn no_answer_has_a_reason() {
         let said = none_object(Some(OsStr::new("check")), "a: b");
         let start =
-            r#"{"label": "no violation shown is not no violation", "schema": 1, "command": "check", "answer": "none", "reason": "a: b", "#;
+            r#"{"label": "no violation shown is not no violation", "schema": 2, "command": "check", "answer": "none", "reason": "a: b", "#;
         assert!(said.starts_with(start), "{said}");
         assert!(none_object(Some(OsStr::new("judge")), "").contains(r#""command": null, "#));
     }

@@ -104,10 +104,12 @@ fn a_row_of_any_file_is_shown() {
 
 /// It is handed to the library as the greatest of 32 bits, which is as far out of range.
 #[test]
-fn a_horizon_is_shown_as_it_was_given() {
+fn what_is_stated_is_shown_as_it_was_given() {
     let folder = Folder::new("given");
-    for horizon in ["4294967396", "99999999999999999999999999"] {
-        let object = folder.told(&format!("check --json --horizon {horizon} t p c a"), 2);
-        assert!(object.contains(horizon) && !object.contains(&u32::MAX.to_string()), "{object}");
+    for number in ["4294967396", "99999999999999999999999999"] {
+        for stated in [format!("--horizon {number}"), format!("--horizon 100 --edition {number}")] {
+            let object = folder.told(&format!("check --json {stated} t p c a"), 2);
+            assert!(object.contains(number) && !object.contains(&u32::MAX.to_string()), "{object}");
+        }
     }
 }

@@ -27,8 +27,17 @@ pub fn exported(text: &str) -> String {
 }
 
 pub fn dwell(seconds: u32) -> String {
-    let record = format!(r#"{{"first_leg_id": 1, "second_leg_id": 2, "min_dwell_time": {seconds}}}"#);
-    constraints("dwell_time_constraints", &record)
+    lasting("dwell_time_constraints", "min_dwell_time", seconds)
+}
+
+/// The key is that of one of the editions.
+pub fn turnaround(key: &str, seconds: u32) -> String {
+    lasting("terminal_turnaround_constraints", key, seconds)
+}
+
+/// From the first leg's arrival to the second's departure at least so many seconds.
+fn lasting(list: &str, key: &str, seconds: u32) -> String {
+    constraints(list, &format!(r#"{{"first_leg_id": 1, "second_leg_id": 2, "{key}": {seconds}}}"#))
 }
 
 /// One record in one list; both tracks in one subnet.

@@ -12,7 +12,7 @@ use texts::*;
 
 /// A change of a plan.
 pub type OfPlan = fn(&mut Plan, &mut Random);
-/// A change of the texts, the room or H.
+/// A change of the texts, the room, H or the edition.
 pub type OfTexts = fn(&mut Case, &mut Random);
 
 /// One damage.
@@ -44,7 +44,7 @@ pub fn draw(random: &mut Random, target: Target, merging: bool) -> Damage {
 }
 
 /// Every damage.
-const ANY: [Damage; 46] = [
+const ANY: [Damage; 48] = [
     P(unknown_profile),
     P(sample_count_changed),
     P(leg_id_repeated),
@@ -64,6 +64,7 @@ const ANY: [Damage; 46] = [
     P(key_dropped),
     P(key_repeated),
     P(key_renamed),
+    P(key_of_the_other_edition),
     P(value_changed),
     P(connection_type_changed),
     P(subnets_added),
@@ -91,6 +92,7 @@ const ANY: [Damage; 46] = [
     T(digits_changed),
     T(room_smaller),
     T(horizon_changed),
+    T(edition_changed),
 ];
 
 /// The damages that may give a target.
@@ -155,7 +157,14 @@ fn likely_refused(number: u32, file: u32) -> Vec<Damage> {
             T(string_spoiled),
             P(value_changed),
         ],
-        10 => vec![P(list_renamed), P(key_renamed), P(connection_type_changed), T(byte_replaced)],
+        10 => vec![
+            P(list_renamed),
+            P(key_renamed),
+            P(key_of_the_other_edition),
+            P(connection_type_changed),
+            T(edition_changed),
+            T(byte_replaced),
+        ],
         11 => vec![P(list_dropped), P(list_repeated), P(key_dropped), P(key_repeated)],
         12 => vec![P(unknown_profile), P(leg_id_unknown), P(value_changed)],
         13 => vec![P(sample_count_changed), P(csv_number_changed)],
@@ -163,6 +172,7 @@ fn likely_refused(number: u32, file: u32) -> Vec<Damage> {
         15 => vec![P(track_unlisted)],
         16 if file == 0 => vec![T(curve_room_smaller), T(text_room_smaller)],
         16 => vec![T(room_smaller)],
+        21 => vec![T(edition_changed)],
         _ => vec![P(second_of_other_travel)],
     }
 }

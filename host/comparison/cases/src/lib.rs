@@ -4,6 +4,7 @@
 mod damage;
 pub mod draw;
 pub mod edges;
+pub mod editions;
 pub mod examples;
 mod plan;
 pub mod quotes;
@@ -12,8 +13,9 @@ mod rows;
 pub mod spelling;
 mod sweep;
 pub mod target;
+pub mod twin;
 
-pub use plan::Scale;
+pub use plan::{Scale, LIST_NAMES};
 
 use independent::{Call, Entry};
 use random::Random;
@@ -176,20 +178,33 @@ mod tests {
         }
     }
 
+    /// What is drawn in each quarter, by the curves.
+    fn drawn_by_quarter(case: &Case) -> Vec<i64> {
+        let curves = case.energy().curves.unwrap_or_default();
+        let drawn = |second: usize| -> i64 { curves.iter().skip(second).step_by(case.h as usize).map(|p| i64::from(*p).max(0)).sum() };
+        let by_second: Vec<i64> = (0..case.h as usize).map(drawn).collect();
+        by_second.chunks(900).map(|quarter| quarter.iter().sum()).collect()
+    }
+
     #[test]
-    fn seeded_peaks_lie_in_later_quarters_and_some_quarters_are_equal() {
-        let (mut later, mut equal) = (0, 0);
-        for case in cases(16, 3_000).iter().filter(|case| (1_800..=2_700).contains(&case.h)) {
-            let report = case.energy();
-            let curves = report.curves.unwrap_or_default();
-            let drawn = |second: usize| -> i64 { curves.iter().skip(second).step_by(case.h as usize).map(|p| i64::from(*p).max(0)).sum() };
-            let by_second: Vec<i64> = (0..case.h as usize).map(drawn).collect();
-            let sums: Vec<i64> = by_second.chunks(900).map(|quarter| quarter.iter().sum()).collect();
-            later += usize::from(report.quarters[1] > 0);
-            equal += usize::from(report.figures.peak_drawn > 0 && sums.iter().filter(|sum| **sum == report.figures.peak_drawn).count() > 1);
-        }
+    fn seeded_peaks_lie_in_later_quarters() {
+        let later = cases(16, 3_000).iter().filter(|case| (1_800..=2_700).contains(&case.h) && case.energy().quarters[1] > 0).count();
         assert!(later > 20, "{later}");
-        assert!(equal > 2, "{equal}");
+    }
+
+    /// Seeded cases meet two equal greatest quarters now and then; the edges have them on purpose.
+    #[test]
+    fn the_greatest_of_equal_quarters_is_the_first() {
+        let mut equal = 0;
+        for case in edges::edges().into_iter().map(|named| named.call.case).filter(|case| (901..=2_700).contains(&case.h)) {
+            let (report, sums) = (case.energy(), drawn_by_quarter(&case));
+            let peak = report.figures.peak_drawn;
+            if peak > 0 && sums.iter().filter(|sum| **sum == peak).count() > 1 {
+                assert_eq!(sums.iter().position(|sum| *sum == peak), Some(report.quarters[1] as usize));
+                equal += 1;
+            }
+        }
+        assert!(equal > 4, "{equal}");
     }
 
     #[test]

@@ -3,7 +3,8 @@
 
 use crate::random::Random;
 use crate::spelling::spell;
-use independent::{profiles, timetable, Case, Rooms};
+use crate::twin::exchanged;
+use independent::{profiles, timetable, Case, Edition, Rooms};
 
 /// A row of a timetable file.
 #[derive(Clone, Debug)]
@@ -164,13 +165,17 @@ impl Plan {
         self.written(&mut plain, 0, 1_000)
     }
 
-    /// The case in some style of white space, its CSV texts in some spelling, and with room that is hardly more than enough.
+    /// The case in some style of white space, its CSV texts in some spelling, in either edition, and with room that is hardly more than enough.
     pub fn case_with(&self, random: &mut Random) -> Case {
         let style = random.below(6);
         let more = if random.one_in(2) { 0 } else { random.below(20) };
         let mut case = self.written(random, style, more);
         spell(&mut case, random);
-        case
+        if random.one_in(2) {
+            exchanged(case)
+        } else {
+            case
+        }
     }
 
     fn written(&self, random: &mut Random, style: usize, more: usize) -> Case {
@@ -178,6 +183,7 @@ impl Plan {
         let rooms = self.rooms(timetable.len(), more, random);
         Case {
             h: self.h,
+            edition: Edition::Example as u32,
             texts: [
                 timetable.into_bytes(),
                 self.profiles_text().into_bytes(),

@@ -14,7 +14,7 @@ pub enum Target {
 pub const INEQUALITIES: [(u32, &[u32]); 6] = [(0, &[0]), (1, &[1, 2]), (2, &[1]), (3, &[1]), (4, &[1]), (5, &[1, 2])];
 
 /// Each refusal number with the files that can give it in texts of up to 16 KiB. 2 is not among them.
-pub const FILES: [(u32, &[u32]); 16] = [
+pub const FILES: [(u32, &[u32]); 17] = [
     (1, &[0]),
     (3, &[1, 2, 4, 5]),
     (4, &[1, 2, 4, 5]),
@@ -31,6 +31,7 @@ pub const FILES: [(u32, &[u32]); 16] = [
     (15, &[1]),
     (16, &[0, 1, 2, 3, 4, 5]),
     (17, &[5]),
+    (21, &[0]),
 ];
 
 impl Target {

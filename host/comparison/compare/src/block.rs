@@ -13,7 +13,7 @@ const FILE: usize = 2;
 const PLACE: usize = 3;
 const LENGTHS: std::ops::Range<usize> = 4..9;
 pub const ROOMS: std::ops::Range<usize> = 9..19;
-pub const EDITION: usize = 19;
+const EDITION: usize = 19;
 pub const SET: usize = 20;
 pub const QUARTER: usize = 21;
 pub const NUMBERS: usize = 22;
@@ -29,7 +29,7 @@ pub fn number_of(entry: Entry) -> u64 {
     }
 }
 
-/// The numbers of a call's block. Edition, set and quarter are 0: no entry looks at them yet.
+/// The numbers of a call's block. Set and quarter are 0: no entry looks at them yet.
 pub fn numbers(call: &Call) -> [u64; NUMBERS] {
     let mut numbers = [0; NUMBERS];
     let head = [number_of(call.entry), u64::from(call.case.h), u64::from(call.file), u64::from(call.place)];
@@ -38,6 +38,7 @@ pub fn numbers(call: &Call) -> [u64; NUMBERS] {
     for (number, value) in numbers.iter_mut().zip(head.into_iter().chain(lengths).chain(rooms)) {
         *number = value;
     }
+    numbers[EDITION] = u64::from(call.case.edition);
     numbers
 }
 
@@ -125,7 +126,7 @@ fn call(entry: Entry, numbers: &[u32], texts: Vec<Vec<u8>>) -> Call {
         *rooms.number_mut(room) = *number as usize;
     }
     let texts = texts.try_into().expect("five lengths give five texts");
-    Call { entry, case: Case { h: numbers[H], texts, rooms }, file: numbers[FILE], place: numbers[PLACE] }
+    Call { entry, case: Case { h: numbers[H], edition: numbers[EDITION], texts, rooms }, file: numbers[FILE], place: numbers[PLACE] }
 }
 
 /// The numbers of a block, if it is one.

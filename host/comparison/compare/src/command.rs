@@ -4,7 +4,7 @@ use crate::coverage::{QUARTER, ROOMS};
 use crate::executor::Executor;
 use crate::expected::line as expected_line;
 use crate::lines::{digest, LABEL};
-use independent::{row_at, Answer, Call, Case, Desk, Direction, Entry, Figures, Report, Said, Tables};
+use independent::{row_at, Answer, Call, Case, Desk, Direction, Edition, Entry, Figures, Report, Said, Tables};
 use std::path::{Path, PathBuf};
 use std::process::Command as Process;
 use std::sync::atomic::{AtomicUsize, Ordering};
@@ -93,16 +93,25 @@ impl Drop for Folder {
 /// The words of a call. A row is shown; an answer is given as an object.
 fn words(call: &Call) -> Vec<String> {
     let [timetable, profiles, constraints, first, second] = TEXTS;
-    let horizon = format!("--json --horizon {} {timetable} {profiles} {constraints} {first}", call.case.h);
+    let files = format!("--json{} {timetable} {profiles} {constraints} {first}", stated(&call.case));
     let words = match call.entry {
-        Entry::Check => format!("check {horizon}"),
-        Entry::Energy => format!("energy {horizon} --curves {CURVES}"),
-        Entry::MergeEarlier | Entry::MergeLater => format!("merge {horizon} {second} --earlier {} --later {}", MERGED[0], MERGED[1]),
+        Entry::Check => format!("check {files}"),
+        Entry::Energy => format!("energy {files} --curves {CURVES}"),
+        Entry::MergeEarlier | Entry::MergeLater => format!("merge {files} {second} --earlier {} --later {}", MERGED[0], MERGED[1]),
         Entry::Row => format!("row --file {} --place {} {timetable} {first}", call.file, call.place),
     };
     let room = |(name, room): (&&str, usize)| [String::from("--room"), format!("{}={room}", name.replace(' ', "_"))];
     let rooms = ROOMS.iter().zip(call.case.rooms.numbers()).flat_map(room);
     words.split(' ').map(String::from).chain(rooms).collect()
+}
+
+/// An edition of 2 is what is taken where none is given.
+fn stated(case: &Case) -> String {
+    let horizon = format!(" --horizon {}", case.h);
+    if case.edition == Edition::Example as u32 {
+        return horizon;
+    }
+    format!("{horizon} --edition {}", case.edition)
 }
 
 /// Whatever is printed can be told apart from everything else.
@@ -137,8 +146,9 @@ fn object(call: &Call, answer: Answer, tables: Option<&Tables>, figures: &str) -
         Entry::MergeEarlier | Entry::MergeLater => "merge",
         other => other.name(),
     };
-    let head = format!(r#"{{"label": "{LABEL}", "schema": 1, "command": "{command}", "answer": "{word}", "horizon": {}"#, call.case.h);
-    line(status, format!("{head}{}{told}", read(tables)).as_bytes())
+    let head = format!(r#"{{"label": "{LABEL}", "schema": 2, "command": "{command}", "answer": "{word}""#);
+    let stated = format!(r#", "horizon": {}, "edition": {}"#, call.case.h, call.case.edition);
+    line(status, format!("{head}{stated}{}{told}", read(tables)).as_bytes())
 }
 
 /// How much was read, where nothing was refused.

@@ -2,8 +2,9 @@
 
 use crate::coverage::Coverage;
 use crate::executor::{Executor, NO_LINE};
+use crate::expected::line;
 use crate::{saved, spread};
-use cases::Named;
+use cases::{twin, Named};
 use independent::{Call, Entry};
 use std::path::PathBuf;
 use std::sync::atomic::{AtomicUsize, Ordering};
@@ -72,35 +73,63 @@ fn batch(plan: &Plan, size: usize, number: usize) -> Option<Vec<Named>> {
     (first < last).then(|| cases::calls(plan.seed, first..last, &plan.entries))
 }
 
-/// The calls that no seed changes: the worked examples, the edges, those of quotes and CR LF, one for each answer.
+/// The calls that no seed changes: the worked examples, the edges, those of quotes and CR LF, those of editions, one for each answer.
 pub fn fixed(entries: &[Entry]) -> Vec<Named> {
     let mut calls = cases::examples::worked();
     calls.extend(cases::edges::edges());
     calls.extend(cases::quotes::calls());
+    calls.extend(cases::editions::calls());
     calls.extend(spread::calls());
     calls.retain(|named| entries.contains(&named.call.entry));
     calls
 }
 
+/// The calls, and the twins of those that have one.
 fn compare_batch(executor: &dyn Executor, batch: &[Named], plan: &Plan, outcome: &Mutex<Outcome>) -> Result<(), String> {
-    let calls: Vec<&Call> = batch.iter().map(|named| &named.call).collect();
+    let (calls, twins) = twinned(batch);
     let mut coverage = Coverage::default();
-    let mut expected = Vec::new();
-    for call in &calls {
-        let (said, line) = executor.expected(call);
-        coverage.count(call, &said);
-        expected.push(line);
+    let mut differences = unlike(&calls, &twins, &mut coverage);
+    for calls in [batch, &twins] {
+        differences.extend(compared(executor, calls, &mut coverage)?);
     }
-    let given = executor.run(&calls)?;
-    let differences = differences(batch, expected, given);
     let mut outcome = outcome.lock().expect("no worker panics");
-    outcome.calls += calls.len();
+    outcome.calls += batch.len() + twins.len();
     outcome.coverage.add(&coverage);
     for difference in differences {
         let number = outcome.differences.len();
         outcome.differences.push(in_words(&difference, plan, number)?);
     }
     Ok(())
+}
+
+/// The calls that have a twin, and their twins.
+fn twinned(batch: &[Named]) -> (Vec<&Named>, Vec<Named>) {
+    batch.iter().filter_map(|named| Some((named, twin::named(named)?))).unzip()
+}
+
+/// The twins whose lines are not those of their calls, by the independent program itself. So where no line differs from an expected one, twins are alike.
+fn unlike<'a>(calls: &[&Named], twins: &'a [Named], coverage: &mut Coverage) -> Vec<Difference<'a>> {
+    let mut differences = Vec::new();
+    for (named, twin) in calls.iter().zip(twins) {
+        let [expected, given] = [&named.call, &twin.call].map(|call| line(call).1);
+        if expected == given {
+            coverage.count_twin(&named.call);
+        } else {
+            differences.push(Difference { named: twin, expected, given });
+        }
+    }
+    differences
+}
+
+fn compared<'a>(executor: &dyn Executor, batch: &'a [Named], coverage: &mut Coverage) -> Result<Vec<Difference<'a>>, String> {
+    let calls: Vec<&Call> = batch.iter().map(|named| &named.call).collect();
+    let mut expected = Vec::new();
+    for call in &calls {
+        let (said, line) = executor.expected(call);
+        coverage.count(call, &said);
+        expected.push(line);
+    }
+    Ok(differences(batch, expected, executor.run(&calls)?))
 }
 
 /// The calls whose lines are not the expected ones; a missing line differs too.
@@ -143,4 +172,24 @@ pub fn told(executor: &dyn Executor, plan: &Plan) -> Result<String, String> {
         return Err(format!("{told}\nno call met: {}", empty.join("; ")));
     }
     Ok(format!("{told}, no difference, no empty cell\n"))
+}
+
+#[cfg(test)]
+mod tests {
+    use super::*;
+    use independent::Case;
+
+    /// A twin has the line of its call; what is none, as where a key is not renamed, has another.
+    #[test]
+    fn a_call_that_is_no_twin_is_found() {
+        let calls = cases::editions::calls_of(Entry::Energy);
+        let (calls, twins) = twinned(&calls);
+        assert_eq!((calls.len(), unlike(&calls, &twins, &mut Coverage::default()).len()), (6, 0));
+        let unnamed = |(named, twin): (&&Named, &Named)| {
+            let case = Case { edition: twin.call.case.edition, ..named.call.case.clone() };
+            Named { name: twin.name.clone(), call: Call::of(Entry::Energy, case) }
+        };
+        let unnamed: Vec<Named> = calls.iter().zip(&twins).map(unnamed).collect();
+        assert_eq!(unlike(&calls, &unnamed, &mut Coverage::default()).len(), 4);
+    }
 }

@@ -1,6 +1,6 @@
 //! How often each answer was met, as tables; a cell that an input can reach must not be empty.
 
-use crate::marks;
+use crate::{editions, marks};
 use cases::target::{is_merge, targets, Target, FILES, INEQUALITIES};
 use independent::{Answer, Call, Case, Entry, Said};
 use std::collections::BTreeMap;
@@ -54,6 +54,9 @@ pub const ROOMS: [&str; 10] =
 /// The rooms that can give 16 in each file: of a pair either may be short.
 const ROOMS_OF: [&[usize]; 6] = [&[8, 9], &[0, 1], &[2, 3], &[4, 5], &[6], &[7]];
 
+/// The refusal numbers, in the order of the table.
+const NUMBERS: [u32; 18] = [1, 2, 3, 4, 5, 6, 7, 8, 9, 10, 11, 12, 13, 14, 15, 16, 17, 21];
+
 /// Room that is never short.
 const AMPLE: usize = 1 << 24;
 
@@ -67,12 +70,16 @@ pub struct Coverage {
     shown: BTreeMap<Shown, usize>,
     peaks: BTreeMap<Peaked, usize>,
     marks: BTreeMap<marks::Cell, usize>,
+    editions: BTreeMap<editions::Cell, usize>,
 }
 
 impl Coverage {
     pub fn count(&mut self, call: &Call, said: &Said) {
         for cell in marks::met(call, said) {
             *self.marks.entry(cell).or_default() += 1;
+        }
+        if let Some(cell) = editions::met(call, said) {
+            *self.editions.entry(cell).or_default() += 1;
         }
         match (said, said.answer()) {
             (_, Some(answer)) => {
@@ -95,6 +102,11 @@ impl Coverage {
             }
             _ => {}
         }
+    }
+
+    /// A call whose line is its twin's.
+    pub fn count_twin(&mut self, call: &Call) {
+        *self.editions.entry(editions::alike(call)).or_default() += 1;
     }
 
     /// 16 counts for each room that gives it though the others are ample.
@@ -147,21 +159,12 @@ impl Coverage {
     }
 
     pub fn add(&mut self, other: &Coverage) {
-        for (cell, count) in &other.answers {
-            *self.answers.entry(*cell).or_default() += count;
-        }
-        for (cell, count) in &other.connections {
-            *self.connections.entry(*cell).or_default() += count;
-        }
-        for (cell, count) in &other.shown {
-            *self.shown.entry(*cell).or_default() += count;
-        }
-        for (cell, count) in &other.peaks {
-            *self.peaks.entry(*cell).or_default() += count;
-        }
-        for (cell, count) in &other.marks {
-            *self.marks.entry(*cell).or_default() += count;
-        }
+        add_counts(&mut self.answers, &other.answers);
+        add_counts(&mut self.connections, &other.connections);
+        add_counts(&mut self.shown, &other.shown);
+        add_counts(&mut self.peaks, &other.peaks);
+        add_counts(&mut self.marks, &other.marks);
+        add_counts(&mut self.editions, &other.editions);
         for (room, count) in other.rooms.iter().enumerate() {
             self.rooms[room] += count;
         }
@@ -199,6 +202,8 @@ impl Coverage {
             }
         }
         empty.extend(marks::cells(entries).into_iter().filter(|(cell, _)| !self.marks.contains_key(cell)).map(|(_, name)| name));
+        let editions = if judging { editions::cells() } else { Vec::new() };
+        empty.extend(editions.into_iter().filter(|(cell, _)| !self.editions.contains_key(cell)).map(|(_, name)| name));
         empty
     }
 
@@ -229,7 +234,7 @@ impl Coverage {
             write!(out, "{:>8}", format!("file {file}"))?;
         }
         writeln!(out)?;
-        for number in 1..=17 {
+        for number in NUMBERS {
             write!(out, "{number:>10}")?;
             for file in 0..=5 {
                 let count = self.total(|_, target| target == Target::Refused { number, file });
@@ -266,6 +271,21 @@ impl Coverage {
         Ok(())
     }
 
+    /// What the edition did.
+    fn editions(&self, out: &mut fmt::Formatter) -> fmt::Result {
+        let count = |cell: editions::Cell| self.editions.get(&cell).copied().unwrap_or_default();
+        let [first, second] = editions::KNOWN;
+        writeln!(out, "{:46}{:>8}{:>8}", "edition", first, second)?;
+        for (met, name) in editions::MET {
+            let [first, second] = editions::KNOWN.map(|edition| count(editions::Cell::Known(met, edition)));
+            writeln!(out, "{name:46}{first:>8}{second:>8}")?;
+        }
+        for edition in editions::UNKNOWN {
+            writeln!(out, "21 for edition {edition:39}{:>8}", count(editions::Cell::Unknown(edition)))?;
+        }
+        Ok(())
+    }
+
     fn violations(&self, out: &mut fmt::Formatter) -> fmt::Result {
         writeln!(out, "{:24}{:>10}{:>10}", "kind, inequality", "file 4", "file 5")?;
         for (kind, inequalities) in INEQUALITIES {
@@ -279,6 +299,12 @@ impl Coverage {
             writeln!(out, "5, {inequality}, {anchor:32}{count:>7}")?;
         }
         Ok(())
+    }
+}
+
+fn add_counts<K: Copy + Ord>(counts: &mut BTreeMap<K, usize>, more: &BTreeMap<K, usize>) {
+    for (cell, count) in more {
+        *counts.entry(*cell).or_default() += count;
     }
 }
 
@@ -313,8 +339,8 @@ fn why_empty(number: u32, file: u32) -> Option<Why> {
         return None;
     }
     Some(match (number, file) {
-        (1, _) => Why::NoInput("1 is about H, which stands in no file"),
-        (_, 0) => Why::NoInput("file 0 is for H, the curves' room and the merged text's room"),
+        (1 | 21, _) => Why::NoInput("1 and 21 are about H and the edition, which stand in no file"),
+        (_, 0) => Why::NoInput("file 0 is for H, the edition, the curves' room and the merged text's room"),
         (2, _) => Why::NoSmallText("2 wants a text past 64 MiB: host/compare large"),
         (3 | 4 | 8, 3) => Why::NoInput("constraints.json has no header and no rows"),
         (8, _) => Why::NoInput("8 is about a nominal, which profiles do not have"),
@@ -336,7 +362,7 @@ impl fmt::Display for Coverage {
         self.entries(out)?;
         self.refusals(out)?;
         let mut reasons = Vec::new();
-        for cell in (1..=17).flat_map(|number| (0..=5).map(move |file| (number, file))) {
+        for cell in NUMBERS.into_iter().flat_map(|number| (0..=5).map(move |file| (number, file))) {
             let reason = match why_empty(cell.0, cell.1) {
                 Some(Why::NoInput(reason)) => format!("  - {reason}"),
                 Some(Why::NoSmallText(reason)) => format!("  * {reason}"),
@@ -352,6 +378,7 @@ impl fmt::Display for Coverage {
         writeln!(out, "  * {LARGER}")?;
         self.violations(out)?;
         self.marks(out)?;
+        self.editions(out)?;
         for (room, name) in ROOMS.iter().enumerate() {
             writeln!(out, "16 for want of room for {name:16}{:>6}", self.rooms[room])?;
         }

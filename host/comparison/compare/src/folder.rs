@@ -3,7 +3,7 @@
 
 use crate::executor::{compared, Executor};
 use independent::rows::fields;
-use independent::{Call, Case, Direction, Entry, Rooms};
+use independent::{Call, Case, Direction, Entry, Rooms, Stated};
 use std::collections::HashMap;
 use std::path::{Path, PathBuf};
 
@@ -18,7 +18,7 @@ const NOMINAL: usize = 5;
 const AMPLE: usize = 1 << 27;
 
 /// Compares every instance in the folder or in the folders below it.
-pub fn compare(folder: &Path, h: u32, executor: &dyn Executor) -> Result<String, String> {
+pub fn compare(folder: &Path, stated: Stated, executor: &dyn Executor) -> Result<String, String> {
     let instances = instances(folder)?;
     if instances.is_empty() {
         return Err(format!("{}: no folder with {TIMETABLE}, {} and {CONSTRAINTS}", folder.display(), PROFILES[0]));
@@ -30,7 +30,7 @@ pub fn compare(folder: &Path, h: u32, executor: &dyn Executor) -> Result<String,
         let solutions = instance.solutions()?;
         for (place, solution) in solutions.iter().enumerate() {
             let before = &solutions[place.saturating_sub(1)];
-            for (name, call) in instance.calls(h, before, solution)? {
+            for (name, call) in instance.calls(stated, before, solution)? {
                 let (answer, difference) = compared(&call, executor)?;
                 differ += usize::from(difference.is_some());
                 let result = difference.map_or(String::from("the same"), |lines| format!("DIFFERS\n{lines}"));
@@ -80,10 +80,10 @@ impl Instance {
         Ok(solutions)
     }
 
-    fn calls(&self, h: u32, before: &Solution, solution: &Solution) -> Result<Vec<(String, Call)>, String> {
+    fn calls(&self, stated: Stated, before: &Solution, solution: &Solution) -> Result<Vec<(String, Call)>, String> {
         let [timetable, profiles, constraints] = [TIMETABLE, self.profiles, CONSTRAINTS].map(|name| self.read(name));
         let texts = [timetable?, profiles?, constraints?, before.1.clone(), solution.1.clone()];
-        let merged = Case { h, texts, rooms: Rooms::all(AMPLE) };
+        let merged = Case { h: stated.horizon, edition: stated.edition, texts, rooms: Rooms::all(AMPLE) };
         let mut alone = merged.clone();
         alone.texts[3] = std::mem::take(&mut alone.texts[4]);
         let alone = [Entry::Check, Entry::Energy]

@@ -1,6 +1,6 @@
 //! Input beside the calls that are compared: numbers of a block that are not looked at, entries that are not there, and what is no call.
 
-use crate::block::{block, changed, numbers, written, BLOCK, EDITION, ENTRY, H, NUMBERS, QUARTER, SET};
+use crate::block::{block, changed, numbers, written, BLOCK, ENTRY, H, NUMBERS, QUARTER, SET};
 use crate::executor::{Executor, Replay};
 use crate::expected::line;
 use crate::lines::{BAD, LABEL, SKIPPED};
@@ -21,11 +21,11 @@ pub fn compare(replay: &Replay) -> Result<(), String> {
     Ok(())
 }
 
-/// Edition, set and quarter change nothing; an entry that is not there is skipped, with its texts. The last call shows that they were read past.
+/// Set and quarter change nothing; an entry that is not there is skipped, with its texts. The last call shows that they were read past.
 fn numbered(replay: &Replay, good: &Call) -> Result<(), String> {
     let answered = line(good).1;
     let mut calls: Vec<(Vec<u8>, &str)> = Vec::new();
-    calls.extend([EDITION, SET, QUARTER].map(|place| (changed(good, place, 1), answered.as_str())));
+    calls.extend([SET, QUARTER].map(|place| (changed(good, place, 1), answered.as_str())));
     calls.extend(NO_ENTRIES.map(|entry| (changed(good, ENTRY, entry), SKIPPED)));
     calls.push((written(good), &answered));
     for (call, expected) in calls {

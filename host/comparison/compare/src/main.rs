@@ -4,14 +4,14 @@ use compare::command::Command;
 use compare::comparison::{self, Plan};
 use compare::executor::{Nobody, Replay};
 use compare::{expected, folder, input, large};
-use independent::Entry;
+use independent::{Entry, Stated};
 use std::path::{Path, PathBuf};
 use std::process::ExitCode;
 
 const USAGE: &str =
     "compare calls SEED COUNT [ENTRIES] -- PROGRAM...    calls that no seed changes and seeded ones, through the program replay
 compare large -- PROGRAM...                         limits that want large texts, through it
-compare folder DIR HORIZON -- PROGRAM...            instances in the published layout, through it
+compare folder DIR HORIZON EDITION -- PROGRAM...    instances in the published layout, through it
 compare command SEED COUNT [ENTRIES] -- PROGRAM...  seeded calls through the command, one process each
 compare cover SEED COUNT [ENTRIES]                  the same calls through no program: their coverage alone
 compare answers                                     standard input as replay reads it, answered by the independent program
@@ -50,7 +50,10 @@ fn run(words: &[String]) -> Result<String, String> {
             expected::answer(std::io::stdin().lock(), std::io::stdout().lock()).map(|()| String::new()).map_err(|e| e.to_string())
         }
         ["large"] => large::compare(&replay),
-        ["folder", dir, horizon] => folder::compare(Path::new(dir), number(horizon)? as u32, &replay),
+        ["folder", dir, horizon, edition] => {
+            let stated = Stated { horizon: number(horizon)? as u32, edition: number(edition)? as u32 };
+            folder::compare(Path::new(dir), stated, &replay)
+        }
         _ => Err(String::from(USAGE)),
     }
 }

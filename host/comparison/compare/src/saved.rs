@@ -15,9 +15,10 @@ pub fn save(folder: &Path, call: &Call, about: &str) -> Result<(), String> {
     std::fs::write(folder.join("stdin"), written(call)).map_err(failed)?;
     let rooms: Vec<String> = call.case.rooms.numbers().iter().map(usize::to_string).collect();
     let about = format!(
-        "{about}\nentry {}, H {}, file {}, place {}\nrooms {}\n",
+        "{about}\nentry {}, H {}, edition {}, file {}, place {}\nrooms {}\n",
         call.entry.name(),
         call.case.h,
+        call.case.edition,
         call.file,
         call.place,
         rooms.join(" ")

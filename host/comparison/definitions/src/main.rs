@@ -10,8 +10,8 @@ use cases::quotes;
 use cases::random::Random;
 use cases::spelling::CSV;
 use cases::target::{targets, Target};
-use cases::Scale;
-use independent::{Call, Case, Entry, Lent, Said};
+use cases::{editions, Scale};
+use independent::{Call, Case, Edition, Entry, Lent, Said};
 use std::fmt::Write as _;
 use std::path::Path;
 use std::process::ExitCode;
@@ -60,7 +60,8 @@ fn run(words: &[String]) -> Result<String, String> {
     }
     write(dir, "Lib.antt", &modules)?;
     let quoted = calls.iter().filter(|call| is_marked(&call.case)).count();
-    Ok(format!("{statements} statements of {count} cases, {quoted} of them with quotes or CR LF"))
+    let by_table = calls.iter().filter(|call| call.case.edition == Edition::Table as u32).count();
+    Ok(format!("{statements} statements of {count} cases, {quoted} of them with quotes or CR LF, {by_table} of edition 1"))
 }
 
 /// Whether a CSV text of the case has a quote or a CR.
@@ -72,8 +73,8 @@ fn write(dir: &str, name: &str, text: &str) -> Result<(), String> {
     std::fs::write(Path::new(dir).join(name), text).map_err(|e| format!("{name}: {e}"))
 }
 
-/// The call of a number: of each ten one is a merge, with its energies too, one an energy, one an energy with H at the edges of quarters, and two have quotes
-/// and CR LF at their edges.
+/// The call of a number: of each ten one is a merge, with its energies too, one an energy, one an energy with H at the edges of quarters, two have quotes
+/// and CR LF at their edges, and one a key or an edition.
 fn drawn(seed: u64, number: usize) -> Call {
     let mut random = Random::of(seed, number as u64);
     let entry = match number % CASES_A_MODULE {
@@ -81,6 +82,7 @@ fn drawn(seed: u64, number: usize) -> Call {
         4 => Entry::Energy,
         6 => return last_quarter(number / CASES_A_MODULE),
         2 | 7 => return random.pick(&quotes::calls()).call.clone(),
+        5 => return random.pick(&editions::calls_of(Entry::Check)).call.clone(),
         _ => Entry::Check,
     };
     let targets = targets(entry);
@@ -123,7 +125,7 @@ fn state_answers(entry: Entry, case: &Case, claim: &mut dyn FnMut(&str, String, 
     let texts = format!("(texts {} {} {})", bytes(timetable), bytes(profiles), bytes(constraints));
     let rooms = case.rooms;
     let six: Vec<String> = rooms.numbers()[..6].iter().map(usize::to_string).collect();
-    let input = format!("{} {texts} {solution}", case.h);
+    let input = format!("(stated {} {}) {texts} {solution}", case.h, case.edition);
     let lent = format!("(lent {}) (nines {})", six.join(" "), rooms.choices);
     let (said, left) = answered(Entry::Check, case);
     claim("check", format!("checkSays (checked {input} {lent})"), [said, tables(&left)].concat());

@@ -15,7 +15,10 @@ pub const TEXTS: usize = 5;
 const FIRST_LENGTH: usize = 4;
 const FIRST_ROOM: usize = FIRST_LENGTH + TEXTS;
 
-/// The numbers by their names. Edition, set and quarter must be numbers, and no entry that is there looks at them.
+/// Where the number of the edition stands.
+const EDITION: usize = FIRST_ROOM + ROOMS;
+
+/// The numbers by their names. Set and quarter must be numbers, and no entry that is there looks at them.
 #[derive(Clone, Debug, PartialEq, Eq)]
 pub struct Block {
     pub entry: u32,
@@ -27,6 +30,8 @@ pub struct Block {
     pub lengths: [usize; TEXTS],
     /// How many numbers of each room are lent, and bytes of the text.
     pub rooms: [usize; ROOMS],
+    /// Any number: the library judges it, as it does H.
+    pub edition: u32,
 }
 
 impl Block {
@@ -35,7 +40,7 @@ impl Block {
         let numbers = numbers(bytes)?;
         let size = |place: usize| numbers[place] as usize;
         let [entry, h, file, place, ..] = numbers;
-        let mut block = Block { entry, h, file, place, lengths: [0; TEXTS], rooms: [0; ROOMS] };
+        let mut block = Block { entry, h, file, place, lengths: [0; TEXTS], rooms: [0; ROOMS], edition: numbers[EDITION] };
         block.lengths.iter_mut().enumerate().for_each(|(text, length)| *length = size(FIRST_LENGTH + text));
         block.rooms.iter_mut().enumerate().for_each(|(room, lent)| *lent = size(FIRST_ROOM + room));
         Some(block)
@@ -75,6 +80,7 @@ mod tests {
         assert_eq!((block.entry, block.h, block.file, block.place), (1, 2, 3, 4));
         assert_eq!(block.lengths, [5, 6, 7, 8, 9]);
         assert_eq!(block.rooms, [10, 11, 12, 13, 14, 15, 16, 17, 18, 19]);
+        assert_eq!(block.edition, 20);
     }
 
     #[test]

@@ -27,13 +27,13 @@ impl Entry {
 /// No code, so that a function that writes nothing answers nothing.
 const UNWRITTEN: Numbers = [u64::MAX; 16];
 
-/// The function with H, each text and each table as its pointer and its length, and room for the answer.
+/// The function with what the block states, each text and each table as its pointer and its length, and room for the answer.
 macro_rules! call {
-    ($function:expr, $h:expr, $($text:ident),*; $rooms:ident lends $($table:ident),*) => {{
+    ($function:expr, $block:ident, $($text:ident),*; $rooms:ident lends $($table:ident),*) => {{
         let mut answer = UNWRITTEN;
         // Safe: each pointer goes with the length of its slice. The tables are vectors of their own, lent for this call alone (`&mut Rooms`), so none
         // overlaps another or a text.
-        unsafe { $function($h, $($text.as_ptr(), $text.len(),)* $($rooms.$table.as_mut_ptr(), $rooms.$table.len(),)* &mut answer) };
+        unsafe { $function($block.h, $block.edition, $($text.as_ptr(), $text.len(),)* $($rooms.$table.as_mut_ptr(), $rooms.$table.len(),)* &mut answer) };
         answer
     }};
 }
@@ -42,13 +42,13 @@ macro_rules! call {
 pub fn call(exports: &Exports, entry: Entry, block: &Block, texts: &Texts, rooms: &mut Rooms) -> Numbers {
     let [timetable, profiles, constraints, solution, second] = texts.parts();
     match entry {
-        Entry::Check => call!((exports.check), block.h, timetable, profiles, constraints, solution;
+        Entry::Check => call!((exports.check), block, timetable, profiles, constraints, solution;
             rooms lends legs, configurations, profiles, samples, constraints, tracks, choices),
-        Entry::Energy => call!((exports.energy), block.h, timetable, profiles, constraints, solution;
+        Entry::Energy => call!((exports.energy), block, timetable, profiles, constraints, solution;
             rooms lends legs, configurations, profiles, samples, constraints, tracks, choices, curves),
-        Entry::MergeEarlier => call!((exports.merge_earlier), block.h, timetable, profiles, constraints, solution, second;
+        Entry::MergeEarlier => call!((exports.merge_earlier), block, timetable, profiles, constraints, solution, second;
             rooms lends legs, configurations, profiles, samples, constraints, tracks, choices, second_choices, text),
-        Entry::MergeLater => call!((exports.merge_later), block.h, timetable, profiles, constraints, solution, second;
+        Entry::MergeLater => call!((exports.merge_later), block, timetable, profiles, constraints, solution, second;
             rooms lends legs, configurations, profiles, samples, constraints, tracks, choices, second_choices, text),
         Entry::Row => row(exports, block, timetable, solution),
     }

@@ -4,18 +4,18 @@
 /// What a function answers: a code, then the values, unused ones 0.
 pub type Numbers = [u64; 16];
 
-/// A function takes H, its texts, the tables that it fills, and room for its answer; a text and a table are a pointer and a length each.
+/// A function takes H, the edition, its texts, the tables that it fills, and room for its answer; a text and a table are a pointer and a length each.
 macro_rules! exports {
     ($($name:ident is $export:ident($($text:ident),*) filling $($table:ident: $number:ty),*;)*) => {
         extern "C" {
-            $(pub fn $export(h: u32, $($text: *const u8, _: usize,)* $($table: *mut $number, _: usize,)* answer: *mut Numbers);)*
+            $(pub fn $export(h: u32, edition: u32, $($text: *const u8, _: usize,)* $($table: *mut $number, _: usize,)* answer: *mut Numbers);)*
             pub fn wagontulip_row(draft: *const u8, _: usize, solution: *const u8, _: usize, file: u8, place: u32, answer: *mut Numbers);
         }
 
         /// The functions of one library.
         #[derive(Clone, Copy)]
         pub struct Exports {
-            $(pub $name: unsafe extern "C" fn(u32, $($text: *const u8, _: usize,)* $($table: *mut $number, _: usize,)* *mut Numbers),)*
+            $(pub $name: unsafe extern "C" fn(h: u32, edition: u32, $($text: *const u8, _: usize,)* $($table: *mut $number, _: usize,)* *mut Numbers),)*
             pub row: unsafe extern "C" fn(draft: *const u8, _: usize, solution: *const u8, _: usize, u8, u32, *mut Numbers),
         }
     };

@@ -35,7 +35,12 @@ const COUNT: Range = 0..=u32::MAX as u64;
 const VIOLATION: [Range; 5] = [0..=5, COUNT, 0..=2, COUNT, 4..=5];
 
 /// Number, file, place.
-const REFUSAL: [Range; 3] = [1..=17, 0..=5, COUNT];
+const REFUSAL: [Range; 3] = [COUNT, 0..=5, COUNT];
+
+/// Document 01's refusal numbers, and that of an edition that is not known.
+fn is_refusal(number: u64) -> bool {
+    matches!(number, 1..=17 | 21)
+}
 
 /// Six figures, the bits of four doubles, two quarters.
 const ENERGIES: [Range; 12] = [ANY, ANY, ANY, ANY, ANY, ANY, ANY, ANY, ANY, ANY, COUNT, COUNT];
@@ -61,7 +66,7 @@ fn words(entry: Entry, numbers: &Numbers, text_room: usize) -> Option<String> {
     let [code, values @ ..] = numbers;
     match (*code, entry) {
         (VIOLATED, _) => said("violated", values, &VIOLATION),
-        (REFUSED, _) => said("refused", values, &REFUSAL),
+        (REFUSED, _) if is_refusal(values[0]) => said("refused", values, &REFUSAL),
         (ACCEPTED, Entry::Check) => said("accepted", values, &[]),
         (ACCEPTED, Entry::Energy) => energies(values),
         (ACCEPTED, Entry::MergeEarlier | Entry::MergeLater) => said("accepted", values, &[0..=text_room as u64]),
@@ -126,6 +131,7 @@ mod tests {
         assert_eq!(told(Entry::Check, &[0]).unwrap(), "accepted");
         assert_eq!(told(Entry::Check, &[1, 3, 7, 1, 3, 5]).unwrap(), "violated 3 7 1 3 5");
         assert_eq!(told(Entry::MergeLater, &[2, 17, 5, 113]).unwrap(), "refused 17 5 113");
+        assert_eq!(told(Entry::Energy, &[2, 21, 0, 0]).unwrap(), "refused 21 0 0");
         assert_eq!(told(Entry::MergeEarlier, &[0, 9]).unwrap(), "accepted 9");
         assert_eq!(row(&numbers(&[3, 1, 2]), b"\n12").unwrap(), "row 2 1569");
         assert_eq!(row(&numbers(&[3]), b"").unwrap(), "row 0 0");
@@ -142,7 +148,7 @@ mod tests {
 
     #[test]
     fn what_is_not_known_is_no_answer() {
-        let others: [&[u64]; 10] = [
+        let others: [&[u64]; 13] = [
             &[3],
             &[4],
             &[u64::MAX; 16],
@@ -151,7 +157,10 @@ mod tests {
             &[1, 1, 0, 3, 1, 4],
             &[1, 1, 0, 1, 1, 3],
             &[1, 1, 1 << 32, 1, 1, 4],
+            &[2, 0, 0, 0],
             &[2, 18, 0, 0],
+            &[2, 20, 1, 0],
+            &[2, 22, 0, 0],
             &[2, 4, 1, 0, 1],
         ];
         for other in others {

@@ -2,7 +2,7 @@
 
 mod common;
 
-use common::{accepted, answer, case, example, expected, line, lines, written, ENOUGH, H, STAND_IN};
+use common::{accepted, answer, case, example, expected, line, lines, written, EDITION, ENOUGH, H, STAND_IN};
 use independent::{Call, Case, Entry, Rooms};
 
 /// The line that is given, which is the expected one.
@@ -26,6 +26,24 @@ fn checks() {
     assert_eq!(of("constraints.json", "half-edited.csv"), "refused 4 4 145");
     assert_eq!(of("track-2-in-no-subnet.json", "solution-nominal.csv"), "refused 15 1 145");
     assert_eq!(agreed_answer(Entry::Check, Case { h: 0, ..accepted() }), "refused 1 0 0");
+}
+
+/// The edition is handed over as the block states it, whatever it is, by every entry that takes one.
+#[test]
+fn editions() {
+    let of = |entry, edition, constraints: &str| {
+        agreed_answer(entry, Case { edition, ..case(constraints, "solution-nominal.csv", "solution-nominal.csv") })
+    };
+    for entry in [Entry::Check, Entry::Energy, Entry::MergeEarlier, Entry::MergeLater] {
+        for (edition, other) in [(1, 2), (2, 1)] {
+            let constraints = format!("turnaround-edition-{edition}.json");
+            assert!(of(entry, edition, &constraints).starts_with("accepted"));
+            assert_eq!(of(entry, other, &constraints), "refused 10 3 193");
+        }
+        for edition in [0, 3, 256, 257, u32::MAX] {
+            assert_eq!(of(entry, edition, "turnaround-edition-2.json"), "refused 21 0 0");
+        }
+    }
 }
 
 #[test]
@@ -96,7 +114,7 @@ fn rooms_at_their_need() {
 #[test]
 fn no_texts_and_no_rooms() {
     for entry in Entry::ALL {
-        let nothing = Case { h: H, texts: Default::default(), rooms: Rooms::all(0) };
+        let nothing = Case { h: H, edition: EDITION, texts: Default::default(), rooms: Rooms::all(0) };
         agreed(&Call::of(entry, nothing.clone()));
         agreed(&Call::of(entry, Case { rooms: Rooms::all(ENOUGH), ..nothing }));
         let line = agreed(&Call::of(entry, Case { rooms: Rooms::all(0), ..accepted() }));

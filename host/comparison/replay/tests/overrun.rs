@@ -22,11 +22,12 @@ macro_rules! overrun {
         #[allow(clippy::too_many_arguments)]
         unsafe extern "C" fn $name<const ROOM: usize>(
             h: u32,
+            edition: u32,
             $($text: *const u8, $length: usize,)*
             $($table: *mut $number, $room: usize,)*
             answer: *mut Numbers,
         ) {
-            stand_in::$export(h, $($text, $length,)* $($table, $room,)* answer);
+            stand_in::$export(h, edition, $($text, $length,)* $($table, $room,)* answer);
             $(if ROOM == $place {
                 assert!(FILLED[$place] < $room);
                 *$table.add(FILLED[$place]) = 8;

@@ -1,17 +1,19 @@
 //! Document 01's worked example, and short words for the tests.
 #![allow(dead_code)]
 
-use independent::{check, energy, merge, Answer, Checked, Direction, Merged, Report, Rooms};
+use independent::{check, energy, merge, Answer, Checked, Direction, Merged, Report, Rooms, Stated};
 
-pub const TIMETABLE_HEADER: &str = "leg_id,train_id,track_id,start_station_id,end_station_id,nominal_departure_configuration,departure_configurations\n";
+pub const TIMETABLE_HEADER: &str =
+    "leg_id,train_id,track_id,start_station_id,end_station_id,nominal_departure_configuration,departure_configurations\n";
 pub const PROFILES_HEADER: &str = "profile_id,power_consumptions\n";
 pub const ROW_1: &str = "1,1,1,1,2,10_4_7,10_4_7 15_4_7\n";
 pub const ROW_2: &str = "2,1,2,2,3,40_3_8,40_3_8 45_3_8\n";
 
-/// H, the four texts, a second solution, and the lent room.
+/// H, the edition, the four texts, a second solution, and the lent room.
 #[derive(Clone)]
 pub struct Texts {
     pub h: u32,
+    pub edition: u32,
     pub timetable: Vec<u8>,
     pub profiles: Vec<u8>,
     pub constraints: Vec<u8>,
@@ -25,6 +27,7 @@ pub fn example() -> Texts {
     let timetable = timetable(&[ROW_1, ROW_2]);
     Texts {
         h: 100,
+        edition: 2,
         profiles: profiles(&["7,0.5 1.0 0.25 -0.4\n", "8,0.3 0.0 -0.2\n"]),
         constraints: lists(&[dwell(20), subnet_of_both()]),
         solution: timetable.clone(),
@@ -80,15 +83,16 @@ pub fn lists(given: &[List]) -> Vec<u8> {
 
 /// The example's solution with these departures.
 pub fn departures(first: u32, second: u32) -> Vec<u8> {
-    timetable(&[
-        &format!("1,1,1,1,2,{first}_4_7,10_4_7 15_4_7\n"),
-        &format!("2,1,2,2,3,{second}_3_8,40_3_8 45_3_8\n"),
-    ])
+    timetable(&[&format!("1,1,1,1,2,{first}_4_7,10_4_7 15_4_7\n"), &format!("2,1,2,2,3,{second}_3_8,40_3_8 45_3_8\n")])
 }
 
 impl Texts {
+    fn stated(&self) -> Stated {
+        Stated { horizon: self.h, edition: self.edition }
+    }
+
     pub fn checked(&self) -> Checked {
-        check(self.h, &self.timetable, &self.profiles, &self.constraints, &self.solution, &self.rooms)
+        check(self.stated(), &self.timetable, &self.profiles, &self.constraints, &self.solution, &self.rooms)
     }
 
     pub fn answer(&self) -> Answer {
@@ -96,20 +100,11 @@ impl Texts {
     }
 
     pub fn report(&self) -> Report {
-        energy(self.h, &self.timetable, &self.profiles, &self.constraints, &self.solution, &self.rooms)
+        energy(self.stated(), &self.timetable, &self.profiles, &self.constraints, &self.solution, &self.rooms)
     }
 
     pub fn merged(&self, direction: Direction) -> Merged {
-        merge(
-            direction,
-            self.h,
-            &self.timetable,
-            &self.profiles,
-            &self.constraints,
-            &self.solution,
-            &self.second,
-            &self.rooms,
-        )
+        merge(direction, self.stated(), &self.timetable, &self.profiles, &self.constraints, &self.solution, &self.second, &self.rooms)
     }
 
     /// The same with other constraints.

@@ -3,7 +3,7 @@
 use crate::files::{profiles_size, timetable_size, Files, Rows, Spelling, CONSTRAINTS, H, ROWS, SPELLINGS};
 use std::io::{BufRead, Write};
 use std::time::Duration;
-use wagontulip::{Answer, Checker, Rooms, Table};
+use wagontulip::{Answer, Checker, Edition, Rooms, Stated, Table};
 use yardstick::{clock, CONFIGURATION, LEG, PROFILE};
 
 /// How far a check goes.
@@ -52,16 +52,16 @@ impl Stage {
         }
     }
 
-    /// H and the four texts.
-    fn texts(self, files: &Files) -> (u32, [&[u8]; 4]) {
-        let h = if self == Stage::Nothing { 0 } else { H };
+    /// What is stated, and the four texts.
+    fn texts(self, files: &Files) -> (Stated, [&[u8]; 4]) {
+        let horizon = if self == Stage::Nothing { 0 } else { H };
         let texts = match self {
             Stage::Nothing | Stage::Draft => [&files.draft[..], "", "", ""],
             Stage::Profiles => [&files.no_legs[..], &files.profiles[..], "", ""],
             Stage::NoSolution => [&files.draft[..], &files.named[..], CONSTRAINTS, ""],
             Stage::Solution => [&files.draft[..], &files.named[..], CONSTRAINTS, &files.solution[..]],
         };
-        (h, texts.map(str::as_bytes))
+        (Stated { horizon, edition: Edition::EXAMPLE }, texts.map(str::as_bytes))
     }
 }
 
@@ -96,10 +96,10 @@ fn prepared(job: &Job) -> Result<(Checker, Files), String> {
 }
 
 fn timed(checker: &mut Checker, stage: Stage, files: &Files) -> Result<Duration, String> {
-    let (h, [timetable, profiles, constraints, solution]) = stage.texts(files);
+    let (stated, [timetable, profiles, constraints, solution]) = stage.texts(files);
     let files = wagontulip::Files { timetable, profiles, constraints };
     let start = clock::now();
-    let answer = checker.check(h, &files, solution);
+    let answer = checker.check(stated, &files, solution);
     let took = clock::now() - start;
     let stopped = match answer.map_err(|unknown| unknown.to_string())? {
         Answer::Accepted(()) => None,

@@ -1,5 +1,6 @@
 //! The programs that are measured, behind one face.
 
+use wagontulip::Edition;
 use yardstick::whole::Texts;
 
 /// What a check ends in.
@@ -90,6 +91,11 @@ impl From<independent::Answer> for Outcome {
     }
 }
 
+/// The maker's edition, and the yardstick's.
+fn stated(horizon: u32) -> independent::Stated {
+    independent::Stated { horizon, edition: Edition::EXAMPLE }
+}
+
 fn ample() -> independent::Rooms {
     independent::Rooms::all(67_108_864)
 }
@@ -100,11 +106,11 @@ impl Side for Independent {
     }
 
     fn check(&mut self, h: u32, texts: &Texts) -> Outcome {
-        independent::check(h, texts.timetable, texts.profiles, texts.constraints, texts.solution, &ample()).answer.into()
+        independent::check(stated(h), texts.timetable, texts.profiles, texts.constraints, texts.solution, &ample()).answer.into()
     }
 
     fn energy(&mut self, h: u32, texts: &Texts) -> (Outcome, Figures) {
-        let report = independent::energy(h, texts.timetable, texts.profiles, texts.constraints, texts.solution, &ample());
+        let report = independent::energy(stated(h), texts.timetable, texts.profiles, texts.constraints, texts.solution, &ample());
         let f = report.figures;
         (report.answer.into(), [f.before, f.drawn, f.lost, f.fluctuation, f.peak_before, f.peak_drawn])
     }
@@ -112,7 +118,7 @@ impl Side for Independent {
 
 mod proved {
     use super::{Figures, Outcome, Side};
-    use wagontulip::{Answer, Checker, Files};
+    use wagontulip::{Answer, Checker, Edition, Files, Stated};
     use yardstick::whole::Texts;
 
     pub struct Proved(Checker);
@@ -140,17 +146,22 @@ mod proved {
         Files { timetable: texts.timetable, profiles: texts.profiles, constraints: texts.constraints }
     }
 
+    /// As the independent program is asked.
+    fn stated(horizon: u32) -> Stated {
+        Stated { horizon, edition: Edition::EXAMPLE }
+    }
+
     impl Side for Proved {
         fn name(&self) -> &'static str {
             "proved"
         }
 
         fn check(&mut self, h: u32, texts: &Texts) -> Outcome {
-            outcome(&self.0.check(h, &files(texts), texts.solution).expect("an answer"))
+            outcome(&self.0.check(stated(h), &files(texts), texts.solution).expect("an answer"))
         }
 
         fn energy(&mut self, h: u32, texts: &Texts) -> (Outcome, Figures) {
-            let answer = self.0.energy(h, &files(texts), texts.solution).expect("an answer");
+            let answer = self.0.energy(stated(h), &files(texts), texts.solution).expect("an answer");
             let said = outcome(&answer);
             match answer {
                 Answer::Accepted(energies) => {

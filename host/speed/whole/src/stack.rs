@@ -5,7 +5,7 @@ use crate::instance::Instance;
 use crate::memory::again;
 use instances::{Choices, Plan, Shape, Style};
 use std::thread;
-use wagontulip::{row_at, Checker, Files};
+use wagontulip::{row_at, Checker, Edition, Files, Stated};
 
 const ENTRIES: [&str; 5] = ["nothing", "check", "energy", "merge", "row"];
 
@@ -53,13 +53,13 @@ pub fn run(entry: &str, legs: usize, levels: usize) -> Result<(), String> {
     let mut checker = Checker::new().map_err(|none| none.to_string())?;
     let entry = entry.to_string();
     let work = move || {
-        let (h, draft) = (instance.h, &instance.timetable);
+        let (stated, draft) = (Stated { horizon: instance.h, edition: Edition::EXAMPLE }, &instance.timetable);
         let files = Files { timetable: draft, profiles: &instance.profiles, constraints: &instance.constraints };
         let top = 0u8;
         let bottom = fill(levels, &mut || match entry.as_str() {
-            "check" => drop(checker.check(h, &files, draft)),
-            "energy" => drop(checker.energy(h, &files, draft)),
-            "merge" => drop(checker.merge_later(h, &files, draft, &second)),
+            "check" => drop(checker.check(stated, &files, draft)),
+            "energy" => drop(checker.energy(stated, &files, draft)),
+            "merge" => drop(checker.merge_later(stated, &files, draft, &second)),
             "row" => drop(row_at(draft, &second, 1, 200)),
             _ => {}
         });

@@ -1,4 +1,4 @@
-//! constraints.json by hand, for good files: records of 6 numbers ordered by kind, tracks of 2. Each key is first looked for where document 000 has it.
+//! constraints.json by hand, for good files of edition 2: records of 6 numbers ordered by kind, tracks of 2. Each key is first looked for where document 000 has it.
 
 use crate::ids::Rows;
 use crate::{Bytes, CONSTRAINT, MOST_ID, MOST_TEXT, TRACK};

@@ -1,6 +1,6 @@
 //! A yardstick that measures something else is none: it gives the independent program's tables, verdicts and figures.
 
-use independent::{check, energy, Answer, Rooms};
+use independent::{check, energy, Answer, Rooms, Stated};
 use instances::{exported, indented, Aim, Choices, Ids, Plan, Shape, Style, Worst};
 use yardstick::energy::Figures;
 use yardstick::verdict::Violation;
@@ -8,6 +8,11 @@ use yardstick::whole::{Stopped, Tables, Texts};
 
 fn tables() -> Tables {
     Tables::new([24_000, 240_000, 12_000, 600_000, 60_000, 8_000, 9_000, 8 * 176_400])
+}
+
+/// The yardstick's edition.
+fn stated(horizon: u32) -> Stated {
+    Stated { horizon, edition: 2 }
 }
 
 fn shapes() -> Vec<Shape> {
@@ -44,7 +49,7 @@ fn good_files() {
 fn is_as_independent(h: u32, texts: &Texts) {
     let mut tables = tables();
     let figures = tables.energy(h, texts).unwrap().unwrap();
-    let report = energy(h, texts.timetable, texts.profiles, texts.constraints, texts.solution, &Rooms::all(67_108_864));
+    let report = energy(stated(h), texts.timetable, texts.profiles, texts.constraints, texts.solution, &Rooms::all(67_108_864));
     let its = report.figures;
     let its_figures = Figures {
         before: its.before,
@@ -121,7 +126,7 @@ fn files_that_are_not_good() {
 /// Whether a check stops, which it does just where the independent program refuses.
 fn is_stopped(tables: &mut Tables, h: u32, [timetable, profiles, constraints, solution]: &[Vec<u8>; 4], what: &str) -> bool {
     let said = tables.check(h, &Texts { timetable, profiles, constraints, solution });
-    let expected = match check(h, timetable, profiles, constraints, solution, &Rooms::all(67_108_864)).answer {
+    let expected = match check(stated(h), timetable, profiles, constraints, solution, &Rooms::all(67_108_864)).answer {
         Answer::Accepted => Ok(None),
         Answer::Violated { kind, position, inequality, shortfall, .. } => {
             Ok(Some(Violation { kind, position, inequality, shortfall: shortfall as u32 }))

@@ -77,7 +77,7 @@ returns c =
     let empty-choices2 = c .before .before .before .before .before .before .empty-choices2 in
     let s = c .before .before .before .before .before .before .before .before .before .before .before .before .before .before .before .before .before .before .before .before .before .before .before .before .before .before .before .before .before .before .before .before .before .before .before .before .before .before .before .before .before .before .before .before .before .before .before .before .before .before .before .before .before .before .before .before .before .before .before .before .before .before .before .before .before .before .before .before .before .before .args in
     let r = c .before .before .before .before .before .before .before .before .before .before .before .before .before .before .before .before .before .before .before .before .before .before .before .before .before .before .before .before .before .before .before .before .before .before .before .before .before .before .before .before .before .before .before .before .before .before .before .read-and-merge in
-    merge-ends (s .direction) (s .h) (texts (s .timetable .now) (s .profiles .now) (s .constraints .now)) (s .first .now) (s .second .now) (tables (s .legs .now) (s .configurations .now) (s .profile-table .now) (s .samples .now) (s .constraint-table .now) (s .tracks .now)) (s .choices .now) (s .second-choices .now) (s .text .now) (r .ensures)
+    merge-ends (s .direction) (s .stated) (texts (s .timetable .now) (s .profiles .now) (s .constraints .now)) (s .first .now) (s .second .now) (tables (s .legs .now) (s .configurations .now) (s .profile-table .now) (s .samples .now) (s .constraint-table .now) (s .tracks .now)) (s .choices .now) (s .second-choices .now) (s .text .now) (r .ensures)
     (record { legs = r .kept .1 .1 .1 .1 .1 .1 .1 .0; configurations = r .kept .1 .1 .1 .1 .1 .1 .1 .1 .0; profiles = r .kept .1 .1 .1 .1 .1 .1 .1 .1 .1 .0; samples = r .kept .1 .1 .1 .1 .1 .1 .1 .1 .1 .1 .0; constraints = r .kept .1 .1 .1 .1 .1 .1 .1 .1 .1 .1 .1 .0; tracks = r .kept .1 .1 .1 .1 .1 .1 .1 .1 .1 .1 .1 .1 .0 })
     (r .kept .1 .1 .1 .1 .1 .1 .1 .1 .1 .1 .1 .1 .1 .0) (r .kept .1 .1 .1 .1 .1 .1 .1 .1 .1 .1 .1 .1 .1 .1 .0) (r .kept .1 .1 .1 .1 .1 .1 .1 .1 .1 .1 .1 .1 .1 .1 .1 .0) (empty-tables .ensures) (empty-choices .ensures) (empty-choices2 .ensures) (c .before .before .empty-text .ensures)
 

@@ -59,7 +59,7 @@ returns : tie.Need-returns
 returns c =
     let s = c .before .before .before .before .before .before .before .before .before .before .before .before .before .before .before .before .before .before .before .before .before .before .before .before .before .before .before .before .before .before .before .before .before .before .before .before .before .before .before .before .before .before .before .before .before .before .before .before .before .before .before .before .before .args in
     let r = c .before .before .before .before .before .before .before .before .before .before .before .before .before .before .before .before .before .before .before .before .before .before .before .before .before .before .before .before .before .before .before .before .before .before .before .read-and-judge in
-    check-ends (s .h) (texts (s .timetable .now) (s .profiles .now) (s .constraints .now)) (s .solution .now) (tables (s .legs .now) (s .configurations .now) (s .profile-table .now) (s .samples .now) (s .constraint-table .now) (s .tracks .now)) (s .choices .now) (r .ensures)
+    check-ends (s .stated) (texts (s .timetable .now) (s .profiles .now) (s .constraints .now)) (s .solution .now) (tables (s .legs .now) (s .configurations .now) (s .profile-table .now) (s .samples .now) (s .constraint-table .now) (s .tracks .now)) (s .choices .now) (r .ensures)
     (record { legs = r .kept .1 .1 .1 .1 .1 .0; configurations = r .kept .1 .1 .1 .1 .1 .1 .0; profiles = r .kept .1 .1 .1 .1 .1 .1 .1 .0; samples = r .kept .1 .1 .1 .1 .1 .1 .1 .1 .0; constraints = r .kept .1 .1 .1 .1 .1 .1 .1 .1 .1 .0; tracks = r .kept .1 .1 .1 .1 .1 .1 .1 .1 .1 .1 .0 })
     (r .kept .1 .1 .1 .1 .1 .1 .1 .1 .1 .1 .1 .0) (c .before .before .before .before .before .before .before .before .before .before .before .before .before .before .before .empty-tables .ensures) (c .before .before .empty-choices .ensures)
 

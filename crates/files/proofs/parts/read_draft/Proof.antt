@@ -1,23 +1,17 @@
 -- `files::parts::read_draft` meets its contract: each way out by its law. Assumes nothing.
 use borrow.Author.Needs.{needs}
-use Rattle.files.proofs.DraftWays.{draft-late, draft-fault, draft-right}
+use Rattle.files.proofs.DraftWays.{draft-unknown, draft-fault, draft-right}
 use Rattle.files.proofs.parts.read_draft.Statement.{statement}
 use Rattle.files.proofs.parts.read_draft.Tie as tie
 
-new-requires : tie.Need-new-requires
-new-requires c κs = search needs
+test-requires : tie.Need-test-requires
+test-requires c κs = search needs
+
+enum-known-refusal : tie.Need-enum-known-refusal
+enum-known-refusal c = search needs
 
 enum-told : tie.Need-enum-told
 enum-told c = search needs
-
-enum-told-2 : tie.Need-enum-told-2
-enum-told-2 c = search needs
-
-new-requires-2 : tie.Need-new-requires-2
-new-requires-2 c κs = search needs
-
-returns : tie.Need-returns
-returns c = search (draft-late, needs)
 
 read-timetable-requires : tie.Need-read-timetable-requires
 read-timetable-requires c κs = search needs
@@ -25,17 +19,20 @@ read-timetable-requires c κs = search needs
 enum-known-number : tie.Need-enum-known-number
 enum-known-number c = search needs
 
-new-requires-3 : tie.Need-new-requires-3
-new-requires-3 c κs = search needs
+new-requires : tie.Need-new-requires
+new-requires c κs = search needs
 
 enum-known-rows : tie.Need-enum-known-rows
 enum-known-rows c = search needs
 
-cast-t18 : tie.Need-cast-t18
-cast-t18 c = search needs
+cast-t20 : tie.Need-cast-t20
+cast-t20 c = search needs
 
-cast-t19 : tie.Need-cast-t19
-cast-t19 c = search needs
+cast-t21 : tie.Need-cast-t21
+cast-t21 c = search needs
+
+returns : tie.Need-returns
+returns c = search (draft-unknown, needs)
 
 same-length : tie.Need-same-length
 same-length c = search needs
@@ -59,17 +56,16 @@ pub read-draft-spec : {M : Type 1} → statement M
 read-draft-spec =
     tie.close
     (tie.spec
-    new-requires
+    test-requires
+    enum-known-refusal
     enum-told
-    enum-told-2
-    new-requires-2
-    returns
     read-timetable-requires
     enum-known-number
-    new-requires-3
+    new-requires
     enum-known-rows
-    cast-t18
-    cast-t19
+    cast-t20
+    cast-t21
+    returns
     same-length
     same-length-2
     returns-2

@@ -4,6 +4,9 @@ use Rattle.files.proofs.RuleWays.{rules-able, fifteen-able, rules-refus
 use Rattle.files.proofs.parts.read_rules.Statement.{statement}
 use Rattle.files.proofs.parts.read_rules.Tie as tie
 
+rules-requires : tie.Need-rules-requires
+rules-requires c κs = search needs
+
 read-constraints-requires : tie.Need-read-constraints-requires
 read-constraints-requires c κs = search (rules-able, needs)
 
@@ -18,10 +21,10 @@ enum-known-records c = search needs
 
 subnet-fault-requires : tie.Need-subnet-fault-requires
 subnet-fault-requires c κs =
-    let given = c .before .before .before .before .before .before .before .before .before .before .before .before .before .before .before .before .args in
-    let asked = c .before .before .before .before .before .before .before .before .before .before .before .before .before .before .before .before .pre in
+    let start = c .before .before .before .before .before .before .before .before .before .before .before .before .before .before .before .before .before in
+    let rules = c .before .before .before .before .before .before .before .before .before .before .before .rules in
     let read-constraints = c .before .before .before .before .before .before .before .before .read-constraints in
-    fifteen-able (given .counts) _ _ _ _ _ _ _ (read-constraints .ensures) (c .before .before .records .given .1) asked
+    fifteen-able (start .args .stated) (rules .ensures) (start .args .counts) _ _ _ _ _ _ _ (read-constraints .ensures) (c .before .before .records .given .1) (start .pre)
 
 enum-known-row : tie.Need-enum-known-row
 enum-known-row c = search needs
@@ -63,6 +66,7 @@ pub read-rules-spec : {M : Type 1} → statement M
 read-rules-spec =
     tie.close
     (tie.spec
+    rules-requires
     read-constraints-requires
     enum-known-number
     new-requires

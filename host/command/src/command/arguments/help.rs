@@ -2,9 +2,9 @@
 
 use super::Verb;
 
-const CHECK: &str = "wagontulip check  --horizon H TIMETABLE PROFILES CONSTRAINTS SOLUTION\n";
-const ENERGY: &str = "wagontulip energy --horizon H TIMETABLE PROFILES CONSTRAINTS SOLUTION [--curves OUT]\n";
-const MERGE: &str = "wagontulip merge  --horizon H TIMETABLE PROFILES CONSTRAINTS FIRST SECOND --earlier OUT --later OUT\n";
+const CHECK: &str = "wagontulip check  --horizon H [--edition N] TIMETABLE PROFILES CONSTRAINTS SOLUTION\n";
+const ENERGY: &str = "wagontulip energy --horizon H [--edition N] TIMETABLE PROFILES CONSTRAINTS SOLUTION [--curves OUT]\n";
+const MERGE: &str = "wagontulip merge  --horizon H [--edition N] TIMETABLE PROFILES CONSTRAINTS FIRST SECOND --earlier OUT --later OUT\n";
 const ROW: &str = "\
 wagontulip row    --place P FILE
 wagontulip row    --file N --place P TIMETABLE SOLUTION
@@ -27,8 +27,10 @@ Shows the row that starts at a place, as a refusal tells one: of any CSV file, o
   --file N        1 for the timetable, 4 for the solution
 ";
 
-const HORIZON: &str = "
+const STATED: &str = "
   --horizon H     seconds of the horizon
+  --edition N     of CONSTRAINTS: 1 where its turnarounds have min_dwell_time, 2 where they have min_turnaround_time; where no
+                  edition is given, 2 is stated
 ";
 const CURVES: &str = "  --curves OUT    write the power of every second: one line a second, the subnets' kW in order
 ";
@@ -36,7 +38,7 @@ const OUTPUTS: &str = "  --earlier OUT   where the earlier choice of each leg is
   --later OUT     where the later choice of each leg is written
 ";
 const OPTIONS: &str =
-    "  --json          the result as one object, for a program and for a signature: docs/schema/answer-1.json describes it
+    "  --json          the result as one object, for a program and for a signature: docs/schema/answer-2.json describes it
   --room TABLE=N  lend N numbers (bytes, for text) in the place of the room at the limits, which is the most; TABLE is legs,
                   configurations, profiles, samples, constraints, tracks, choices, second_choices, curves or text
   --no-install    where the program has to be built first, install no package and name what is missing
@@ -53,9 +55,9 @@ Exit status: 0 accepted, 1 violated, 2 refused, 3 could not run.
 pub fn help(verb: Option<Verb>) -> String {
     let parts: &[&str] = match verb {
         None => &[CHECK, ENERGY, MERGE, ROW, ITSELF, "\n", OPTIONS],
-        Some(Verb::Check) => &[CHECK, OF_CHECK, HORIZON, OPTIONS],
-        Some(Verb::Energy) => &[ENERGY, OF_ENERGY, HORIZON, CURVES, OPTIONS],
-        Some(Verb::Merge) => &[MERGE, OF_MERGE, HORIZON, OUTPUTS, OPTIONS],
+        Some(Verb::Check) => &[CHECK, OF_CHECK, STATED, OPTIONS],
+        Some(Verb::Energy) => &[ENERGY, OF_ENERGY, STATED, CURVES, OPTIONS],
+        Some(Verb::Merge) => &[MERGE, OF_MERGE, STATED, OUTPUTS, OPTIONS],
         Some(Verb::Row) => &[ROW, OF_ROW, OPTIONS],
     };
     parts.concat()

@@ -11,8 +11,12 @@ pub struct Number<N> {
     pub value: N,
 }
 
-/// H.
-pub type Horizon = Number<u32>;
+impl<N: fmt::Display> Number<N> {
+    /// A number that was not given, as it would have been.
+    pub fn of(value: N) -> Number<N> {
+        Number { given: value.to_string(), value }
+    }
+}
 
 impl<N: FromStr> Number<N> {
     /// "One or more digits with no needless leading zero".

@@ -13,7 +13,7 @@ pub const STANDARD: &str = "-";
 
 const JSON: &str = "--json";
 const ROOM: &str = "--room";
-const VALUED: [&str; 7] = ["--horizon", "--curves", "--earlier", "--later", "--file", "--place", ROOM];
+const VALUED: [&str; 8] = ["--horizon", "--edition", "--curves", "--earlier", "--later", "--file", "--place", ROOM];
 
 /// The options as they were given, and the words that are none.
 #[derive(Default)]

@@ -2,6 +2,7 @@
 
 use crate::plan::{constraint_record, record, slack, Numbers, Plan, PlanLeg, Record, LIST_NAMES};
 use crate::random::Random;
+use crate::twin::KEYS;
 
 /// How many pairs of legs are tried for a constraint.
 const PAIRS_TRIED: usize = 8;
@@ -252,7 +253,7 @@ pub fn list_renamed(plan: &mut Plan, random: &mut Random) {
         list.name = match random.below(4) {
             0 => random.pick(&LIST_NAMES).to_string(),
             1 => list.name.to_uppercase(),
-            2 => list.name[..list.name.len() - 1].to_string(),
+            2 => list.name[..list.name.len().saturating_sub(1)].to_string(),
             _ => random.pick(&["", "first_leg_id", "headway_constraints", "dwell_time_constraints "]).to_string(),
         };
     }
@@ -305,6 +306,21 @@ pub fn key_renamed(plan: &mut Plan, random: &mut Random) {
         let place = random.below(record.len());
         if let Some((name, _)) = record.get_mut(place) {
             *name = random.pick(&NAMES).to_string();
+        }
+    }
+}
+
+/// A dwell or a turnaround by the key of the other, or by both in some order.
+pub fn key_of_the_other_edition(plan: &mut Plan, random: &mut Random) {
+    let mut keys = KEYS.map(|(_, key)| key);
+    random.shuffle(&mut keys);
+    let [own, other] = keys;
+    if let Some(record) = some_record_with(plan, own, random) {
+        if random.one_in(2) {
+            let at = random.below(record.len() + 1);
+            record.insert(at, (other.to_string(), String::from("20")));
+        } else {
+            record.iter_mut().filter(|(name, _)| name == own).for_each(|(name, _)| *name = other.to_string());
         }
     }
 }

@@ -1,5 +1,6 @@
-//! Changes of the texts, the room or H.
+//! Changes of the texts, the room, H or the edition.
 
+use crate::editions::EDITIONS;
 use crate::random::Random;
 use crate::spelling::CSV;
 use independent::Case;
@@ -247,4 +248,9 @@ pub fn text_room_smaller(case: &mut Case, random: &mut Random) {
 pub fn horizon_changed(case: &mut Case, random: &mut Random) {
     let shorter = case.h.saturating_sub(random.below(90) as u32);
     case.h = *random.pick(&[0, 176_401, 4_294_967_295, 0, 200_000, shorter, shorter, 176_400, 1]);
+}
+
+/// The files stay those of the edition that they had.
+pub fn edition_changed(case: &mut Case, random: &mut Random) {
+    case.edition = *random.pick(&EDITIONS);
 }

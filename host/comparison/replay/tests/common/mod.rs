@@ -22,6 +22,9 @@ const BEFORE: u8 = 7;
 /// The horizon of the examples.
 pub const H: u32 = 100;
 
+/// The edition of the examples.
+pub const EDITION: u32 = 2;
+
 /// More room than an example needs.
 pub const ENOUGH: usize = 1_000;
 
@@ -34,7 +37,7 @@ pub fn example(name: &str) -> Vec<u8> {
 /// The example's draft and profiles with other constraints and solutions.
 pub fn case(constraints: &str, solution: &str, second: &str) -> Case {
     let names = ["timetable.csv", "profiles.csv", constraints, solution, second];
-    Case { h: H, texts: names.map(example), rooms: Rooms::all(ENOUGH) }
+    Case { h: H, edition: EDITION, texts: names.map(example), rooms: Rooms::all(ENOUGH) }
 }
 
 /// Both solutions are accepted, and each has an earlier choice than the other.
@@ -47,12 +50,12 @@ pub fn number(entry: Entry) -> u64 {
     1 + Entry::ALL.iter().position(|other| *other == entry).unwrap() as u64
 }
 
-/// The numbers of a call's block; edition, set and quarter are 0.
+/// The numbers of a call's block; set and quarter are 0.
 pub fn numbers(call: &Call) -> Vec<u64> {
     let head = [number(call.entry), u64::from(call.case.h), u64::from(call.file), u64::from(call.place)];
     let lengths = call.case.texts.iter().map(|text| text.len() as u64);
     let rooms = call.case.rooms.numbers().map(|room| room as u64);
-    head.into_iter().chain(lengths).chain(rooms).chain([0; 3]).collect()
+    head.into_iter().chain(lengths).chain(rooms).chain([u64::from(call.case.edition), 0, 0]).collect()
 }
 
 /// The numbers with one space between, padded with spaces, LF last.

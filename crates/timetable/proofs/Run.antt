@@ -20,6 +20,7 @@ use Rattle.csv_marks.specs.declared.Mark.the-variants.{Bare, Within, Behind, Re
 use Rattle.csv_marks.specs.declared.Move.{Move}
 use Rattle.csv_marks.specs.Turns.{takes, plainUnder, movedUnder}
 use Rattle.csv_marks.proofs.Follow.{never-plain}
+use Rattle.csv_marks.proofs.Late.{late, late-most, late-open, late-shut}
 use Rattle.csv_marks.proofs.Moves.{Moves, goesTo, leaves, breaks, moves, left, step-most}
 use Rattle.timetable.specs.Held.{tables}
 use Rattle.timetable.specs.Text.{Signed, lineBegins, Leads, Placed, Opens, Ran, Lined, placedAt, begunAt}
@@ -227,31 +228,6 @@ module _ {H read : ℕ} {part : List ℕ} {from : ℕ} {legs₀ configurations�
         head-whole = refl;
         lines = led-over H read part from mark₀ number₀ line₀ (tables legs₀ configurations₀) i mark number line (tables legs configurations) (g .led) (g .placed .inside) h;
       }
-
--- a byte may be left once: then contents follow
-abbrev pub late : Mark → ℕ
-late Bare = 0
-late Within = 0
-late Behind = 1
-late Returned = 1
-
-late-most : (m : Mark) → late m ≤ 1
-late-most Bare = omega arith
-late-most Within = omega arith
-late-most Behind = omega arith
-late-most Returned = omega arith
-
-late-open : (m : Mark) → takes m ≡ true → late m ≡ 0
-late-open Bare t = refl
-late-open Within t = refl
-late-open Behind t = absurd (false≢true t)
-late-open Returned t = absurd (false≢true t)
-
-late-shut : (m : Mark) → takes m ≡ false → late m ≡ 1
-late-shut Bare t = absurd (true≢false t)
-late-shut Within t = absurd (true≢false t)
-late-shut Behind t = refl
-late-shut Returned t = refl
 
 pub line-less : {H read : ℕ} {part : List ℕ} {i : ℕ} {line : Line} {number : Number} {mark : Mark} {r : Run} {legs configurations legs′ configurations′ : List ℕ}
     → Ran H line number mark read part i r (tables legs configurations) (tables legs′ configurations′) → r .next < length part

@@ -3,8 +3,9 @@ use Prim.Native.Nat.{_+_, _*_, _-_}
 use lib.ListN.{length, getD}
 use denote.Ref.{now}
 use borrow.Author.Needs.{needs}
+use Rattle.csv_marks.proofs.Late.{late}
 use Rattle.csv_marks.proofs.Moves.{step-most}
-use Rattle.timetable.proofs.Run.{Lining, lining, lined-ran, lined-stopped, lining-on, lined-over, late, line-less}
+use Rattle.timetable.proofs.Run.{Lining, lining, lined-ran, lined-stopped, lining-on, lined-over, line-less}
 use Rattle.timetable.proofs.reader.run_lines.Statement.{statement}
 use Rattle.timetable.proofs.reader.run_lines.Tie as tie
 

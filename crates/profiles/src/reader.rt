@@ -98,7 +98,7 @@ pub struct Reader {
     pub state: State,
 }
 
-// The rows of a part, which follows `next` bytes, from a place on.
+// The rows of a part, which follows `next` bytes, from a place on: a plain byte goes to the contents, with the whole samples behind it, and any other one to the marks.
 fn run_rows(
     before: State,
     first: Mark,

@@ -49,19 +49,27 @@ pub fn may_end(mark: Mark) -> bool
     }
 }
 
-// Whether a byte goes to the contents and leaves the mark, wherever it stands in its field.
+// Whether a byte goes to the contents and leaves the mark, wherever it stands in its field. Where no quote is open, one test does for most bytes: they stand above the quote.
 pub fn plain(mark: Mark, b: u8) -> bool
     ensures { λ r. ⌜ r ≡ plainUnder mark b ⌝ }
 {
-    if b == b'"' {
-        return false;
-    }
-    if b == b'\r' {
-        return false;
-    }
     match mark {
-        Mark::Bare => true,
+        Mark::Bare => {
+            if b'"' < b {
+                return true;
+            }
+            if b == b'"' {
+                return false;
+            }
+            b != b'\r'
+        }
         Mark::Within => {
+            if b == b'"' {
+                return false;
+            }
+            if b == b'\r' {
+                return false;
+            }
             if b == b',' {
                 return false;
             }

@@ -1,14 +1,14 @@
 -- A part of a text: the loop's turns are the reading's bytes, one by one or whole samples at once. Assumes nothing.
-use Prim.Native.Nat.{ℕ, suc, _+_, _/_, _≤_, _<_}
+use Prim.Native.Nat.{ℕ, suc, _+_, _*_, _-_, _/_, _≤_, _<_}
 use mathlib.Core.Path.{_≡_, refl, ap, sym, subst, _∙_}
 use mathlib.Core.Bool.{Bool, true, false, cond, false≢true}
 use mathlib.Core.List.{List, []}
 use native.Mathlib.Omega.{arith}
 use native.Mathlib.Nat.{add-zero}
-use lib.Dec.{leb}
+use lib.Dec.{leb, eqb}
 use lib.ListN.{length, getD, drop}
 use lib.IntN.{ℤ}
-use borrow.Author.Tests.{le-leb, lt-leb, leb-true}
+use borrow.Author.Tests.{le-leb, lt-leb, leb-true, eqb-true, eqb-false}
 use Rattle.rules.specs.Limits.{mostText, profileWidth}
 use Rattle.rules.specs.Lists.{over}
 use Rattle.rules.specs.Answers.{badHeader}
@@ -18,7 +18,8 @@ use Rattle.csv_machine.proofs.Machine.{faulty-fold}
 use Rattle.csv_machine.proofs.Fold.{fold-drop, fold-end}
 use Rattle.csv_marks.specs.declared.Mark.{Mark}
 use Rattle.csv_marks.specs.declared.Mark.the-variants.{Bare}
-use Rattle.csv_marks.specs.Turns.{marked, takes}
+use Rattle.csv_marks.specs.Turns.{marked, takes, plainUnder}
+use Rattle.csv_marks.proofs.Late.{late, late-most, late-open, late-shut}
 use Rattle.csv_header.specs.declared.Headed.{Headed}
 use Rattle.csv_header.specs.Heading.{headed, comparedFrom, Headings}
 use Rattle.csv_header.proofs.Part.{past-header, header-law}
@@ -33,16 +34,16 @@ use Rattle.profiles_row.specs.Near.{empty-near}
 use Rattle.profiles_row.specs.Row.{Closed, ClosesTo}
 use Rattle.profiles_state.specs.declared.state.State.{State}
 use Rattle.profiles_state.specs.declared.state.State.the-variants.{Id, Whole, Stopped}
-use Rattle.profiles_state.specs.declared.marked.Turned.{Turned}
+use Rattle.profiles_state.specs.declared.marked.Passed.{Passed}
 use Rattle.profiles_state.specs.Open.{start, Reached, inRow, stopped, Read, contents, machine, read}
-use Rattle.profiles_state.specs.Holds.{Holds, in-id, in-whole, in-fraction, at-stop, Live, Under, Stands, Turns, reading, Leads, Leap}
+use Rattle.profiles_state.specs.Holds.{Holds, in-id, in-whole, in-fraction, at-stop, Live, Steps, Under, Stands, Passes, passed, leaves, reading, Leads, Leap}
 use Rattle.profiles.specs.declared.reader.Reader.{Reader}
 use Rattle.profiles.specs.declared.reader.Many.{Many}
 use Rattle.profiles.specs.declared.reader.Moved.{Moved}
 use Rattle.profiles.specs.Feeds.{Held, in-header, in-rows, Feeds, Alive, Lined, opened, begunAt, countIn, ManyRead, Skips, Quickens}
 use Rattle.profiles_sample.specs.Quick.{Samples, lasting}
 use Rattle.profiles_state.proofs.Fraction.{fraction-space}
-use Rattle.profiles_state.proofs.Marking.{Other, other-space}
+use Rattle.profiles_state.proofs.Marking.{Other, other-space, turn-plain}
 use Rattle.profiles_state.proofs.Leaps.{leap-none, leap-then, leap-step}
 
 -- ---- whole samples
@@ -177,44 +178,136 @@ count-below (in-whole c g k) = omega (arith, g .few, g .counted)
 count-below (in-fraction c g d) = omega (arith, g .few, g .counted)
 count-below at-stop = omega arith
 
-module _ {next : ℕ} {before : State} {first : Mark} {profiles₁ : List ℕ} {samples₁ : List ℤ} {part : List ℕ} {from : ℕ} {state : State} {mark : Mark} {i : ℕ} {profiles : List ℕ} {samples : List ℤ}
-    (f : Fed next before first profiles₁ samples₁ part from state mark i profiles samples) where
-  -- the place of the next byte is one of the text's
-  pub fed-place : next + length part ≤ mostText → i < length part → next + i < mostText
-  fed-place h k = omega arith
+-- ---- a turn
 
-  module _ {one : Turned} {profiles′ : List ℕ} {samples′ : List ℤ} (h : i < length part) (turns : Turns (next + i) state mark profiles samples (getD part i 0) one profiles′ samples′) where
-    turned : (profiles₀ : List ℕ) (samples₀ : List ℤ) (text : Read) → Stands profiles₀ samples₀ (next + i) mark state profiles samples text
-        → Stands profiles₀ samples₀ (next + (i + 1)) (one .mark) (one .state) profiles′ samples′ (read (length profiles₀ / profileWidth) (length samples₀) text (getD part i 0))
-    turned profiles₀ samples₀ text s =
-        let n : suc (next + i) ≡ next + (i + 1) = omega arith in
-        subst (λ (k : ℕ). Stands profiles₀ samples₀ k (one .mark) (one .state) profiles′ samples′ (read (length profiles₀ / profileWidth) (length samples₀) text (getD part i 0))) n
-        (turns profiles₀ samples₀ text s)
+-- a turn of the loop at a byte of a part: it goes on, but for a byte that is left once, under a mark that takes contents
+pub record TurnedAt (gone : ℕ) (state : State) (mark : Mark) (profiles : List ℕ) (samples : List ℤ) (part : List ℕ) (i : ℕ) (state′ : State) (mark′ : Mark) (j : ℕ) (profiles′ : List ℕ) (samples′ : List ℤ) : Type 0 where
+  pub onward : i ≤ j
+  pub inside : j ≤ length part
+  pub stays : j ≡ i → (takes mark ≡ false) × (takes mark′ ≡ true)
+  pub leads : (profiles₀ : List ℕ) (samples₀ : List ℤ) (text : Read) → Stands profiles₀ samples₀ (gone + i) mark state profiles samples text
+      → Leads profiles₀ samples₀ (gone + j) mark′ state′ profiles′ samples′ (drop (j) part) (reading profiles₀ samples₀ text (drop i part))
 
-    pub fed-count : next + length part ≤ mostText → countIn (one .state) + length part ≤ mostText + (i + 1)
-    fed-count k = omega (arith, count-below (turned (f .live .profiles₀) (f .live .samples₀) _ (standing mark (f .live)) .holds))
+-- the samples after a byte may be counted
+pub turn-count : {state one : State} {profiles profiles′ : List ℕ} {samples samples′ : List ℤ} (gone i long b : ℕ) → Steps (gone + i) state profiles samples b one profiles′ samples′
+    → Live (gone + i) state profiles samples → gone + long ≤ mostText → countIn one + long ≤ mostText + (i + 1)
+turn-count gone i long b steps live h = omega (arith, count-below (steps (live .profiles₀) (live .samples₀) (live .reached) (live .holds)))
 
-    pub fed-next : {moved : Moved} {samples″ : List ℤ} → Quickens part (i + 1) (one .mark) (one .state) samples′ moved samples″ → length profiles′ ≡ length profiles → length samples′ ≡ length samples
-        → length samples″ ≡ length samples′ → Fed next before first profiles₁ samples₁ part from (moved .state) (one .mark) (moved .next) profiles′ samples″
-    fed-next {moved} {samples″} quick a b c =
+pub pass-step : {state : State} {mark : Mark} {b : ℕ} {v : Passed} → Passes state mark b v → v .step ≤ 1
+pass-step (passed one turns) = omega arith
+pass-step (leaves none takes-contents shut left) = omega arith
+
+module _ {gone : ℕ} {state : State} {mark : Mark} {profiles : List ℕ} {samples : List ℤ} {part : List ℕ} {i : ℕ} (h : i < length part) where
+  -- a plain byte, and the whole samples behind it
+  module _ {one : State} {profiles′ : List ℕ} {samples′ : List ℤ} (steps : Steps (gone + i) state profiles samples (getD part i 0) one profiles′ samples′) where
+    pub turned-plain : (p : Bool) {moved : Moved} {samples″ : List ℤ} → p ≡ plainUnder mark (getD part i 0) → p ≡ true → Quickens part (i + 1) mark one samples′ moved samples″
+        → TurnedAt gone state mark profiles samples part i (moved .state) mark (moved .next) profiles′ samples″
+    turned-plain p {moved} {samples″} q y quick =
         record {
+          onward = omega (arith, quick profiles′ .onward);
           inside = quick profiles′ .inside;
-          live = living (quick profiles′ .leaps next (f .live .profiles₀) (f .live .samples₀) _ (turned (f .live .profiles₀) (f .live .samples₀) _ (standing mark (f .live))) .stands);
-          profiles-long = a ∙ f .profiles-long;
-          samples-long = c ∙ b ∙ f .samples-long;
-          same = λ profiles₀ samples₀ text s. go profiles₀ samples₀ text (f .same profiles₀ samples₀ text s);
+          stays = λ e. absurd (omega (arith, quick profiles′ .onward));
+          leads = go;
         }
       where
-        go : (profiles₀ : List ℕ) (samples₀ : List ℤ) (text : Read)
-            → Leads profiles₀ samples₀ (next + i) mark state profiles samples (drop i part) (reading profiles₀ samples₀ text (drop from part))
-            → Leads profiles₀ samples₀ (next + moved .next) (one .mark) (moved .state) profiles′ samples″ (drop (moved .next) part) (reading profiles₀ samples₀ text (drop from part))
-        go profiles₀ samples₀ text l =
-            let m = quick profiles′ .leaps next profiles₀ samples₀ _ (turned profiles₀ samples₀ (l .midway) (l .stands)) in
+        go : (profiles₀ : List ℕ) (samples₀ : List ℤ) (text : Read) → Stands profiles₀ samples₀ (gone + i) mark state profiles samples text
+            → Leads profiles₀ samples₀ (gone + moved .next) mark (moved .state) profiles′ samples″ (drop (moved .next) part) (reading profiles₀ samples₀ text (drop i part))
+        go profiles₀ samples₀ text s =
+            let n : suc (gone + i) ≡ gone + (i + 1) = omega arith in
+            let t =
+            subst (λ (k : ℕ). Stands profiles₀ samples₀ k mark one profiles′ samples′ (read (length profiles₀ / profileWidth) (length samples₀) text (getD part i 0))) n
+            (turn-plain {mark = mark} (getD part i 0) (sym q ∙ y) steps profiles₀ samples₀ text s) in
+            let m = quick profiles′ .leaps gone profiles₀ samples₀ _ t in
             record {
               midway = m .midway;
               stands = m .stands;
-              leads = m .leads ∙ sym (fold-drop (read (length profiles₀ / profileWidth) (length samples₀)) (l .midway) part i h) ∙ l .leads;
+              leads = m .leads ∙ sym (fold-drop (read (length profiles₀ / profileWidth) (length samples₀)) text part i h);
             }
+
+  -- a byte that is not plain: taken, or left
+  pub turned-passed : (p : Bool) {v : Passed} {moved : Moved} → p ≡ plainUnder mark (getD part i 0) → p ≡ false → Passes state mark (getD part i 0) v → Skips part (i + v .step) (v .state) moved
+      → TurnedAt gone state mark profiles samples part i (moved .state) (v .mark) (moved .next) profiles samples
+  turned-passed p {v} {moved} q y passes skips = go passes
+    where
+      leap : Leap part (v .mark) (i + v .step) (v .state) profiles samples (moved .next) (moved .state) profiles samples
+      leap = skips (v .mark) profiles samples
+
+      -- a text that stands where the byte leads
+      onto : (k : ℕ) (profiles₀ : List ℕ) (samples₀ : List ℤ) (text there : Read) → i + v .step ≡ k → Stands profiles₀ samples₀ (gone + k) (v .mark) (v .state) profiles samples there
+          → reading profiles₀ samples₀ there (drop k part) ≡ reading profiles₀ samples₀ text (drop i part)
+          → Leads profiles₀ samples₀ (gone + moved .next) (v .mark) (moved .state) profiles samples (drop (moved .next) part) (reading profiles₀ samples₀ text (drop i part))
+      onto k profiles₀ samples₀ text there e s l =
+          let m = leap .leaps gone profiles₀ samples₀ there (subst (λ (n : ℕ). Stands profiles₀ samples₀ (gone + n) (v .mark) (v .state) profiles samples there) (sym e) s) in
+          record {
+            midway = m .midway;
+            stands = m .stands;
+            leads = m .leads ∙ ap (λ (n : ℕ). reading profiles₀ samples₀ there (drop n part)) e ∙ l;
+          }
+
+      go : Passes state mark (getD part i 0) v → TurnedAt gone state mark profiles samples part i (moved .state) (v .mark) (moved .next) profiles samples
+      go (passed one turns) =
+          record {
+            onward = omega (arith, leap .onward);
+            inside = leap .inside;
+            stays = λ e. absurd (omega (arith, leap .onward));
+            leads =
+                λ profiles₀ samples₀ text s.
+                let n : suc (gone + i) ≡ gone + (i + 1) = omega arith in
+                let k : i + v .step ≡ i + 1 = omega arith in
+                onto (i + 1) profiles₀ samples₀ text (read (length profiles₀ / profileWidth) (length samples₀) text (getD part i 0)) k
+                (subst (λ (n : ℕ). Stands profiles₀ samples₀ n (v .mark) (v .state) profiles samples (read (length profiles₀ / profileWidth) (length samples₀) text (getD part i 0))) n
+                (turns (gone + i) profiles samples profiles₀ samples₀ text s))
+                (sym (fold-drop (read (length profiles₀ / profileWidth) (length samples₀)) text part i h));
+          }
+      go (leaves none takes-contents shut left) =
+          record {
+            onward = omega (arith, leap .onward);
+            inside = leap .inside;
+            stays = λ e. (shut (sym q ∙ y), takes-contents);
+            leads =
+                λ profiles₀ samples₀ text s.
+                let k : i + v .step ≡ i = omega arith in
+                let l = left (gone + i) profiles samples profiles₀ samples₀ text s in
+                onto i profiles₀ samples₀ text (l .other) k (l .stands)
+                (fold-drop (read (length profiles₀ / profileWidth) (length samples₀)) (l .other) part i h
+                ∙ ap (λ (x : Read). reading profiles₀ samples₀ x (drop (i + 1) part)) (l .leads)
+                ∙ sym (fold-drop (read (length profiles₀ / profileWidth) (length samples₀)) text part i h));
+          }
+
+-- less is left, or the byte is left no more
+pub turned-less : {gone : ℕ} {state : State} {mark : Mark} {profiles : List ℕ} {samples : List ℤ} {part : List ℕ} {i : ℕ} {state′ : State} {mark′ : Mark} {j : ℕ} {profiles′ : List ℕ} {samples′ : List ℤ}
+    → TurnedAt gone state mark profiles samples part i state′ mark′ j profiles′ samples′ → i < length part → 2 * (length part - j) + late mark′ < 2 * (length part - i) + late mark
+turned-less {mark = mark} {part = part} {i = i} {mark′ = mark′} {j = j} t h = go (eqb j i) refl
+  where
+    go : (e : Bool) → eqb j i ≡ e → 2 * (length part - j) + late mark′ < 2 * (length part - i) + late mark
+    go true e =
+        let same : j ≡ i = eqb-true j i e in
+        omega (arith, late-shut mark (t .stays same .0), late-open mark′ (t .stays same .1))
+    go false e =
+        let further : j ≡ i → ⊥ = eqb-false j i e in
+        omega (arith, t .onward, t .inside, late-most mark′)
+
+-- ---- the loop
+
+module _ {next : ℕ} {before : State} {first : Mark} {profiles₁ : List ℕ} {samples₁ : List ℤ} {part : List ℕ} {from : ℕ} {state : State} {mark : Mark} {i : ℕ} {profiles : List ℕ} {samples : List ℤ}
+    (f : Fed next before first profiles₁ samples₁ part from state mark i profiles samples) where
+  pub fed-next : {state′ : State} {mark′ : Mark} {j : ℕ} {profiles′ : List ℕ} {samples′ : List ℤ} → TurnedAt next state mark profiles samples part i state′ mark′ j profiles′ samples′ → length profiles′ ≡ length profiles → length samples′ ≡ length samples
+      → Fed next before first profiles₁ samples₁ part from state′ mark′ j profiles′ samples′
+  fed-next {state′} {mark′} {j} {profiles′} {samples′} t a b =
+      record {
+        inside = t .inside;
+        live = living (t .leads (f .live .profiles₀) (f .live .samples₀) _ (standing mark (f .live)) .stands);
+        profiles-long = a ∙ f .profiles-long;
+        samples-long = b ∙ f .samples-long;
+        same = λ profiles₀ samples₀ text s. go profiles₀ samples₀ text (f .same profiles₀ samples₀ text s);
+      }
+    where
+      go : (profiles₀ : List ℕ) (samples₀ : List ℤ) (text : Read)
+          → Leads profiles₀ samples₀ (next + i) mark state profiles samples (drop i part) (reading profiles₀ samples₀ text (drop from part))
+          → Leads profiles₀ samples₀ (next + j) mark′ state′ profiles′ samples′ (drop j part) (reading profiles₀ samples₀ text (drop from part))
+      go profiles₀ samples₀ text l =
+          let m = t .leads profiles₀ samples₀ (l .midway) (l .stands) in
+          record { midway = m .midway; stands = m .stands; leads = m .leads ∙ l .leads }
 
   pub fed-last : length part ≤ i → Lined next before first profiles₁ samples₁ part from (record { next = next + i; head = length profilesHeader; mark = mark; state = state }) profiles samples
   fed-last h =
@@ -335,4 +428,4 @@ module _ (reader : Reader) (part : List ℕ) (h : Headed) (e : h ≡ comparedFro
           (subst (λ (x : Read). Stands profiles₀ samples₀ (r .next) (r .mark) (r .state) profiles′ samples′ x) leads (lined .lines profiles₀ samples₀ text same))
 
 pub ruleset feeding =
-    (sampling-none, sampling-count, sampling-next, sampling-after, sampling-end, skip-none, skip-stopped, quick-skip, quick-same, quick-many, quick-count, fed-first, fed-place, fed-count, fed-next, fed-last, begun-past, begun-first)
+    (sampling-none, sampling-count, sampling-next, sampling-after, sampling-end, skip-none, skip-stopped, quick-skip, quick-same, quick-many, quick-count, turned-plain, turned-passed, turned-less, fed-first, fed-next, fed-last, begun-past, begun-first)

@@ -98,7 +98,7 @@ pub struct Reader {
     pub state: State,
 }
 
-// The rows of a part, which follows `next` bytes, from a place on.
+// The rows of a part, which follows `next` bytes, from a place on: a plain byte goes to the contents, with the whole samples behind it, and any other one to the marks.
 fn run_rows(
     before: State,
     first: Mark,
@@ -116,13 +116,20 @@ fn run_rows(
     let mut mark = first;
     let mut i = from;
     while i < part.len() {
-        let at = next + (i as u32);
-        let turned = marked::turn(state, mark, at, part[i], profiles, samples);
-        let one = turned.state;
-        mark = turned.mark;
-        let moved = quicken(one, mark, part, i + 1, samples);
-        state = moved.state;
-        i = moved.next;
+        let b = part[i];
+        if csv_marks::plain(mark, b) {
+            let one = state::step(state, next + (i as u32), b, profiles, samples);
+            let moved = quicken(one, mark, part, i + 1, samples);
+            state = moved.state;
+            i = moved.next;
+        } else {
+            let passed = marked::pass(state, mark, b);
+            let one = passed.state;
+            let moved = skip(one, part, i + passed.step);
+            state = moved.state;
+            mark = passed.mark;
+            i = moved.next;
+        }
     }
     Reader {
         next: next + (i as u32),

@@ -14,14 +14,15 @@ use Rattle.rules.specs.Answers.{badRow, Judged, wrong, right}
 use Rattle.rules.specs.Bytes.{lineFeed, carriageReturn, quote, comma, space, point, minus, digitZero, digitNine}
 use Rattle.rules.specs.Profiles.{Curve, judgeForm}
 use Rattle.csv_machine.specs.Number.{Number as Whole}
-use Rattle.csv_machine.specs.Machine.{Faulty, isBroken, isStopped, onByte as byteAt, onLine as lineAt}
+use Rattle.csv_machine.specs.Machine.{inRow as rowAt, Faulty, isBroken, isStopped, onByte as byteAt, onLine as lineAt}
 use Rattle.csv_machine.proofs.Machine.{faulty-step as stays-faulty}
 use Rattle.csv_marks.specs.declared.Mark.{Mark}
 use Rattle.csv_marks.specs.declared.Mark.the-variants.{Bare}
 use Rattle.csv_marks.specs.declared.Act.{Act}
 use Rattle.csv_marks.specs.declared.Act.the-variants.{To, Content, Broken}
-use Rattle.csv_marks.specs.Turns.{markedStep, takes, turned}
+use Rattle.csv_marks.specs.Turns.{marked, markedStep, takes, plainUnder, turned}
 use Rattle.csv_marks.proofs.Follow.{plain-turn, plain-other}
+use Rattle.csv_marks.proofs.Moves.{left}
 use Rattle.csv_marks.proofs.Rows.{RowLeads, row-leads as leads}
 use Rattle.profiles_row.specs.declared.number.Number.{Number}
 use Rattle.profiles_row.specs.declared.row.Past.{Past}
@@ -32,7 +33,7 @@ use Rattle.profiles_row.specs.Sample.{Sample, whole, fraction}
 use Rattle.profiles_state.specs.declared.state.State.{State}
 use Rattle.profiles_state.specs.declared.state.State.the-variants.{Id, Whole as InWhole, Fraction, Stopped}
 use Rattle.profiles_state.specs.Open.{Open, inList, openStep, openEnd, noDigit, isFresh, openBegins, Reached, inRow, stopped, onByte, onLine, reach, Read, contents, machine, read}
-use Rattle.profiles_state.specs.Holds.{Holds, in-id, in-whole, in-fraction, at-stop, Steps, Under, isEmpty, listBegins, begins, brokenAt, Turns}
+use Rattle.profiles_state.specs.Holds.{Holds, in-id, in-whole, in-fraction, at-stop, Steps, Under, isEmpty, listBegins, begins, brokenAt, Turns, Passes, passed, leaves}
 use Rattle.profiles_state.proofs.Steps.{onward}
 
 -- ---- contents
@@ -118,6 +119,27 @@ module _ (profiles samples : ℕ) where
   under-content mark m b (stopped k place) r t u =
       moved m (reach-stopped k place b) refl (faulty-step r b u)
 
+  -- it is left for the contents, which take it under the mark behind it
+  same-read : (mark m : Mark) (b place at : ℕ) (before : List Curve) (o : Open) → Content m ≡ turned mark b (openBegins o) → Content m ≡ turned m b (openBegins o)
+      → read profiles samples (rowAt place at before (marked m o)) b ≡ read profiles samples (rowAt place at before (marked mark o)) b
+  same-read mark m b place at before o t u = go (eqb b lineFeed) refl
+    where
+      f : RowLeads (contents profiles samples) (read profiles samples) place at before mark o b (Content m)
+      f = row-leads place at before mark o b (Content m) t
+
+      g : RowLeads (contents profiles samples) (read profiles samples) place at before m o b (Content m)
+      g = row-leads place at before m o b (Content m) u
+
+      go : (l : Bool) → eqb b lineFeed ≡ l → read profiles samples (rowAt place at before (marked m o)) b ≡ read profiles samples (rowAt place at before (marked mark o)) b
+      go true e = g .1 e .1 ∙ sym (f .1 e .1)
+      go false e = g .0 e ∙ sym (f .0 e)
+
+  pub under-left : (mark m : Mark) (b : ℕ) (c : Reached) (r : Read) → Acts mark b (Content m) c → Acts m b (Content m) c → Under mark c r
+      → (other : Read) × Under m c other × (read profiles samples other b ≡ read profiles samples r b)
+  under-left mark m b (inRow place at before o) r t u e =
+      (rowAt place at before (marked m o), refl, same-read mark m b place at before o t u ∙ ap (λ (x : Read). read profiles samples x b) (sym e))
+  under-left mark m b (stopped k place) r t u e = (r, e, refl)
+
 -- ---- where a field begins
 
 pub list-some : (count : ℕ) (negative : Bool) (n : Number) → (count ≡ 0 → ⊥) → false ≡ listBegins count negative n
@@ -182,37 +204,54 @@ module _ {profiles₀ : List ℕ} {samples₀ : List ℤ} {profiles : List ℕ} 
   holds-broken (in-fraction c g d) = at-stop
   holds-broken at-stop = at-stop
 
--- ---- the three ways
+-- ---- a plain byte
 
-module _ (at : ℕ) (state : State) (mark : Mark) (b : ℕ) (t : Bool) (a : Act) (begins-at : t ≡ begins state) (act-is : a ≡ turned mark b t) where
+pub turn-plain : {at : ℕ} {state next : State} {mark : Mark} (b : ℕ) {profiles profiles′ : List ℕ} {samples samples′ : List ℤ} → plainUnder mark b ≡ true
+    → Steps at state profiles samples b next profiles′ samples′ → Turns at state mark profiles samples b next mark profiles′ samples′
+turn-plain {state = state} {mark = mark} b p steps profiles₀ samples₀ text s =
+    record {
+      contents = reach (length profiles₀ / profileWidth) (length samples₀) (s .contents) b;
+      holds = steps profiles₀ samples₀ (s .contents) (s .holds);
+      under =
+          under-content (length profiles₀ / profileWidth) (length samples₀) mark mark b (s .contents) text
+          (acts mark b (Content mark) (plain-turn mark b (begins state) p) (s .holds)) (s .under);
+    }
+
+-- ---- a byte that is not: the three ways
+
+module _ (state : State) (mark : Mark) (b : ℕ) (t : Bool) (a : Act) (begins-at : t ≡ begins state) (act-is : a ≡ turned mark b t) where
   so : (x : Act) → a ≡ x → x ≡ turned mark b (begins state)
   so x e = sym e ∙ act-is ∙ ap (turned mark b) begins-at
 
-  pub turn-to : (m : Mark) (profiles : List ℕ) (samples : List ℤ) → a ≡ To m → Turns at state mark profiles samples b (record { state = state; mark = m }) profiles samples
-  turn-to m profiles samples e profiles₀ samples₀ text s =
+  pub pass-to : (m : Mark) → a ≡ To m → Passes state mark b (record { state = state; mark = m; step = 1 })
+  pass-to m e =
+      passed refl
+      (λ at profiles samples profiles₀ samples₀ text s.
       record {
         contents = later (s .contents);
         holds = holds-later (s .holds);
         under = under-to (length profiles₀ / profileWidth) (length samples₀) mark m b (s .contents) text (acts mark b (To m) (so (To m) e) (s .holds)) (s .under);
-      }
+      })
 
-  pub turn-content : (m : Mark) (next : State) (profiles profiles′ : List ℕ) (samples samples′ : List ℤ) → a ≡ Content m → Steps at state profiles samples b next profiles′ samples′
-      → Turns at state mark profiles samples b (record { state = next; mark = m }) profiles′ samples′
-  turn-content m next profiles profiles′ samples samples′ e steps profiles₀ samples₀ text s =
-      record {
-        contents = reach (length profiles₀ / profileWidth) (length samples₀) (s .contents) b;
-        holds = steps profiles₀ samples₀ (s .contents) (s .holds);
-        under = under-content (length profiles₀ / profileWidth) (length samples₀) mark m b (s .contents) text (acts mark b (Content m) (so (Content m) e) (s .holds)) (s .under);
-      }
+  pub pass-left : (m : Mark) → a ≡ Content m → Passes state mark b (record { state = state; mark = m; step = 0 })
+  pass-left m e =
+      let l = left m b (begins state) mark (so (Content m) e) in
+      leaves refl (l .open-mark) (l .late)
+      (λ at profiles samples profiles₀ samples₀ text s.
+      let u =
+      under-left (length profiles₀ / profileWidth) (length samples₀) mark m b (s .contents) text (acts mark b (Content m) (so (Content m) e) (s .holds))
+      (acts m b (Content m) (l .again) (s .holds)) (s .under) in
+      record { other = u .0; stands = record { contents = s .contents; holds = s .holds; under = u .1 }; leads = u .2 })
 
-  pub turn-broken : (next : State) (profiles : List ℕ) (samples : List ℤ) → a ≡ Broken → next ≡ brokenAt state
-      → Turns at state mark profiles samples b (record { state = next; mark = mark }) profiles samples
-  turn-broken next profiles samples e q profiles₀ samples₀ text s =
+  pub pass-broken : (next : State) → a ≡ Broken → next ≡ brokenAt state → Passes state mark b (record { state = next; mark = mark; step = 1 })
+  pass-broken next e q =
+      passed refl
+      (λ at profiles samples profiles₀ samples₀ text s.
       record {
         contents = brokenOff (s .contents);
         holds = rw q (holds-broken (s .holds));
         under = under-broken (length profiles₀ / profileWidth) (length samples₀) mark b (s .contents) text (acts mark b Broken (so Broken e) (s .holds)) (s .under);
-      }
+      })
 
 -- ---- a byte within a sample goes to the contents wherever it stands
 
@@ -241,10 +280,8 @@ pub other-space : Other space
 other-space = record { no-quote = refl; no-return = refl; no-end = refl; no-comma = refl }
 
 pub turn-other : {at : ℕ} {state next : State} {mark : Mark} {b : ℕ} {profiles profiles′ : List ℕ} {samples samples′ : List ℤ} → takes mark ≡ true → Other b
-    → Steps at state profiles samples b next profiles′ samples′ → Turns at state mark profiles samples b (record { state = next; mark = mark }) profiles′ samples′
-turn-other {at} {state} {next} {mark} {b} {profiles} {profiles′} {samples} {samples′} t o steps =
-    turn-content at state mark b (begins state) (Content mark) refl
-    (plain-turn mark b (begins state) (plain-other mark b t (o .no-quote) (o .no-return) (o .no-end) (o .no-comma)))
-    mark next profiles profiles′ samples samples′ refl steps
+    → Steps at state profiles samples b next profiles′ samples′ → Turns at state mark profiles samples b next mark profiles′ samples′
+turn-other {state = state} {mark = mark} {b = b} t o steps =
+    turn-plain {state = state} {mark = mark} b (plain-other mark b t (o .no-quote) (o .no-return) (o .no-end) (o .no-comma)) steps
 
-pub ruleset marking = (list-some, list-negative, list-none, begins-list, broken-id, broken-whole, broken-fraction, broken-stopped, turn-to, turn-content, turn-broken)
+pub ruleset marking = (list-some, list-negative, list-none, begins-list, broken-id, broken-whole, broken-fraction, broken-stopped, pass-to, pass-left, pass-broken)

@@ -15,7 +15,7 @@ use Rattle.csv_machine.specs.Number.{Number as Whole}
 use Rattle.csv_machine.specs.Fold.{fold}
 use Rattle.csv_machine.specs.Machine.{inRow as rowAt, Faulty}
 use Rattle.csv_marks.specs.declared.Mark.{Mark}
-use Rattle.csv_marks.specs.Turns.{marked, takes}
+use Rattle.csv_marks.specs.Turns.{marked, takes, plainUnder}
 use Rattle.profiles_row.specs.declared.number.Number.{Number}
 use Rattle.profiles_row.specs.declared.number.Number.the-variants.{Empty, Zero, Digits as InDigits}
 use Rattle.profiles_row.specs.declared.row.Past.{Past}
@@ -23,7 +23,7 @@ use Rattle.profiles_row.specs.declared.row.Listed.{Listed}
 use Rattle.profiles_row.specs.declared.sample.Tail.{Tail}
 use Rattle.profiles_state.specs.declared.state.State.{State}
 use Rattle.profiles_state.specs.declared.state.State.the-variants.{Id, Whole as InWhole, Fraction, Stopped}
-use Rattle.profiles_state.specs.declared.marked.Turned.{Turned}
+use Rattle.profiles_state.specs.declared.marked.Passed.{Passed}
 use Rattle.profiles_row.specs.Near.{Near}
 use Rattle.profiles_row.specs.Sample.{whole, fraction}
 use Rattle.profiles_row.specs.Row.{curve, Closed, Going, Digits}
@@ -107,11 +107,25 @@ brokenAt (InWhole past l negative n) = Stopped badRow (past .place)
 brokenAt (Fraction past l t) = Stopped badRow (past .place)
 brokenAt (Stopped number place) = Stopped number place
 
--- a byte of the text
-abbrev pub Turns : (at : ℕ) → State → Mark → List ℕ → List ℤ → ℕ → Turned → List ℕ → List ℤ → Type 0
-Turns at state mark profiles samples b r profiles′ samples′ =
+-- a byte of the text: a state and a mark after it
+abbrev pub Turns : (at : ℕ) → State → Mark → List ℕ → List ℤ → ℕ → State → Mark → List ℕ → List ℤ → Type 0
+Turns at state mark profiles samples b state′ mark′ profiles′ samples′ =
     (profiles₀ : List ℕ) (samples₀ : List ℤ) (text : Read) → Stands profiles₀ samples₀ at mark state profiles samples text
-    → Stands profiles₀ samples₀ (suc at) (r .mark) (r .state) profiles′ samples′ (read (length profiles₀ / profileWidth) (length samples₀) text b)
+    → Stands profiles₀ samples₀ (suc at) mark′ state′ profiles′ samples′ (read (length profiles₀ / profileWidth) (length samples₀) text b)
+
+-- the same text under another mark, from which the byte leads where it led
+pub record Leaves (profiles₀ : List ℕ) (samples₀ : List ℤ) (at : ℕ) (mark : Mark) (state : State) (profiles : List ℕ) (samples : List ℤ) (b : ℕ) (result : Read) : Type 0 where
+  pub other : Read
+  pub stands : Stands profiles₀ samples₀ at mark state profiles samples other
+  pub leads : read (length profiles₀ / profileWidth) (length samples₀) other b ≡ result
+
+-- a byte that is not plain is taken, or left under a mark that takes contents
+pub data Passes (state : State) (mark : Mark) (b : ℕ) (r : Passed) : Type 0 where
+  passed : r .step ≡ 1 → ((at : ℕ) (profiles : List ℕ) (samples : List ℤ) → Turns at state mark profiles samples b (r .state) (r .mark) profiles samples) → Passes state mark b r
+  leaves : r .step ≡ 0 → takes (r .mark) ≡ true → (plainUnder mark b ≡ false → takes mark ≡ false)
+      → ((at : ℕ) (profiles : List ℕ) (samples : List ℤ) (profiles₀ : List ℕ) (samples₀ : List ℤ) (text : Read) → Stands profiles₀ samples₀ at mark state profiles samples text
+      → Leaves profiles₀ samples₀ at (r .mark) (r .state) profiles samples b (read (length profiles₀ / profileWidth) (length samples₀) text b))
+      → Passes state mark b r
 
 -- ---- a run of bytes
 

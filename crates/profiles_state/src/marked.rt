@@ -1,14 +1,11 @@
-// A byte of a row: it moves the mark, goes to the contents, or breaks the row.
-use crate::state;
+// A byte of a row that is not plain. Where it goes to the contents, behind quotes or a CR, the mark alone moves and the contents take it as a plain one: so `state::step` has one caller.
 use crate::state::State;
 use csv_marks::Act;
 use csv_marks::Mark;
 use profiles_row::number::Number;
 use rules::answers::Refusal;
 ghost use mathlib.Core.Path.{_≡_};
-ghost use Prim.Native.Nat.{_<_};
-ghost use Rattle.rules.specs.Limits.{mostText};
-ghost use Rattle.profiles_state.specs.Holds.{Live, isEmpty, listBegins, begins, brokenAt, Turns};
+ghost use Rattle.profiles_state.specs.Holds.{isEmpty, listBegins, begins, brokenAt, Passes};
 
 fn is_empty(n: Number) -> bool
     ensures { λ r. ⌜ r ≡ isEmpty n ⌝ }
@@ -57,35 +54,32 @@ fn broken(state: State) -> State
     }
 }
 
-// After a byte.
-pub struct Turned {
+// After a byte that is not plain, and how many bytes it took: one that goes to the contents is left for them.
+pub struct Passed {
     pub state: State,
     pub mark: Mark,
+    pub step: usize,
 }
 
-pub fn turn(
-    state: State,
-    mark: Mark,
-    at: u32,
-    b: u8,
-    profiles: &mut [u32],
-    samples: &mut [i32],
-) -> Turned
-    requires { ⌜ Live at state (now profiles) (now samples) × (at < mostText) ⌝ }
-    ensures { λ r. ⌜ Turns at state mark (now (profiles .entry)) (now (samples .entry)) b r (now (profiles .exit)) (now (samples .exit)) ⌝ }
+// A byte that moves the mark, alone or before the contents take it, or breaks the row.
+pub fn pass(state: State, mark: Mark, b: u8) -> Passed
+    ensures { λ r. ⌜ Passes state mark b r ⌝ }
 {
     match csv_marks::turn(mark, b, begins(state)) {
-        Act::To(m) => Turned { state, mark: m },
-        Act::Content(m) => {
-            let next = state::step(state, at, b, profiles, samples);
-            Turned {
-                state: next,
-                mark: m,
-            }
-        }
-        Act::Broken => Turned {
+        Act::To(m) => Passed {
+            state,
+            mark: m,
+            step: 1,
+        },
+        Act::Content(m) => Passed {
+            state,
+            mark: m,
+            step: 0,
+        },
+        Act::Broken => Passed {
             state: broken(state),
             mark,
+            step: 1,
         },
     }
 }

@@ -5,8 +5,9 @@ use mathlib.Core.Bool.{Bool, true, false, cond, _||_}
 use mathlib.Core.List.{List, [], _∷_, _++_, append-nil}
 use native.Mathlib.Omega.{arith}
 use lib.Dec.{leb, eqb}
-use lib.ListN.{length}
+use lib.ListN.{length, getD}
 use borrow.Author.Tests.{le-leb, lt-leb, eq-eqb, ne-eqb}
+use Rattle.rules.specs.Bytes.{lineFeed, comma}
 use Rattle.rules.specs.Timetable.{Row}
 use Rattle.rules.specs.declared.sizes.Configuration.{Configuration}
 use Rattle.csv_machine.specs.Number as Row
@@ -16,7 +17,9 @@ use Rattle.timetable_row.specs.Digits.{isEmpty}
 use Rattle.timetable_row.specs.Slots.{nominalSlot, entrySlot}
 use Rattle.timetable.specs.Open.{Open, opensField, openBegins}
 use Rattle.timetable.specs.Held.{numberHeld, Shaped, inHead, inFirst, inSecond, inThird, Tables, InLine}
-use Rattle.timetable.specs.Text.{fieldBegins, lineBegins}
+use Rattle.csv_marks.specs.declared.Mark.{Mark}
+use Rattle.csv_marks.specs.declared.Mark.the-variants.{Bare, Behind, Returned}
+use Rattle.timetable.specs.Text.{fieldBegins, lineBegins, Frees, kept, freed}
 use Rattle.timetable.proofs.Close.{entry-slot}
 use Rattle.timetable.proofs.Fields.{not-empty}
 
@@ -81,4 +84,20 @@ begins-is H lent line now place before o number g n =
     begins-held line number (o .closed) (o .list) (o .entry) (o .number) (g .opened .shaped) (g .opened .slot-is)
     (λ e. omega (arith, g .opened .entries-are)) (λ e. omega (arith, g .opened .entries-are)) n
 
-pub ruleset marking = (field-head, field-list, field-other, begins-empty, begins-none)
+-- ---- the mark taken back
+
+module _ {mark : Mark} {part : List ℕ} {i : ℕ} where
+  pub keeps : {m : Mark} → mark ≡ m → Frees mark part i m
+  keeps e = kept (sym e)
+
+  module _ (h : i < length part) where
+    pub frees-comma : mark ≡ Behind → getD part i 0 ≡ comma → Frees mark part i Bare
+    frees-comma e b = freed h (λ begins. rw (e, b)) refl
+
+    pub frees-end : mark ≡ Behind → getD part i 0 ≡ lineFeed → Frees mark part i Bare
+    frees-end e b = freed h (λ begins. rw (e, b)) refl
+
+    pub frees-return : mark ≡ Returned → getD part i 0 ≡ lineFeed → Frees mark part i Bare
+    frees-return e b = freed h (λ begins. rw (e, b)) refl
+
+pub ruleset marking = (field-head, field-list, field-other, begins-empty, begins-none, keeps, frees-comma, frees-end, frees-return)

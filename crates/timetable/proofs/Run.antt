@@ -4,6 +4,7 @@ use mathlib.Core.Path.{_≡_, refl, ap, sym, subst, _∙_}
 use mathlib.Core.Bool.{Bool, true, false, true≢false, false≢true}
 use mathlib.Core.List.{List}
 use native.Mathlib.Omega.{arith}
+use native.Mathlib.Nat.{add-zero}
 use lib.ListN.{length, getD, drop}
 use borrow.Author.Tests.{le-leb, lt-leb}
 use Rattle.rules.specs.Limits.{mostText}
@@ -18,11 +19,12 @@ use Rattle.timetable_row.specs.Digits.{takenFrom}
 use Rattle.csv_marks.specs.declared.Mark.{Mark}
 use Rattle.csv_marks.specs.declared.Mark.the-variants.{Bare, Within, Behind, Returned}
 use Rattle.csv_marks.specs.declared.Move.{Move}
-use Rattle.csv_marks.specs.Turns.{takes, plainUnder, movedUnder}
+use Rattle.csv_marks.specs.Turns.{takes, plainUnder, leftAt, movedBy, movedUnder}
 use Rattle.csv_marks.proofs.Follow.{never-plain}
+use Rattle.csv_marks.proofs.Late.{late, late-most, late-open, late-shut}
 use Rattle.csv_marks.proofs.Moves.{Moves, goesTo, leaves, breaks, moves, left, step-most}
 use Rattle.timetable.specs.Held.{tables}
-use Rattle.timetable.specs.Text.{Signed, lineBegins, Leads, Placed, Opens, Ran, Lined, placedAt, begunAt}
+use Rattle.timetable.specs.Text.{Signed, lineBegins, Frees, kept, freed, Leads, Placed, Opens, Ran, Lined, placedAt, begunAt}
 use Rattle.timetable.specs.declared.entries.Listed.{Listed}
 use Rattle.timetable.specs.declared.reader.Run.{Run}
 use Rattle.timetable.specs.Entries.{Lists}
@@ -219,6 +221,21 @@ module _ {H read : ℕ} {part : List ℕ} {from : ℕ} {legs₀ configurations�
               begins v (ran .clear h) h begins-at moved right;
         }
 
+  -- the mark is taken back
+  pub lining-freed : {m : Mark} → Frees mark part i m → Lining H read part from legs₀ configurations₀ line₀ number₀ mark₀ legs configurations line number m i
+  lining-freed {m} (kept e) = subst (λ (x : Mark). Lining H read part from legs₀ configurations₀ line₀ number₀ mark₀ legs configurations line number x i) (sym e) g
+  lining-freed {m} (freed h turn bare) =
+      let here : i + 0 ≡ i = add-zero i in
+      record {
+        placed = g .placed;
+        legs-long = g .legs-long;
+        configurations-long = g .configurations-long;
+        led =
+            subst (λ (x : ℕ). Leads H read part from mark₀ number₀ line₀ (tables legs₀ configurations₀) x m number line (tables legs configurations)) here
+            (led-moved H read part from mark₀ number₀ line₀ (tables legs₀ configurations₀) i mark number line (tables legs configurations) (g .led)
+            (lineBegins line number) (leftAt m) (g .placed .no-fault) h refl (ap (movedBy mark) (turn (lineBegins line number))) refl);
+      }
+
   pub lined-over : length part ≤ i
       → Lined H line₀ number₀ mark₀ read part from (record { read = read + length part; head = length timetableHeader; mark = mark; number = number; line = line }) (tables legs₀ configurations₀) (tables legs configurations)
   lined-over h =
@@ -227,31 +244,6 @@ module _ {H read : ℕ} {part : List ℕ} {from : ℕ} {legs₀ configurations�
         head-whole = refl;
         lines = led-over H read part from mark₀ number₀ line₀ (tables legs₀ configurations₀) i mark number line (tables legs configurations) (g .led) (g .placed .inside) h;
       }
-
--- a byte may be left once: then contents follow
-abbrev pub late : Mark → ℕ
-late Bare = 0
-late Within = 0
-late Behind = 1
-late Returned = 1
-
-late-most : (m : Mark) → late m ≤ 1
-late-most Bare = omega arith
-late-most Within = omega arith
-late-most Behind = omega arith
-late-most Returned = omega arith
-
-late-open : (m : Mark) → takes m ≡ true → late m ≡ 0
-late-open Bare t = refl
-late-open Within t = refl
-late-open Behind t = absurd (false≢true t)
-late-open Returned t = absurd (false≢true t)
-
-late-shut : (m : Mark) → takes m ≡ false → late m ≡ 1
-late-shut Bare t = absurd (true≢false t)
-late-shut Within t = absurd (true≢false t)
-late-shut Behind t = refl
-late-shut Returned t = refl
 
 pub line-less : {H read : ℕ} {part : List ℕ} {i : ℕ} {line : Line} {number : Number} {mark : Mark} {r : Run} {legs configurations legs′ configurations′ : List ℕ}
     → Ran H line number mark read part i r (tables legs configurations) (tables legs′ configurations′) → r .next < length part
@@ -267,6 +259,11 @@ line-less {part = part} {i = i} {mark = mark} {r = r} ran h begins v moved right
         subst (λ (x : Move). 2 * (length part - (r .next + x .step)) + late (x .mark) < 2 * (length part - i) + late mark) (sym e)
         (omega (arith, ran .onward, late-open m (l .open-mark), late-shut mark (l .late (ran .halts h))))
     go (breaks t e) = absurd (true≢false (sym right ∙ ap (λ (x : Move). x .right) e))
+
+-- a mark that is taken back leaves no byte
+pub late-freed : {mark m : Mark} {part : List ℕ} {i : ℕ} → Frees mark part i m → late m ≤ late mark
+late-freed (kept e) = rw e (omega arith)
+late-freed (freed h turn bare) = rw bare (omega arith)
 
 -- ---- the first row's place
 

@@ -19,7 +19,9 @@ use Rattle.timetable_row.specs.declared.number.Number.the-variants.{Empty}
 use Rattle.timetable_row.specs.declared.line.Line.{Line}
 use Rattle.timetable_row.specs.Digits.{mostHeld, isEmpty}
 use Rattle.csv_marks.specs.declared.Mark.{Mark}
-use Rattle.csv_marks.specs.Turns.{marked, takes, plainUnder}
+use Rattle.csv_marks.specs.declared.Mark.the-variants.{Bare}
+use Rattle.csv_marks.specs.declared.Act.the-variants.{Content}
+use Rattle.csv_marks.specs.Turns.{marked, takes, plainUnder, turned}
 use Rattle.csv_header.specs.Heading.{nameAt}
 use Rattle.timetable.specs.declared.reader.Run.{Run}
 use Rattle.timetable.specs.declared.reader.Reader.{Reader}
@@ -98,6 +100,11 @@ fieldBegins slot entries = cond (leb slot nominalSlot) true (cond (eqb slot entr
 
 abbrev pub lineBegins : Line → Number → Bool
 lineBegins line number = cond (isEmpty number) (fieldBegins (line .slot) (line .entries)) false
+
+-- the mark before a byte is as it was, or taken back by one that the contents take
+pub data Frees (mark : Mark) (part : List ℕ) (i : ℕ) (r : Mark) : Type 0 where
+  kept : r ≡ mark → Frees mark part i r
+  freed : i < length part → ((begins : Bool) → Content r ≡ turned mark (getD part i 0) begins) → r ≡ Bare → Frees mark part i r
 
 -- ---- parts
 

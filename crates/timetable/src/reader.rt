@@ -198,8 +198,9 @@ pub fn run_lines(
         }
         let moved = csv_marks::moved(mark, part[next], marked::begins(line, number));
         if moved.right {
-            mark = moved.mark;
             i = next + moved.step;
+            let after = moved.mark;
+            mark = marked::freed(after, part, i);
         } else {
             line = line::stopped(line, Refusal::ROW_FORM);
             return Reader {

@@ -1,10 +1,10 @@
 -- `profiles::reader::run_rows` meets its contract. The invariant: the state stands for a reading from which the bytes left lead where all from the first place lead. Assumes nothing.
+use Prim.Native.Nat.{_+_, _*_, _-_}
 use mathlib.Core.List.{[]}
-use native.Mathlib.Omega.{arith}
-use borrow.Author.Needs.{needs}
-use Prim.Native.Nat.{_-_}
 use lib.ListN.{length}
-use Rattle.profiles.proofs.Feed.{Fed, fed-count, feeding}
+use borrow.Author.Needs.{needs}
+use Rattle.csv_marks.proofs.Late.{late}
+use Rattle.profiles.proofs.Feed.{Fed, turn-count, pass-step, turned-plain, turned-passed, turned-less, fed-next, feeding}
 use Rattle.profiles.proofs.reader.run_rows.Statement.{statement}
 use Rattle.profiles.proofs.reader.run_rows.Tie as tie
 
@@ -12,41 +12,74 @@ abbrev Inv-loop : tie.InvT-loop
 Inv-loop next part from profiles₀ samples₀ head state₀ mark₀ i₀ profiles samples state mark i = Fed next state₀ mark₀ profiles₀ samples₀ part from state mark i profiles samples
 
 abbrev μ-loop : tie.MeasureT-loop
-μ-loop next part from profiles₀ samples₀ head state₀ mark₀ i₀ profiles samples state mark i = length part - i
+μ-loop next part from profiles₀ samples₀ head state₀ mark₀ i₀ profiles samples state mark i = 2 * (length part - i) + late mark
 
 loop-holds : tie.Need-loop-holds Inv-loop μ-loop
 loop-holds c = search (feeding, needs)
 
-cast-at : tie.Need-cast-at Inv-loop μ-loop
-cast-at c = search (feeding, needs)
+shared-slice-read-b : tie.Need-shared-slice-read-b Inv-loop μ-loop
+shared-slice-read-b c = search (feeding, needs)
 
-add-at : tie.Need-add-at Inv-loop μ-loop
-add-at c = search (feeding, needs)
+plain-requires : tie.Need-plain-requires Inv-loop μ-loop
+plain-requires c κs = search (feeding, needs)
 
-shared-slice-read-turn : tie.Need-shared-slice-read-turn Inv-loop μ-loop
-shared-slice-read-turn c = search (feeding, needs)
+cast-step : tie.Need-cast-step Inv-loop μ-loop
+cast-step c = search (feeding, needs)
 
-turn-requires : tie.Need-turn-requires Inv-loop μ-loop
-turn-requires c κs = search (feeding, needs)
+add-step : tie.Need-add-step Inv-loop μ-loop
+add-step c = search (feeding, needs)
+
+step-requires : tie.Need-step-requires Inv-loop μ-loop
+step-requires c κs = search (feeding, needs)
 
 add-quicken : tie.Need-add-quicken Inv-loop μ-loop
 add-quicken c = search (feeding, needs)
 
 quicken-requires : tie.Need-quicken-requires Inv-loop μ-loop
 quicken-requires c κs =
-    (search needs, fed-count (c .before .before .before .before .before .before .before .before .before .loop .inv) (c .before .before .before .before .before .before .before .before .loop-test .taken) (c .before .before .before .before .turn .ensures) (c .before .before .before .before .before .before .before .before .before .before .before .before .pre .1 .0))
+    (search needs, turn-count _ _ _ _ (c .before .before .before .before .step .ensures) (c .before .before .before .before .before .before .before .before .before .before .before .loop .inv .live) (c .before .before .before .before .before .before .before .before .before .before .before .before .before .before .pre .1 .0))
 
 loop-less : tie.Need-loop-less Inv-loop μ-loop
-loop-less c = let moved = c .before .quicken .ensures [] in omega (arith, moved .onward, moved .inside)
+loop-less c =
+    let gone = c .before .before .before .before .before .before .before .before .before .before .before .before .before .before .before .before .args .next in
+    let inside = c .before .before .before .before .before .before .before .before .before .before .before .before .loop-test .taken in
+    let asked = c .before .before .before .before .before .before .before .before .before .before in
+    let turned = turned-plain {gone = gone} inside (c .before .before .before .before .before .before .step .ensures) (asked .plain .result) (asked .plain .ensures) (c .before .before .before .before .before .before .before .before .before .if1 .taken) (c .before .quicken .ensures) in
+    turned-less turned inside
 
 loop-again : tie.Need-loop-again Inv-loop μ-loop
-loop-again c = search (feeding, needs)
+loop-again c =
+    let gone = c .before .before .before .before .before .before .before .before .before .before .before .before .before .before .before .before .args .next in
+    let inside = c .before .before .before .before .before .before .before .before .before .before .before .before .loop-test .taken in
+    let asked = c .before .before .before .before .before .before .before .before .before .before in
+    let turned = turned-plain {gone = gone} inside (c .before .before .before .before .before .before .step .ensures) (asked .plain .result) (asked .plain .ensures) (c .before .before .before .before .before .before .before .before .before .if1 .taken) (c .before .quicken .ensures) in
+    fed-next (c .before .before .before .before .before .before .before .before .before .before .before .before .before .loop .inv) turned (search needs) (search needs)
 
-cast-t27 : tie.Need-cast-t27 Inv-loop μ-loop
-cast-t27 c = search (feeding, needs)
+pass-requires : tie.Need-pass-requires Inv-loop μ-loop
+pass-requires c κs = search (feeding, needs)
 
-add-t28 : tie.Need-add-t28 Inv-loop μ-loop
-add-t28 c = search (feeding, needs)
+add-skip : tie.Need-add-skip Inv-loop μ-loop
+add-skip c = let one = pass-step (c .before .pass .ensures) in search needs
+
+skip-requires : tie.Need-skip-requires Inv-loop μ-loop
+skip-requires c κs = let one = pass-step (c .before .pass .ensures) in search needs
+
+loop-less-2 : tie.Need-loop-less-2 Inv-loop μ-loop
+loop-less-2 c =
+    let inside = c .before .before .before .before .before .before .loop-test .taken in
+    let asked = c .before .before .before .before in
+    turned-less
+    (turned-passed {gone = 0} {profiles = []} {samples = []} inside (asked .plain .result) (asked .plain .ensures) (c .before .before .before .if1 .left) (c .before .before .pass .ensures) (c .skip .ensures))
+    inside
+
+loop-again-2 : tie.Need-loop-again-2 Inv-loop μ-loop
+loop-again-2 c = search (feeding, needs)
+
+cast-t33 : tie.Need-cast-t33 Inv-loop μ-loop
+cast-t33 c = search (feeding, needs)
+
+add-t34 : tie.Need-add-t34 Inv-loop μ-loop
+add-t34 c = search (feeding, needs)
 
 same-length : tie.Need-same-length Inv-loop μ-loop
 same-length c = search (feeding, needs)
@@ -64,16 +97,22 @@ run-rows-spec =
     Inv-loop
     μ-loop
     loop-holds
-    cast-at
-    add-at
-    shared-slice-read-turn
-    turn-requires
+    shared-slice-read-b
+    plain-requires
+    cast-step
+    add-step
+    step-requires
     add-quicken
     quicken-requires
     loop-less
     loop-again
-    cast-t27
-    add-t28
+    pass-requires
+    add-skip
+    skip-requires
+    loop-less-2
+    loop-again-2
+    cast-t33
+    add-t34
     same-length
     same-length-2
     returns)

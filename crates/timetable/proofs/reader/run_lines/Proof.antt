@@ -1,10 +1,12 @@
 -- The rows of a part: plain bytes, and then one that is not. Assumes nothing.
 use Prim.Native.Nat.{_+_, _*_, _-_}
+use native.Mathlib.Omega.{arith}
 use lib.ListN.{length, getD}
 use denote.Ref.{now}
 use borrow.Author.Needs.{needs}
+use Rattle.csv_marks.proofs.Late.{late}
 use Rattle.csv_marks.proofs.Moves.{step-most}
-use Rattle.timetable.proofs.Run.{Lining, lining, lined-ran, lined-stopped, lining-on, lined-over, late, line-less}
+use Rattle.timetable.proofs.Run.{Lining, lining, lined-ran, lined-stopped, lining-on, lining-freed, lined-over, line-less, late-freed}
 use Rattle.timetable.proofs.reader.run_lines.Statement.{statement}
 use Rattle.timetable.proofs.reader.run_lines.Tie as tie
 
@@ -50,11 +52,17 @@ add-i c =
     let inside = c .before .before .before .before .before .if1 .left in
     search needs
 
+freed-requires : tie.Need-freed-requires Inv-loop μ-loop
+freed-requires c κs = search needs
+
 loop-less : tie.Need-loop-less Inv-loop μ-loop
-loop-less c = search (line-less, needs)
+loop-less c =
+    let moved = c .before .before .before .moved in
+    let less = line-less (c .before .before .before .before .before .before .before .before .before .before .before .before .run-rows .ensures) (c .before .before .before .before .before .before .if1 .left) (c .before .before .before .before .begins .result) (moved .result) (moved .ensures) (c .before .before .if2 .taken) in
+    omega (arith, late-freed (c .freed .ensures))
 
 loop-again : tie.Need-loop-again Inv-loop μ-loop
-loop-again c = search (lining-on, needs)
+loop-again c = search (lining-on, lining-freed, needs)
 
 stopped-requires : tie.Need-stopped-requires Inv-loop μ-loop
 stopped-requires c κs = search needs
@@ -99,6 +107,7 @@ run-lines-spec =
     begins-requires
     moved-requires
     add-i
+    freed-requires
     loop-less
     loop-again
     stopped-requires

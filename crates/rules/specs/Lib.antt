@@ -10,6 +10,7 @@ pub mod Kinds
 pub mod Tokens
 pub mod Constraints
 pub mod Reading
+pub mod Tally
 pub mod Verdict
 pub mod Energy
 pub mod Merge

@@ -143,6 +143,6 @@ no-choice-is-fill H x room f e file choices s cs k =
 
 -- and of an accepted solution no power of its curves is
 pub no-power-is-fill : (H : ℕ) (x : Texts) (s : List ℕ) (room : Rooms) (choices : ℕ) (w : Whole) → allRead H x s room choices ≡ good w
-    → verdictOf (w .files) (w .choices) ≡ accepted → NoPowerIsFill H (w .files) (w .choices)
+    → verdictOf (w .files) (w .choices) .finding ≡ accepted → NoPowerIsFill H (w .files) (w .choices)
 no-power-is-fill H x s room choices w e v =
     all-map (λ p. natAbs p ≤ mostPower) _ power-unfilled (curvesOf H (w .files) (w .choices)) (figures-bounded H x s room choices w e v .curves)

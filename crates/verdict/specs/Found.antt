@@ -11,10 +11,15 @@ use Rattle.verdict.specs.declared.records.Finding.the-variants.{Kept, Fa
 abbrev pub shortfallOf : Inequality → ℕ
 shortfallOf q = q .left - q .right
 
--- from inequality i on
+-- after i inequalities that hold
 abbrev pub findingFrom : ℕ → List Inequality → Finding
-findingFrom i [] = Kept
-findingFrom i (q ∷ qs) = cond (leb (q .left) (q .right)) (findingFrom (suc i) qs) (Fails i (shortfallOf q))
+findingFrom i [] = Kept i
+findingFrom i (q ∷ qs) = cond (leb (q .left) (q .right)) (findingFrom (suc i) qs) (Fails (suc i) (shortfallOf q))
 
 abbrev pub findingOf : List Inequality → Finding
-findingOf = findingFrom 1
+findingOf = findingFrom 0
+
+-- how many were tested
+abbrev pub testsIn : Finding → ℕ
+testsIn (Kept i) = i
+testsIn (Fails i m) = i

@@ -31,7 +31,7 @@ record Known (H : ℕ) (x : Texts) (f : Files) (solution : List ℕ) (cs : List 
   pub t : Tables
   pub c : List ℕ
   pub reads : Reads H x solution t c f cs
-  pub verdict : verdictOf f cs ≡ accepted
+  pub verdict : verdictOf f cs .finding ≡ accepted
 
 module _ (H : ℕ) (x : Texts) (f : Files) where
   known : {solution : List ℕ} {cs : List Configuration} → Accepts H x solution f cs → Known H x f solution cs
@@ -42,7 +42,7 @@ module _ (H : ℕ) (x : Texts) (f : Files) where
         c = o .lentChoices;
         reads = k .reads;
         verdict =
-            answer-accepted solutionFile (verdictOf f cs) .0
+            answer-accepted solutionFile (verdictOf f cs .finding) .0
             (sym (checked-answer H x solution (o .lent) (o .lentChoices) (record { files = f; choices = cs }) (k .reads)) ∙ sym (o .keeps .answer) ∙ k .accepted);
       }
 

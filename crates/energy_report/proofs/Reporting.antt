@@ -63,7 +63,7 @@ module _ {H : ℕ} {x : Texts} {s : List ℕ} {t : Tables} {c : List ℕ} {j : J
     h : isAccepted a ≡ true
     h = sym q ∙ g
 
-    found : (w : Whole) × (allRead H x s (roomsOf t) (length c) ≡ good w) × (verdictOf (w .files) (w .choices) ≡ accepted)
+    found : (w : Whole) × (allRead H x s (roomsOf t) (length c) ≡ good w) × (verdictOf (w .files) (w .choices) .finding ≡ accepted)
     found = accepted-read H x s t c (sym (read .answers) ∙ is-accepted a h)
 
     -- accepted: the tables are what the energies are worked out of

@@ -1,4 +1,4 @@
--- The first inequality of a record that fails, as the code has it: which, and by how much.
+-- The inequalities of a record up to the first that fails, as the code has them: how many hold, or which one fails and by how much.
 use Prim.Native.Nat.{ℕ, suc, _-_}
 use mathlib.Core.Bool.{cond}
 use mathlib.Core.List.{List, [], _∷_}

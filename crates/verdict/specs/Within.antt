@@ -14,7 +14,7 @@ use Rattle.rules.specs.declared.answers.Tally.{Tally}
 abbrev pub Timely : Configuration → Type 0
 Timely c = arrival c ≤ mostHorizon
 
--- a record's kind has a count; and the seconds that it carries
+-- a record's kind has a count, and its seconds keep their limit
 abbrev pub Brief : Constraint → Type 0
 Brief c = (c .kind < kindCount) × (c .low ≤ mostSeconds) × (c .high ≤ mostSeconds)
 

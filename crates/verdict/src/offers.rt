@@ -45,7 +45,7 @@ pub fn listed(configurations: &[u32], leg: Leg, choice: Configuration) -> bool
     false
 }
 
-// Whether row `i` is offered its choice.
+// Whether the draft's list of row `i` has the row's choice.
 pub fn is_offered(legs: &[u32], configurations: &[u32], choices: &[u32], i: usize) -> bool
     ensures { λ r. ⌜ r ≡ row.offers (listIn (now (legs .entry)) (now (configurations .entry)) i) (configurationAt (now (choices .entry)) i) ⌝ }
 {

@@ -1,10 +1,5 @@
--- `verdict::offers::is_offered` meets its contract. Assumes nothing.
-use mathlib.Core.Path.{ap₂, _∙_}
+-- `verdict::offers::is_offered` meets its contract: the leg and the choice are those of the row. Assumes nothing.
 use borrow.Author.Needs.{needs}
-use Rattle.rules.specs.Timetable.{offers}
-use Rattle.rules.specs.declared.sizes.Leg.{Leg}
-use Rattle.rules.specs.declared.sizes.Configuration.{Configuration}
-use Rattle.tables_views.specs.View.{configurationAt, partOf}
 use Rattle.verdict.proofs.RowSteps.{offered-row}
 use Rattle.verdict.proofs.offers.is_offered.Statement.{statement}
 use Rattle.verdict.proofs.offers.is_offered.Tie as tie

@@ -7,7 +7,7 @@ use lib.ListN.{length}
 use Rattle.rules.specs.Limits.{unsignedFill}
 use Rattle.rules.specs.Answers.{isRefusal, solutionFile, valuesOf, Reading, refused, good}
 use Rattle.rules.specs.Reading.{Texts}
-use Rattle.rules.specs.Verdict.{Verdict, accepted, violated, answerOf}
+use Rattle.rules.specs.Verdict.{Finding, accepted, violated, answerOf}
 use Rattle.rules.specs.Entries.{Tables, Whole, roomsOf, filled, filledTables, verdictOf, allRead, checked}
 use Rattle.rules.specs.Promises.{Checks}
 use Rattle.rules.specs.declared.stated.Stated.{Stated}
@@ -17,9 +17,9 @@ use Rattle.tables_lent.specs.After.{tablesAfter, choicesAfter}
 use Rattle.tables_lent.proofs.Filled.{SameLengths, filled-alike, tables-filled-alike}
 
 -- a verdict is no refusal
-verdict-kept : (file : ℕ) (v : Verdict) → isRefusal (answerOf file v) ≡ false
+verdict-kept : (file : ℕ) (v : Finding) → isRefusal (answerOf file v) ≡ false
 verdict-kept file accepted = refl
-verdict-kept file (violated k n i m) = refl
+verdict-kept file (violated v) = refl
 
 module _ (S : Stated) (x : Texts) (s : List ℕ) (t : Tables) (c : List ℕ) {j : Judged} {t′ : Tables} {c′ : List ℕ} (read : ReadAndJudged S x s t c j t′ c′) where
   abbrev all : Reading Whole
@@ -47,7 +47,7 @@ module _ (S : Stated) (x : Texts) (s : List ℕ) (t : Tables) (c : List ℕ) {j 
             choices = choices ∙ ap kept-choices says ∙ filled-alike unsignedFill c′ c many ∙ rw e;
           }
       go (good w) e =
-          let says : isRefusal (j .answer) ≡ false = ap isRefusal (read .answers) ∙ rw e (verdict-kept solutionFile (verdictOf (w .files) (w .choices))) in
+          let says : isRefusal (j .answer) ≡ false = ap isRefusal (read .answers) ∙ rw e (verdict-kept solutionFile (verdictOf (w .files) (w .choices) .finding)) in
           record {
             answer = read .answers;
             values = ap valuesOf (read .answers);

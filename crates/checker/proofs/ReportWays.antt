@@ -10,7 +10,7 @@ use lib.IntN.{ℤ}
 use Rattle.rules.specs.Limits.{signedFill}
 use Rattle.rules.specs.Answers.{isRefusal, isAccepted, valuesOf, Reading, refused, good}
 use Rattle.rules.specs.Reading.{Texts}
-use Rattle.rules.specs.Verdict.{Verdict, accepted, violated}
+use Rattle.rules.specs.Verdict.{Finding, accepted, violated}
 use Rattle.rules.specs.Entries.{Tables, Whole, roomsOf, filled, verdictOf, allRead, reportAccepted, reportJudged, reportFrom, reported}
 use Rattle.rules.specs.Promises.{Reports}
 use Rattle.rules.specs.declared.stated.Stated.{Stated}
@@ -32,13 +32,13 @@ curves-filled S x s t c p = go (allRead S x s (roomsOf t) (length c))
     fitted true w h = let z : _≡_ {A = ℕ} 0 1 = cc in absurd (omega arith)
     fitted false w h = refl
 
-    judged : (v : Verdict) (w : Whole) → isAccepted (reportJudged v (S .horizon) w t c p .answer) ≡ false → reportJudged v (S .horizon) w t c p .curves ≡ filled signedFill p
+    judged : (v : Finding) (w : Whole) → isAccepted (reportJudged v (S .horizon) w t c p .answer) ≡ false → reportJudged v (S .horizon) w t c p .curves ≡ filled signedFill p
     judged accepted w h = fitted (leb (w .files .document .opened * S .horizon) (length p)) w h
-    judged (violated k n i m) w h = refl
+    judged (violated v) w h = refl
 
     go : (m : Reading Whole) → isAccepted (reportFrom m (S .horizon) t c p .answer) ≡ false → reportFrom m (S .horizon) t c p .curves ≡ filled signedFill p
     go (refused r) h = refl
-    go (good w) h = judged (verdictOf (w .files) (w .choices)) w h
+    go (good w) h = judged (verdictOf (w .files) (w .choices) .finding) w h
 
 -- t, c, p: as they were lent; t′, c′, p′: as the reading left them; t″, c″, p″: as the answer leaves them
 module _ {S : Stated} {x : Texts} {s : List ℕ} {t : Tables} {c : List ℕ} {p : List ℤ} {r : Report} {t′ : Tables} {c′ : List ℕ} {p′ : List ℤ}

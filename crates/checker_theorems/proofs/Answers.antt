@@ -12,7 +12,7 @@ use lib.IntN.{ℤ}
 use Rattle.rules.specs.Limits.{mostText, signedFill, byteFill}
 use Rattle.rules.specs.Answers.{Reading, refused, good, solutionFile, secondFile}
 use Rattle.rules.specs.Reading.{Texts}
-use Rattle.rules.specs.Verdict.{Verdict, accepted, violated, answerOf}
+use Rattle.rules.specs.Verdict.{Finding, accepted, violated, answerOf}
 use Rattle.rules.specs.Merge.{unequalFrom, chosen, textOf}
 use Rattle.rules.specs.Entries.{Tables, roomsOf, filled, writtenTables, writtenChoices, noFigures, verdictOf, Whole, allRead, checkedFrom, checked, reportAccepted, reportJudged, reportFrom, reported, Both, bothRead, Merged, mergeFitted, mergeTravel, mergeSecond, mergeFirst, mergeFrom, merged}
 use Rattle.rules.specs.declared.stated.Stated.{Stated}
@@ -78,37 +78,37 @@ module _ (S : Stated) (x : Texts) (s : List ℕ) (t : Tables) (c : List ℕ) whe
         fitted true w n = absurd (n refl)
         fitted false w n = (refl, refl)
 
-        judged : (v : Verdict) (w : Whole) → (reportJudged v (S .horizon) w t c p .answer ≡ Accepted → ⊥)
+        judged : (v : Finding) (w : Whole) → (reportJudged v (S .horizon) w t c p .answer ≡ Accepted → ⊥)
             → (reportJudged v (S .horizon) w t c p .curves ≡ filled signedFill p) × (reportJudged v (S .horizon) w t c p .figures ≡ noFigures)
         judged accepted w n = fitted (leb (w .files .document .opened * S .horizon) (length p)) w n
-        judged (violated k m i d) w n = (refl, refl)
+        judged (violated v) w n = (refl, refl)
 
         go : (m : Reading Whole) → (reportFrom m (S .horizon) t c p .answer ≡ Accepted → ⊥)
             → (reportFrom m (S .horizon) t c p .curves ≡ filled signedFill p) × (reportFrom m (S .horizon) t c p .figures ≡ noFigures)
         go (refused r) n = (refl, refl)
-        go (good w) n = judged (verdictOf (w .files) (w .choices)) w n
+        go (good w) n = judged (verdictOf (w .files) (w .choices) .finding) w n
 
     module _ (w : Whole) where
       abbrev fits : Bool
       fits = leb (w .files .document .opened * S .horizon) (length p)
 
-      judged-accepted : (v : Verdict) → reportJudged v (S .horizon) w t c p .answer ≡ Accepted → (v ≡ accepted) × (fits ≡ true)
+      judged-accepted : (v : Finding) → reportJudged v (S .horizon) w t c p .answer ≡ Accepted → (v ≡ accepted) × (fits ≡ true)
       judged-accepted accepted e = (refl, fitted fits e)
         where
           fitted : (b : Bool) → reportAccepted b (S .horizon) w t c p .answer ≡ Accepted → b ≡ true
           fitted true e = refl
           fitted false e = refused-not-accepted e
-      judged-accepted (violated k m i d) e = violated-not-accepted e
+      judged-accepted (violated v) e = violated-not-accepted e
 
-      judged-violated : (v : Verdict) (y : Violation) → (reportJudged v (S .horizon) w t c p .answer ≡ Violated y) ↔ (answerOf solutionFile v ≡ Violated y)
+      judged-violated : (v : Finding) (y : Violation) → (reportJudged v (S .horizon) w t c p .answer ≡ Violated y) ↔ (answerOf solutionFile v ≡ Violated y)
       judged-violated accepted y = (λ e. fitted fits e, λ e. violated-not-accepted (sym e))
         where
           fitted : (b : Bool) → reportAccepted b (S .horizon) w t c p .answer ≡ Violated y → Accepted ≡ Violated y
           fitted true e = e
           fitted false e = refused-not-violated e
-      judged-violated (violated k m i d) y = (λ e. e, λ e. e)
+      judged-violated (violated v) y = (λ e. e, λ e. e)
 
-      judged-stands : (v : Verdict) → (IsRefused (reportJudged v (S .horizon) w t c p .answer) → ⊥)
+      judged-stands : (v : Finding) → (IsRefused (reportJudged v (S .horizon) w t c p .answer) → ⊥)
           → (reportJudged v (S .horizon) w t c p .tables ≡ writtenTables (w .files) t) × (reportJudged v (S .horizon) w t c p .choices ≡ writtenChoices (w .choices) c)
       judged-stands accepted n = fitted fits n
         where
@@ -116,19 +116,19 @@ module _ (S : Stated) (x : Texts) (s : List ℕ) (t : Tables) (c : List ℕ) whe
               → (reportAccepted b (S .horizon) w t c p .tables ≡ writtenTables (w .files) t) × (reportAccepted b (S .horizon) w t c p .choices ≡ writtenChoices (w .choices) c)
           fitted true n = (refl, refl)
           fitted false n = absurd (n (_, refl))
-      judged-stands (violated k m i d) n = (refl, refl)
+      judged-stands (violated v) n = (refl, refl)
 
-      judged-decided : (v : Verdict) → fits ≡ true → IsRefused (reportJudged v (S .horizon) w t c p .answer) → ⊥
+      judged-decided : (v : Finding) → fits ≡ true → IsRefused (reportJudged v (S .horizon) w t c p .answer) → ⊥
       judged-decided accepted e = fitted fits e
         where
           fitted : (b : Bool) → b ≡ true → IsRefused (reportAccepted b (S .horizon) w t c p .answer) → ⊥
           fitted true e = accepted-not-refused
           fitted false e = absurd (true≢false (sym e))
-      judged-decided (violated k m i d) e = violated-not-refused _
+      judged-decided (violated v) e = violated-not-refused _
 
       module _ (e : allRead S x s (roomsOf t) (length c) ≡ good w) where
-        abbrev verdict : Verdict
-        verdict = verdictOf (w .files) (w .choices)
+        abbrev verdict : Finding
+        verdict = verdictOf (w .files) (w .choices) .finding
 
         says : reported S x s t c p ≡ reportJudged verdict (S .horizon) w t c p
         unfolding reported
@@ -181,17 +181,17 @@ module _ (merge : List Configuration → List Configuration → List Configurati
           fitted (leb (length written) (length text) && leb (length written) mostText) written b n
       travelled (some row) b n = (refl, refl)
 
-      second : (v : Verdict) (b : Both) → Short (mergeSecond t c d text s₂ merge v b)
+      second : (v : Finding) (b : Both) → Short (mergeSecond t c d text s₂ merge v b)
       second accepted b n = travelled (unequalFrom 0 (b .first) (b .second)) b n
-      second (violated k m i z) b n = (refl, refl)
+      second (violated v) b n = (refl, refl)
 
-      first : (v : Verdict) (b : Both) → Short (mergeFirst t c d text s₂ merge v b)
-      first accepted b n = second (verdictOf (b .files) (b .second)) b n
-      first (violated k m i z) b n = (refl, refl)
+      first : (v : Finding) (b : Both) → Short (mergeFirst t c d text s₂ merge v b)
+      first accepted b n = second (verdictOf (b .files) (b .second) .finding) b n
+      first (violated v) b n = (refl, refl)
 
       go : (m : Reading Both) → Short (mergeFrom t c d text s₂ merge m)
       go (refused r) n = (refl, refl)
-      go (good b) n = first (verdictOf (b .files) (b .first)) b n
+      go (good b) n = first (verdictOf (b .files) (b .first) .finding) b n
 
   module _ (b : Both) where
     abbrev pub written : List ℕ
@@ -200,11 +200,11 @@ module _ (merge : List Configuration → List Configuration → List Configurati
     abbrev pub room : Bool
     room = leb (length written) (length text) && leb (length written) mostText
 
-    abbrev one : Verdict
-    one = verdictOf (b .files) (b .first)
+    abbrev one : Finding
+    one = verdictOf (b .files) (b .first) .finding
 
-    abbrev two : Verdict
-    two = verdictOf (b .files) (b .second)
+    abbrev two : Finding
+    two = verdictOf (b .files) (b .second) .finding
 
     abbrev unequal : Option ℕ
     unequal = unequalFrom 0 (b .first) (b .second)
@@ -217,13 +217,13 @@ module _ (merge : List Configuration → List Configuration → List Configurati
     travelled-accepted none e = (refl, fitted-accepted room e)
     travelled-accepted (some row) e = refused-not-accepted e
 
-    second-accepted : (v : Verdict) → mergeSecond t c d text s₂ merge v b .answer ≡ Accepted → (v ≡ accepted) × (unequal ≡ none) × (room ≡ true)
+    second-accepted : (v : Finding) → mergeSecond t c d text s₂ merge v b .answer ≡ Accepted → (v ≡ accepted) × (unequal ≡ none) × (room ≡ true)
     second-accepted accepted e = let k = travelled-accepted unequal e in (refl, k .0, k .1)
-    second-accepted (violated k m i z) e = violated-not-accepted e
+    second-accepted (violated v) e = violated-not-accepted e
 
-    first-accepted : (v : Verdict) → mergeFirst t c d text s₂ merge v b .answer ≡ Accepted → (v ≡ accepted) × (two ≡ accepted) × (unequal ≡ none) × (room ≡ true)
+    first-accepted : (v : Finding) → mergeFirst t c d text s₂ merge v b .answer ≡ Accepted → (v ≡ accepted) × (two ≡ accepted) × (unequal ≡ none) × (room ≡ true)
     first-accepted accepted e = let k = second-accepted two e in (refl, k .0, k .1, k .2)
-    first-accepted (violated k m i z) e = violated-not-accepted e
+    first-accepted (violated v) e = violated-not-accepted e
 
     fitted-violated : (z : Bool) (y : Violation) {A : Type 0} → mergeFitted t c d text z written b .answer ≡ Violated y → A
     fitted-violated true y e = violated-not-accepted (sym e)
@@ -233,21 +233,21 @@ module _ (merge : List Configuration → List Configuration → List Configurati
     travelled-violated none y e = fitted-violated room y e
     travelled-violated (some row) y e = refused-not-violated e
 
-    second-violated : (v : Verdict) (y : Violation) → (mergeSecond t c d text s₂ merge v b .answer ≡ Violated y) ↔ (answerOf secondFile v ≡ Violated y)
+    second-violated : (v : Finding) (y : Violation) → (mergeSecond t c d text s₂ merge v b .answer ≡ Violated y) ↔ (answerOf secondFile v ≡ Violated y)
     second-violated accepted y = (λ e. travelled-violated unequal y e, λ e. violated-not-accepted (sym e))
-    second-violated (violated k m i z) y = (λ e. e, λ e. e)
+    second-violated (violated v) y = (λ e. e, λ e. e)
 
-    first-violated : (v : Verdict) (y : Violation) → (mergeFirst t c d text s₂ merge v b .answer ≡ Violated y)
+    first-violated : (v : Finding) (y : Violation) → (mergeFirst t c d text s₂ merge v b .answer ≡ Violated y)
         ↔ ((answerOf solutionFile v ≡ Violated y) ⊎ ((v ≡ accepted) × (answerOf secondFile two ≡ Violated y)))
     first-violated accepted y = (λ e. inr (refl, second-violated two y .0 e), back)
       where
         back : (Accepted ≡ Violated y) ⊎ ((accepted ≡ accepted) × (answerOf secondFile two ≡ Violated y)) → mergeFirst t c d text s₂ merge accepted b .answer ≡ Violated y
         back (inl e) = violated-not-accepted (sym e)
         back (inr e) = second-violated two y .1 (e .1)
-    first-violated (violated k m i z) y = (λ e. inl e, back)
+    first-violated (violated v) y = (λ e. inl e, back)
       where
-        back : (answerOf solutionFile (violated k m i z) ≡ Violated y) ⊎ ((violated k m i z ≡ accepted) × (answerOf secondFile two ≡ Violated y))
-            → mergeFirst t c d text s₂ merge (violated k m i z) b .answer ≡ Violated y
+        back : (answerOf solutionFile (violated v) ≡ Violated y) ⊎ ((violated v ≡ accepted) × (answerOf secondFile two ≡ Violated y))
+            → mergeFirst t c d text s₂ merge (violated v) b .answer ≡ Violated y
         back (inl e) = e
         back (inr e) = let q = e .0 in let o : _≡_ {A = ℕ} 0 1 = cc in absurd (omega arith)
 
@@ -259,20 +259,20 @@ module _ (merge : List Configuration → List Configuration → List Configurati
         fitted false e = absurd (true≢false (sym e))
     travelled-decided (some row) e = missing row (sym e)
 
-    second-decided : (v : Verdict) → (v ≡ accepted → (unequal ≡ none) × (room ≡ true)) → IsRefused (mergeSecond t c d text s₂ merge v b .answer) → ⊥
+    second-decided : (v : Finding) → (v ≡ accepted → (unequal ≡ none) × (room ≡ true)) → IsRefused (mergeSecond t c d text s₂ merge v b .answer) → ⊥
     second-decided accepted h = travelled-decided unequal (h refl .0) (h refl .1)
-    second-decided (violated k m i z) h = violated-not-refused _
+    second-decided (violated v) h = violated-not-refused _
 
-    first-decided : (v : Verdict) → (v ≡ accepted → two ≡ accepted → (unequal ≡ none) × (room ≡ true)) → IsRefused (mergeFirst t c d text s₂ merge v b .answer) → ⊥
+    first-decided : (v : Finding) → (v ≡ accepted → two ≡ accepted → (unequal ≡ none) × (room ≡ true)) → IsRefused (mergeFirst t c d text s₂ merge v b .answer) → ⊥
     first-decided accepted h = second-decided two (h refl)
-    first-decided (violated k m i z) h = violated-not-refused _
+    first-decided (violated v) h = violated-not-refused _
 
     -- what a merge that is not refused leaves of the readings
     abbrev Stands : Merged → Type 0
     Stands m = (IsRefused (m .answer) → ⊥)
         → (m .tables ≡ writtenTables (b .files) t) × (m .choices ≡ writtenChoices (b .first) c) × (m .second ≡ writtenChoices (b .second) d)
 
-    first-stands : (v : Verdict) → Stands (mergeFirst t c d text s₂ merge v b)
+    first-stands : (v : Finding) → Stands (mergeFirst t c d text s₂ merge v b)
     first-stands = first
       where
         fitted : (z : Bool) → Stands (mergeFitted t c d text z written b)
@@ -283,13 +283,13 @@ module _ (merge : List Configuration → List Configuration → List Configurati
         travelled none n = fitted room n
         travelled (some row) n = absurd (n (_, refl))
 
-        second : (v : Verdict) → Stands (mergeSecond t c d text s₂ merge v b)
+        second : (v : Finding) → Stands (mergeSecond t c d text s₂ merge v b)
         second accepted n = travelled unequal n
-        second (violated k m i z) n = (refl, refl, refl)
+        second (violated v) n = (refl, refl, refl)
 
-        first : (v : Verdict) → Stands (mergeFirst t c d text s₂ merge v b)
+        first : (v : Finding) → Stands (mergeFirst t c d text s₂ merge v b)
         first accepted n = second two n
-        first (violated k m i z) n = (refl, refl, refl)
+        first (violated v) n = (refl, refl, refl)
 
     module _ (e : bothRead S x s₁ s₂ (roomsOf t) (length c) (length d) ≡ good b) where
       joins : merged merge S x s₁ s₂ t c d text ≡ mergeFirst t c d text s₂ merge one b

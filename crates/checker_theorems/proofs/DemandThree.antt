@@ -32,7 +32,7 @@ record Known (S : Stated) (x : Texts) (f : Files) (solution : List ℕ) (cs : Li
   pub t : Tables
   pub c : List ℕ
   pub reads : Reads S x solution t c f cs
-  pub verdict : verdictOf f cs ≡ accepted
+  pub verdict : verdictOf f cs .finding ≡ accepted
 
 module _ (S : Stated) (x : Texts) (f : Files) where
   known : {solution : List ℕ} {cs : List Configuration} → Accepts S x solution f cs → Known S x f solution cs
@@ -43,7 +43,7 @@ module _ (S : Stated) (x : Texts) (f : Files) where
         c = o .lentChoices;
         reads = k .reads;
         verdict =
-            answer-accepted solutionFile (verdictOf f cs) .0
+            answer-accepted solutionFile (verdictOf f cs .finding) .0
             (sym (checked-answer S x solution (o .lent) (o .lentChoices) (record { files = f; choices = cs }) (k .reads)) ∙ sym (o .keeps .answer) ∙ k .accepted);
       }
 

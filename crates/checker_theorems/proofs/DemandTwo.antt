@@ -1,6 +1,6 @@
 -- DEMAND 2, about the entries: accepted exactly when; otherwise the first failure with its file; energies; and what is written reads back. Assumes nothing.
 use Prim.Native.Nat.{ℕ, _+_, _*_, _/_, _%_, _≤_, _<_}
-use mathlib.Core.Path.{_≡_, refl, sym, ap, ap₂, subst, _∙_}
+use mathlib.Core.Path.{_≡_, sym, ap, ap₂, subst, _∙_}
 use mathlib.Core.Bool.{true, _&&_}
 use mathlib.Core.List.{List}
 use mathlib.Core.Logic.{_↔_, _⊎_, inl, inr}
@@ -13,11 +13,11 @@ use lib.IntN.{ℤ, pos}
 use borrow.Author.Tests.{le-leb, leb-true}
 use Rattle.rules.specs.Limits.{mostText}
 use Rattle.rules.specs.Lists.{flat, over}
-use Rattle.rules.specs.Answers.{good, solutionFile, secondFile, violation}
+use Rattle.rules.specs.Answers.{good, solutionFile, secondFile}
 use Rattle.rules.specs.Timetable.{configurationNumbers}
 use Rattle.rules.specs.Constraints.{ordered}
 use Rattle.rules.specs.Reading.{Rooms, Texts, Files, filesOf}
-use Rattle.rules.specs.Verdict.{All, offered, Offered, Verdict, accepted, violated, answerOf}
+use Rattle.rules.specs.Verdict.{All, offered, Offered, accepted, answerOf}
 use Rattle.rules.specs.Energy.{samplesIn, homesOf, power, curvesOf}
 use Rattle.rules.specs.Merge.{mergeOf, SameTravel, unequalFrom, chosen, textOf}
 use Rattle.rules.specs.Entries.{Tables, roomsOf, verdictOf, Whole, Reported, Both, Merged, merged}
@@ -41,50 +41,46 @@ use Rattle.rules_theorems.proofs.Ordered.{OfKind, ordered-keeps}
 use Rattle.rules_theorems.proofs.DemandTwo.{answer-accepted, answer-violated, acceptable-in-order, files-kinds, checked-answer}
 use Rattle.rules_theorems.proofs.DemandThree.{over-front}
 use Rattle.checker_theorems.specs.Demands.{CheckOutcome, EnergyOutcome, MergeOutcome, Reads, BothRead, AcceptableIn, FirstFailure, Room, writtenBy, CheckJudges, EnergyJudges, ReadsBack, MergeJudges, DemandTwo}
-use Rattle.checker_theorems.proofs.Answers.{violated-not-accepted, check-choices, report-accepted, report-laid, report-violated, report-decided, merge-accepted, merge-written, merge-violated, merge-decided}
+use Rattle.checker_theorems.proofs.Answers.{check-choices, report-accepted, report-laid, report-violated, report-decided, merge-accepted, merge-written, merge-violated, merge-decided}
 use Rattle.checker_theorems.proofs.DemandOne.{refused-as}
 
 -- ---- the verdict over the files
 
-file-of : (file : ℕ) (u : Verdict) (v : Violation) → answerOf file u ≡ Violated v → v .file ≡ file
-file-of file accepted v e = violated-not-accepted (sym e)
-file-of file (violated k n i m) v e =
-    let parts : v ≡ record { kind = v .kind; position = v .position; inequality = v .inequality; shortfall = v .shortfall; file = v .file } = refl in
-    cc
-
 module _ (f : Files) (cs : List Configuration) where
   -- an answer names the first failure, and nothing else; what was read has the five kinds alone
-  verdict-names : All OfKind (f .document .constraints) → (file : ℕ) (v : Violation) → (answerOf file (verdictOf f cs) ≡ Violated v) ↔ FirstFailure f cs file v
+  verdict-names : All OfKind (f .document .constraints) → (file : ℕ) (v : Violation) → (answerOf file (verdictOf f cs .finding) ≡ Violated v) ↔ FirstFailure f cs file v
   verdict-names kinds file v = (there, back)
     where
-      there : answerOf file (verdictOf f cs) ≡ Violated v → FirstFailure f cs file v
+      there : answerOf file (verdictOf f cs .finding) ≡ Violated v → FirstFailure f cs file v
       there e =
-          let u = answer-violated file (verdictOf f cs) v e in
+          let u = answer-violated file (verdictOf f cs .finding) v e in
           record {
-            first = names-the-first (offered (f .rows)) (ordered (f .document .constraints)) cs (v .kind) (v .position) (v .inequality) (v .shortfall) .0 u;
-            numbered = shortfalls (offered (f .rows)) (ordered (f .document .constraints)) cs (ordered-keeps OfKind (f .document .constraints) kinds) (v .kind) (v .position) (v .inequality) (v .shortfall) u;
-            of-file = file-of file (verdictOf f cs) v e;
+            named = u .0;
+            first = names-the-first (offered (f .rows)) (ordered (f .document .constraints)) cs (u .0) .0 (u .1);
+            shown = u .2;
+            numbered =
+                rw (u .2) (shortfalls (offered (f .rows)) (ordered (f .document .constraints)) cs (ordered-keeps OfKind (f .document .constraints) kinds) (u .0) (u .1));
           }
 
-      back : FirstFailure f cs file v → answerOf file (verdictOf f cs) ≡ Violated v
+      back : FirstFailure f cs file v → answerOf file (verdictOf f cs .finding) ≡ Violated v
       back h =
           ap (answerOf file)
-          (names-the-first (offered (f .rows)) (ordered (f .document .constraints)) cs (v .kind) (v .position) (v .inequality) (v .shortfall) .1 (h .first))
-          ∙ ap (λ file. Violated (violation (v .kind) (v .position) (v .inequality) (v .shortfall) file)) (sym (h .of-file))
+          (names-the-first (offered (f .rows)) (ordered (f .document .constraints)) cs (h .named) .1 (h .first))
+          ∙ ap Violated (sym (h .shown))
 
-  pub are-offered : verdictOf f cs ≡ accepted → Offered (offered (f .rows)) cs
+  pub are-offered : verdictOf f cs .finding ≡ accepted → Offered (offered (f .rows)) cs
   are-offered v = verdict-accepted (offered (f .rows)) (ordered (f .document .constraints)) cs .1 v .offered
 
   module _ (S : Stated) (x : Texts) (room : Rooms) (read : filesOf S x room ≡ good f) where
-    pub fair : (verdictOf f cs ≡ accepted) ↔ AcceptableIn f cs
+    pub fair : (verdictOf f cs .finding ≡ accepted) ↔ AcceptableIn f cs
     fair =
         let order = acceptable-in-order f cs (files-kinds S x room f read) in
         let all = verdict-accepted (offered (f .rows)) (ordered (f .document .constraints)) cs in
         (λ v. order .1 (all .1 v), λ h. all .0 (order .0 h))
 
 -- the choices of either merge are accepted too
-pub merge-fair : (direction : Direction) (f : Files) (s r : List Configuration) → SameTravel s r → verdictOf f s ≡ accepted → verdictOf f r ≡ accepted
-    → verdictOf f (mergeOf direction s r) ≡ accepted
+pub merge-fair : (direction : Direction) (f : Files) (s r : List Configuration) → SameTravel s r → verdictOf f s .finding ≡ accepted → verdictOf f r .finding ≡ accepted
+    → verdictOf f (mergeOf direction s r) .finding ≡ accepted
 merge-fair Earlier f s r same v w = merge-verdicts (offered (f .rows)) (ordered (f .document .constraints)) s r same v w .0
 merge-fair Later f s r same v w = merge-verdicts (offered (f .rows)) (ordered (f .document .constraints)) s r same v w .1
 
@@ -116,11 +112,11 @@ module _ {S : Stated} {x : Texts} {f : Files} where
       let read = all-good S x solution (roomsOf (k .lent)) (length (k .lentChoices)) w e .0 in
       let kinds = files-kinds S x (roomsOf (k .lent)) f read in
       let good-for = fair f cs S x (roomsOf (k .lent)) read in
-      let judged = answer-accepted solutionFile (verdictOf f cs) in
+      let judged = answer-accepted solutionFile (verdictOf f cs .finding) in
       record {
         accepted = (λ h. good-for .0 (judged .0 (sym says ∙ h)), λ h. says ∙ judged .1 (good-for .1 h));
         violated = λ v. (λ h. verdict-names f cs kinds solutionFile v .0 (sym says ∙ h), λ h. says ∙ verdict-names f cs kinds solutionFile v .1 h);
-        not-refused = λ h. verdict-not-refused solutionFile (verdictOf f cs) (refused-as says h);
+        not-refused = λ h. verdict-not-refused solutionFile (verdictOf f cs .finding) (refused-as says h);
       }
 
   energy-judges : {solution : List ℕ} {cs : List Configuration} (k : EnergyOutcome S x solution) → Reads S x solution (k .lent) (k .lentChoices) f cs → EnergyJudges k f cs
@@ -150,17 +146,17 @@ module _ {S : Stated} {x : Texts} {f : Files} where
       }
 
   -- a text of accepted choices
-  pub text-reads : (cs : List Configuration) → verdictOf f cs ≡ accepted → (t : Tables) (c : List ℕ) → Room S x f t c → Reads S x (textOf (chosen (f .rows) cs)) t c f cs
+  pub text-reads : (cs : List Configuration) → verdictOf f cs .finding ≡ accepted → (t : Tables) (c : List ℕ) → Room S x f t c → Reads S x (textOf (chosen (f .rows) cs)) t c f cs
   text-reads cs v t c room =
       good-all S x (textOf (chosen (f .rows) cs)) (roomsOf t) (length c) f cs (room .tables)
       (files-choices-back S x (roomsOf t) f solutionFile (length c) cs (room .tables) (are-offered f cs v) (room .choices))
 
-  pub text-reads-back : (cs : List Configuration) → verdictOf f cs ≡ accepted → ReadsBack S x f cs (textOf (chosen (f .rows) cs))
+  pub text-reads-back : (cs : List Configuration) → verdictOf f cs .finding ≡ accepted → ReadsBack S x f cs (textOf (chosen (f .rows) cs))
   text-reads-back cs v k room =
       let w : Whole = record { files = f; choices = cs } in
       let text = textOf (chosen (f .rows) cs) in
       let reads = text-reads cs v (k .lent) (k .lentChoices) room in (
-        k .keeps .answer ∙ checked-answer S x text (k .lent) (k .lentChoices) w reads ∙ answer-accepted solutionFile (verdictOf f cs) .1 v,
+        k .keeps .answer ∙ checked-answer S x text (k .lent) (k .lentChoices) w reads ∙ answer-accepted solutionFile (verdictOf f cs .finding) .1 v,
         ap (take (length (flat configurationNumbers cs))) (k .keeps .choices ∙ check-choices S x text (k .lent) (k .lentChoices) w reads)
             ∙ over-front (flat configurationNumbers cs) (k .lentChoices),
       )
@@ -183,16 +179,16 @@ module _ {S : Stated} {x : Texts} {f : Files} where
     kinds = files-kinds S x (roomsOf (k .lent)) f files
 
     -- where all is as it should be the text limit suffices
-    short : verdictOf f (mergeOf direction s r) ≡ accepted → length new ≤ mostText
+    short : verdictOf f (mergeOf direction s r) .finding ≡ accepted → length new ≤ mostText
     short v =
         let g = files-good S x (roomsOf (k .lent)) f files in
         text-short (S .horizon) (g .horizon .1) (chosen (f .rows) (mergeOf direction s r))
         (chosen-lawful (S .horizon) (f .rows) (mergeOf direction s r) (g .timetable .lawful) (are-offered f (mergeOf direction s r) v))
 
-    lengths : verdictOf f s ≡ accepted → verdictOf f r ≡ accepted → length s ≡ length r
+    lengths : verdictOf f s .finding ≡ accepted → verdictOf f r .finding ≡ accepted → length s ≡ length r
     lengths v w = sym (offered-length (f .rows) s (are-offered f s v)) ∙ offered-length (f .rows) r (are-offered f r w)
 
-    fits : verdictOf f s ≡ accepted → verdictOf f r ≡ accepted → SameTravel s r → HasRoom f (mergeOf direction s r) (k .lentText)
+    fits : verdictOf f s .finding ≡ accepted → verdictOf f r .finding ≡ accepted → SameTravel s r → HasRoom f (mergeOf direction s r) (k .lentText)
         → (unequalFrom 0 s r ≡ none) × (leb (length new) (length (k .lentText)) && leb (length new) mostText ≡ true)
     fits v w same room = (
       unequal-none s r (lengths v w) .1 same,
@@ -200,7 +196,7 @@ module _ {S : Stated} {x : Texts} {f : Files} where
     )
 
     abbrev AllRight : Type 0
-    AllRight = (verdictOf f s ≡ accepted) × (verdictOf f r ≡ accepted) × SameTravel s r × HasRoom f (mergeOf direction s r) (k .lentText)
+    AllRight = (verdictOf f s .finding ≡ accepted) × (verdictOf f r .finding ≡ accepted) × SameTravel s r × HasRoom f (mergeOf direction s r) (k .lentText)
 
     -- accepted exactly where all is right
     right : (said .answer ≡ Accepted) ↔ AllRight
@@ -224,7 +220,7 @@ module _ {S : Stated} {x : Texts} {f : Files} where
     merge-judges : MergeJudges k f s r
     merge-judges =
         let says = k .keeps .answer in
-        let good-for : (cs : List Configuration) → (verdictOf f cs ≡ accepted) ↔ AcceptableIn f cs = λ cs. fair f cs S x (roomsOf (k .lent)) files in
+        let good-for : (cs : List Configuration) → (verdictOf f cs .finding ≡ accepted) ↔ AcceptableIn f cs = λ cs. fair f cs S x (roomsOf (k .lent)) files in
         record {
           accepted = (
             λ h. let q = right .0 (sym says ∙ h) in (good-for s .0 (q .0), good-for r .0 (q .1), q .2, q .3),
@@ -243,13 +239,13 @@ module _ {S : Stated} {x : Texts} {f : Files} where
               (text-reads-back (mergeOf direction s r) (merge-fair direction f s r (q .2) (q .0) (q .1)));
         }
       where
-        there : (v : Violation) → (answerOf solutionFile (verdictOf f s) ≡ Violated v) ⊎ ((verdictOf f s ≡ accepted) × (answerOf secondFile (verdictOf f r) ≡ Violated v))
+        there : (v : Violation) → (answerOf solutionFile (verdictOf f s .finding) ≡ Violated v) ⊎ ((verdictOf f s .finding ≡ accepted) × (answerOf secondFile (verdictOf f r .finding) ≡ Violated v))
             → FirstFailure f s solutionFile v ⊎ (AcceptableIn f s × FirstFailure f r secondFile v)
         there v (inl h) = inl (verdict-names f s kinds solutionFile v .0 h)
         there v (inr h) = inr (fair f s S x (roomsOf (k .lent)) files .0 (h .0), verdict-names f r kinds secondFile v .0 (h .1))
 
         back : (v : Violation) → FirstFailure f s solutionFile v ⊎ (AcceptableIn f s × FirstFailure f r secondFile v)
-            → (answerOf solutionFile (verdictOf f s) ≡ Violated v) ⊎ ((verdictOf f s ≡ accepted) × (answerOf secondFile (verdictOf f r) ≡ Violated v))
+            → (answerOf solutionFile (verdictOf f s .finding) ≡ Violated v) ⊎ ((verdictOf f s .finding ≡ accepted) × (answerOf secondFile (verdictOf f r .finding) ≡ Violated v))
         back v (inl h) = inl (verdict-names f s kinds solutionFile v .1 h)
         back v (inr h) = inr (fair f s S x (roomsOf (k .lent)) files .1 (h .0), verdict-names f r kinds secondFile v .1 (h .1))
 

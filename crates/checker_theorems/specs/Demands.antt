@@ -11,7 +11,7 @@ use Rattle.rules.specs.Answers.{good, solutionFile, secondFile}
 use Rattle.rules.specs.Timetable.{configurationNumbers}
 use Rattle.rules.specs.Constraints.{ordered}
 use Rattle.rules.specs.Reading.{Texts, Files, filesOf}
-use Rattle.rules.specs.Verdict.{offered, Acceptable}
+use Rattle.rules.specs.Verdict.{offered, Acceptable, Test, tests, shownIn}
 use Rattle.rules.specs.Energy.{samplesIn, homesOf, power, figuresOf, curvesOf}
 use Rattle.rules.specs.Merge.{mergeOf, SameTravel, chosen, textOf}
 use Rattle.rules.specs.Entries.{Tables, roomsOf, filled, filledTables, writtenTables, writtenChoices, noFigures, allRead, bothRead}
@@ -25,7 +25,7 @@ use Rattle.rules.specs.declared.outcomes.Report.{Report}
 use Rattle.rules.specs.declared.outcomes.Merged.{Merged}
 use Rattle.rules.specs.declared.outcomes.Direction.{Direction}
 use Rattle.rules.specs.declared.outcomes.Direction.the-variants.{Earlier, Later}
-use Rattle.rules_theorems.specs.Tests.{tests, FirstFailing, Numbered}
+use Rattle.rules_theorems.specs.Tests.{FirstFailing, Numbered}
 use Rattle.rules_theorems.specs.Outcomes.{Outcome, SameRoom}
 use Rattle.rules_theorems.specs.Demands.{IsRefused, NoFieldIsFill, NoChoiceIsFill, NoPowerIsFill, HasRoom}
 
@@ -130,11 +130,12 @@ pub record DemandOne (S : Stated) (x : Texts) : Type 0 where
 abbrev pub AcceptableIn : Files → List Configuration → Type 0
 AcceptableIn f cs = Acceptable (offered (f .rows)) (f .document .constraints) cs
 
--- "the first failure in the fixed order is named with its shortfall in seconds"; and with the file that it lies in
+-- "the first failure in the fixed order is named with its shortfall in seconds": the test that fails, as it is shown, with the file that it lies in
 pub record FirstFailure (f : Files) (cs : List Configuration) (file : ℕ) (v : Violation) : Type 0 where
-  pub first : FirstFailing (tests (offered (f .rows)) (ordered (f .document .constraints)) cs) (v .kind) (v .position) (v .inequality) (v .shortfall)
+  pub named : Test
+  pub first : FirstFailing (tests (offered (f .rows)) (ordered (f .document .constraints)) cs) named
+  pub shown : v ≡ shownIn file named
   pub numbered : Numbered (v .kind) (v .inequality) (v .shortfall)
-  pub of-file : v .file ≡ file
 
 -- the curve table takes every second of every subnet
 abbrev pub CurvesFit : (H : ℕ) → Files → List ℤ → Type 0

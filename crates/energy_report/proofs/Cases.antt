@@ -9,7 +9,7 @@ use lib.ListN.{length}
 use lib.IntN.{ℤ}
 use Rattle.rules.specs.Answers.{solutionFile, isAccepted, Reading, refused, good}
 use Rattle.rules.specs.Reading.{Texts}
-use Rattle.rules.specs.Verdict.{Verdict, accepted, violated, answerOf}
+use Rattle.rules.specs.Verdict.{Finding, accepted, violated, answerOf}
 use Rattle.rules.specs.Energy.{deskOf}
 use Rattle.rules.specs.Entries.{Tables, roomsOf, writtenTables, writtenChoices, verdictOf, Whole, allRead, Checked, checkedFrom, checked, noFigures, Reported, reportAccepted, reportJudged, reportFrom, reported}
 use Rattle.rules.specs.declared.stated.Stated.{Stated}
@@ -27,19 +27,19 @@ module _ (S : Stated) (x : Texts) (s : List ℕ) (t : Tables) (c : List ℕ) (p 
   unfolding checked reported
   report-short = go (allRead S x s (roomsOf t) (length c))
     where
-      judgedAs : Verdict → Whole → Checked
+      judgedAs : Finding → Whole → Checked
       judgedAs v w = record { answer = answerOf solutionFile v; tables = writtenTables (w .files) t; choices = writtenChoices (w .choices) c }
 
-      judged : (v : Verdict) (w : Whole) → isAccepted (answerOf solutionFile v) ≡ false → Short (judgedAs v w) (reportJudged v (S .horizon) w t c p)
+      judged : (v : Finding) (w : Whole) → isAccepted (answerOf solutionFile v) ≡ false → Short (judgedAs v w) (reportJudged v (S .horizon) w t c p)
       judged accepted w h = let z : _≡_ {A = ℕ} 0 1 = cc in absurd (omega arith)
-      judged (violated k n i m) w h = record { answer = refl; figures = refl; desk = refl; tables = refl; choices = refl }
+      judged (violated v) w h = record { answer = refl; figures = refl; desk = refl; tables = refl; choices = refl }
 
       go : (m : Reading Whole) → isAccepted (checkedFrom m t c .answer) ≡ false → Short (checkedFrom m t c) (reportFrom m (S .horizon) t c p)
       go (refused r) h = record { answer = refl; figures = refl; desk = refl; tables = refl; choices = refl }
-      go (good w) h = judged (verdictOf (w .files) (w .choices)) w h
+      go (good w) h = judged (verdictOf (w .files) (w .choices) .finding) w h
 
   -- after acceptance the curve table has room, or not
-  module _ (w : Whole) (read : allRead S x s (roomsOf t) (length c) ≡ good w) (fair : verdictOf (w .files) (w .choices) ≡ accepted) where
+  module _ (w : Whole) (read : allRead S x s (roomsOf t) (length c) ≡ good w) (fair : verdictOf (w .files) (w .choices) .finding ≡ accepted) where
     pub report-fits : (fits : Bool) → leb (w .files .document .opened * S .horizon) (length p) ≡ fits → reported S x s t c p ≡ reportAccepted fits (S .horizon) w t c p
     unfolding reported
     report-fits fits e = rw (read, fair, e)

@@ -64,7 +64,7 @@ module _ {S : Stated} {x : Texts} {s : List ℕ} {t : Tables} {c : List ℕ} {j 
     h : isAccepted a ≡ true
     h = sym q ∙ g
 
-    found : (w : Whole) × (allRead S x s (roomsOf t) (length c) ≡ good w) × (verdictOf (w .files) (w .choices) ≡ accepted)
+    found : (w : Whole) × (allRead S x s (roomsOf t) (length c) ≡ good w) × (verdictOf (w .files) (w .choices) .finding ≡ accepted)
     found = accepted-read S x s t c (sym (read .answers) ∙ is-accepted a h)
 
     -- accepted: the tables are what the energies are worked out of

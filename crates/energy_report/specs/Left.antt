@@ -31,7 +31,7 @@ pub record Left (H : ℕ) (counts : filed.Counts.Counts) (choices legs profiles 
   pub lentChoices : List ℕ
   pub whole : Whole
   pub read : allRead stated texts solution (roomsOf lent) (length lentChoices) ≡ good whole
-  pub fair : verdictOf (whole .files) (whole .choices) ≡ accepted
+  pub fair : verdictOf (whole .files) (whole .choices) .finding ≡ accepted
   pub counted : counts ≡ countsOf (whole .files)
   pub choices-are : choices ≡ writtenChoices (whole .choices) lentChoices
   pub legs-are : legs ≡ writtenTables (whole .files) lent .legs

@@ -68,7 +68,7 @@ module _ {H : ℕ} (way : Direction) {counts : Counts} {legs configurations cons
       pub both-merged : {r : Merged} {text′ : List ℕ} → Judges way counts second legs configurations constraints c′ d′ text r text′ → Ends both r c′ d′ text′
       both-merged judged =
           let m = judged disputable in
-          let s = judged-stands (k .left .lent) c d text second (mergeOf way) (verdictOf f (chosen .a)) (record { files = f; first = chosen .a; second = chosen .b }) in
+          let s = judged-stands (k .left .lent) c d text second (mergeOf way) (verdictOf f (chosen .a) .finding) (record { files = f; first = chosen .a; second = chosen .b }) in
           rw (chosen .a-read, chosen .b-read)
           (record {
             made = m;

@@ -9,7 +9,7 @@ use lib.ListN.{length}
 use Rattle.rules.specs.Limits.{mostText, byteFill}
 use Rattle.rules.specs.Answers.{isRefusal, isAccepted, Reading, refused, good, _>>=_}
 use Rattle.rules.specs.Reading.{Files}
-use Rattle.rules.specs.Verdict.{Verdict, accepted, violated}
+use Rattle.rules.specs.Verdict.{Finding, accepted, violated}
 use Rattle.rules.specs.Merge.{unequalFrom, chosen, textOf}
 use Rattle.rules.specs.Entries.{Tables, filled, writtenTables, writtenChoices, verdictOf, Both, Merged, mergeFitted, mergeTravel, mergeSecond, mergeFirst, mergeFrom}
 use Rattle.rules.specs.declared.sizes.Configuration.{Configuration}
@@ -35,13 +35,13 @@ module _ (t : Tables) (c d text second : List ℕ) (merge : List Configuration �
       let written = textOf (chosen (b .files .rows) (merge (b .first) (b .second))) in
       fitted (leb (length written) (length text) && leb (length written) mostText) written b
 
-  judged-second : (v : Verdict) (b : Both) → Stands b (mergeSecond t c d text second merge v b)
+  judged-second : (v : Finding) (b : Both) → Stands b (mergeSecond t c d text second merge v b)
   judged-second accepted b = travelled (unequalFrom 0 (b .first) (b .second)) b
-  judged-second (violated k n i m) b = record { tables = λ z. refl; choices = λ z. refl; second-choices = λ z. refl; zeroed = λ z. refl }
+  judged-second (violated v) b = record { tables = λ z. refl; choices = λ z. refl; second-choices = λ z. refl; zeroed = λ z. refl }
 
-  pub judged-stands : (v : Verdict) (b : Both) → Stands b (mergeFirst t c d text second merge v b)
-  judged-stands accepted b = judged-second (verdictOf (b .files) (b .second)) b
-  judged-stands (violated k n i m) b = record { tables = λ z. refl; choices = λ z. refl; second-choices = λ z. refl; zeroed = λ z. refl }
+  pub judged-stands : (v : Finding) (b : Both) → Stands b (mergeFirst t c d text second merge v b)
+  judged-stands accepted b = judged-second (verdictOf (b .files) (b .second) .finding) b
+  judged-stands (violated v) b = record { tables = λ z. refl; choices = λ z. refl; second-choices = λ z. refl; zeroed = λ z. refl }
 
   -- the tables of the files stand, whatever two solutions say
   pub files-stand : (f : Files) (p q : Reading (List Configuration))
@@ -49,9 +49,9 @@ module _ (t : Tables) (c d text second : List ℕ) (merge : List Configuration �
       → mergeFrom t c d text second merge (p >>= λ a. q >>= λ b. good (record { files = f; first = a; second = b })) .tables ≡ writtenTables f t
   files-stand f (refused r) q = never
   files-stand f (good a) (refused r) = never
-  files-stand f (good a) (good b) = judged-stands (verdictOf f a) (record { files = f; first = a; second = b }) .tables
+  files-stand f (good a) (good b) = judged-stands (verdictOf f a .finding) (record { files = f; first = a; second = b }) .tables
 
   pub text-zeroed : (m : Reading Both) → isAccepted (mergeFrom t c d text second merge m .answer) ≡ false
       → mergeFrom t c d text second merge m .text ≡ filled byteFill text
   text-zeroed (refused r) z = refl
-  text-zeroed (good b) z = judged-stands (verdictOf (b .files) (b .first)) b .zeroed z
+  text-zeroed (good b) z = judged-stands (verdictOf (b .files) (b .first) .finding) b .zeroed z

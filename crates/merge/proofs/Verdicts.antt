@@ -5,7 +5,7 @@ use mathlib.Core.Bool.{true, false}
 use mathlib.Core.List.{List}
 use lib.ListN.{length}
 use Rattle.rules.specs.Answers.{solutionFile, secondFile, isAccepted}
-use Rattle.rules.specs.Verdict.{Verdict, accepted, violated, answerOf}
+use Rattle.rules.specs.Verdict.{Finding, accepted, violated, answerOf}
 use Rattle.rules.specs.Merge.{mergeOf}
 use Rattle.rules.specs.Entries.{verdictOf, mergeViolated, mergeSecond, mergeFirst}
 use Rattle.rules.specs.Entries as entries
@@ -59,10 +59,10 @@ module _ {counts : Counts} {second legs configurations constraints choices secon
   both-ready = record { first = first-ready; second = second-ready }
 
   module _ (d : Direction) (text : List ℕ) where
-    abbrev onFirst : Verdict → entries.Merged
+    abbrev onFirst : Finding → entries.Merged
     onFirst v = mergeFirst (m .left .lent) (m .lent) (m .lentSecond) text second (mergeOf d) v (bothOf m)
 
-    abbrev onSecond : Verdict → entries.Merged
+    abbrev onSecond : Finding → entries.Merged
     onSecond v = mergeSecond (m .left .lent) (m .lent) (m .lentSecond) text second (mergeOf d) v (bothOf m)
 
     -- where both are accepted the merge decides, and a violation of either is the answer
@@ -74,9 +74,9 @@ module _ {counts : Counts} {second legs configurations constraints choices secon
           rw (stops not-fair) (record { answer = e; length = refl; puts = λ z. never (sym z ∙ not-fair) })
 
       pub judged-ends : Made (mergedJudged m d text) r text′
-      judged-ends = go (verdictOf (m .left .files) (m .both .a)) (verdictOf (m .left .files) (m .both .b)) refl (judged both-ready)
+      judged-ends = go (verdictOf (m .left .files) (m .both .a) .finding) (verdictOf (m .left .files) (m .both .b) .finding) refl (judged both-ready)
         where
-          go : (v w : Verdict) → verdictOf (m .left .files) (m .both .b) ≡ w → a ≡ firstOf (answerOf solutionFile v) (answerOf secondFile w) → Made (onFirst v) r text′
-          go (violated k n i s) w q e = violation e refl
-          go accepted (violated k n i s) q e = subst (λ u. Made (onSecond u) r text′) (sym q) (violation e refl)
+          go : (v w : Finding) → verdictOf (m .left .files) (m .both .b) .finding ≡ w → a ≡ firstOf (answerOf solutionFile v) (answerOf secondFile w) → Made (onFirst v) r text′
+          go (violated v) w q e = violation e refl
+          go accepted (violated v) q e = subst (λ u. Made (onSecond u) r text′) (sym q) (violation e refl)
           go accepted accepted q e = subst (λ u. Made (onSecond u) r text′) (sym q) (merges (ap isAccepted e))

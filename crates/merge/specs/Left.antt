@@ -52,7 +52,7 @@ module _ {counts : Counts} {second legs configurations choices secondChoices : L
 
   -- after both verdicts
   abbrev pub mergedJudged : Direction → (text : List ℕ) → entries.Merged
-  mergedJudged d text = mergeFirst (k .left .lent) (k .lent) (k .lentSecond) text second (mergeOf d) (verdictOf (k .left .files) (k .both .a)) bothOf
+  mergedJudged d text = mergeFirst (k .left .lent) (k .lent) (k .lentSecond) text second (mergeOf d) (verdictOf (k .left .files) (k .both .a) .finding) bothOf
 
 abbrev pub Writes : Direction → Counts → (second legs configurations choices secondChoices text : List ℕ) → Merged → (text′ : List ℕ) → Type 0
 Writes d counts second legs configurations choices secondChoices text r text′ =

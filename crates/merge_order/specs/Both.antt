@@ -45,7 +45,7 @@ pub record BothReady (counts : Counts) (legs configurations constraints choices 
 
 -- the verdict of one, as the answer in its file
 abbrev pub verdictIn : {counts : Counts} {legs configurations constraints choices : List ℕ} → (file : ℕ) → Ready counts legs configurations constraints choices → Answer
-verdictIn file k = answerOf file (verdictOf (k .tables .left .files) (k .chosen))
+verdictIn file k = answerOf file (verdictOf (k .tables .left .files) (k .chosen) .finding)
 
 abbrev pub JudgesBoth : Counts → (legs configurations constraints choices secondChoices : List ℕ) → Answer → Type 0
 JudgesBoth counts legs configurations constraints choices secondChoices answer =

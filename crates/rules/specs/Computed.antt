@@ -8,12 +8,12 @@ use Rattle.rules.specs.Tokens.{tokensOf}
 use Rattle.rules.specs.Constraints.{actionOf, keysOf, listName, documentEnds, recordOpens, keyName, recordEnds, stringValue, stringCut, legValue, subnetValue, secondsValue, numberValue, tracksOpen, trackNumber, act, turnOf, run, constraintsOf, ordered}
 use Rattle.rules.specs.Stated.{known}
 use Rattle.rules.specs.Reading.{filesOf, choicesRead}
-use Rattle.rules.specs.Verdict.{verdict}
+use Rattle.rules.specs.Verdict.{tests, verdict}
 use Rattle.rules.specs.Energy.{figuresOf, curvesOf, deskOf}
 use Rattle.rules.specs.Merge.{textOf}
 use Rattle.rules.specs.Display.{rowIn, rowAt}
 use Rattle.rules.specs.Entries.{allRead, checked, reported, bothRead, merged}
 
 unfoldable pub computed : Unit {0}
-unfolding over csvOf timetableOf solutionOf profilesOf listNamed keyNamed keyIn typeNamed ruleOf tokensOf actionOf keysOf listName documentEnds recordOpens keyName recordEnds stringValue stringCut legValue subnetValue secondsValue numberValue tracksOpen trackNumber act turnOf run constraintsOf ordered known filesOf choicesRead verdict figuresOf curvesOf deskOf textOf rowIn rowAt allRead checked reported bothRead merged
+unfolding over csvOf timetableOf solutionOf profilesOf listNamed keyNamed keyIn typeNamed ruleOf tokensOf actionOf keysOf listName documentEnds recordOpens keyName recordEnds stringValue stringCut legValue subnetValue secondsValue numberValue tracksOpen trackNumber act turnOf run constraintsOf ordered known filesOf choicesRead tests verdict figuresOf curvesOf deskOf textOf rowIn rowAt allRead checked reported bothRead merged
 computed = tt

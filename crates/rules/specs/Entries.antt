@@ -14,7 +14,7 @@ use Rattle.rules.specs.Timetable.{legsOf, configurationsOf, legNumbers, 
 use Rattle.rules.specs.Profiles.{profilesFrom, sampleTable, profileNumbers}
 use Rattle.rules.specs.Constraints.{ordered, constraintNumbers, trackNumbers}
 use Rattle.rules.specs.Reading.{Rooms, Texts, Files, filesOf, choicesRead}
-use Rattle.rules.specs.Verdict.{offered, Verdict, accepted, violated, verdict, answerOf}
+use Rattle.rules.specs.Verdict.{offered, Finding, accepted, violated, Verdict, verdict, answerOf}
 use Rattle.rules.specs.Energy.{figuresOf, curvesOf, deskOf}
 use Rattle.rules.specs.Merge.{unequalFrom, chosen, textOf}
 use Rattle.rules.specs.declared.stated.Stated.{Stated}
@@ -107,7 +107,7 @@ abbrev pub checkedFrom : Reading Whole → Tables → List ℕ → Checked
 checkedFrom (refused r) t c = record { answer = Refused r; tables = filledTables t; choices = filled unsignedFill c }
 checkedFrom (good w) t c =
     record {
-      answer = answerOf solutionFile (verdictOf (w .files) (w .choices));
+      answer = answerOf solutionFile (verdictOf (w .files) (w .choices) .finding);
       tables = writtenTables (w .files) t;
       choices = writtenChoices (w .choices) c;
     }
@@ -155,11 +155,11 @@ reportAccepted true H w t c p =
       curves = over (curvesOf H (w .files) (w .choices)) p;
     }
 
-abbrev pub reportJudged : Verdict → (H : ℕ) → Whole → Tables → List ℕ → List ℤ → Reported
+abbrev pub reportJudged : Finding → (H : ℕ) → Whole → Tables → List ℕ → List ℤ → Reported
 reportJudged accepted H w t c p = reportAccepted (leb (w .files .document .opened * H) (length p)) H w t c p
-reportJudged (violated k n i m) H w t c p =
+reportJudged (violated v) H w t c p =
     record {
-      answer = answerOf solutionFile (violated k n i m);
+      answer = answerOf solutionFile (violated v);
       figures = noFigures;
       desk = deskOf noFigures;
       tables = writtenTables (w .files) t;
@@ -169,7 +169,7 @@ reportJudged (violated k n i m) H w t c p =
 
 abbrev pub reportFrom : Reading Whole → (H : ℕ) → Tables → List ℕ → List ℤ → Reported
 reportFrom (refused r) H t c p = reportRefused r t c p
-reportFrom (good w) H t c p = reportJudged (verdictOf (w .files) (w .choices)) H w t c p
+reportFrom (good w) H t c p = reportJudged (verdictOf (w .files) (w .choices) .finding) H w t c p
 
 unfoldable pub reported : Stated → Texts → (solution : List ℕ) → Tables → (choices : List ℕ) → (curves : List ℤ) → Reported
 reported S x solution t c p = reportFrom (allRead S x solution (roomsOf t) (length c)) (S .horizon) t c p
@@ -241,17 +241,17 @@ module _ (t : Tables) (c d text : List ℕ) where
   mergeTravel secondText merge none b = mergeWritten (textOf (chosen (b .files .rows) (merge (b .first) (b .second)))) b
 
   -- the verdict of the first, of the second, 17, 16
-  abbrev pub mergeSecond : (secondText : List ℕ) → (merge : List Configuration → List Configuration → List Configuration) → Verdict → Both → Merged
+  abbrev pub mergeSecond : (secondText : List ℕ) → (merge : List Configuration → List Configuration → List Configuration) → Finding → Both → Merged
   mergeSecond secondText merge accepted b = mergeTravel secondText merge (unequalFrom 0 (b .first) (b .second)) b
-  mergeSecond secondText merge (violated k n i m) b = mergeViolated (answerOf secondFile (violated k n i m)) b
+  mergeSecond secondText merge (violated v) b = mergeViolated (answerOf secondFile (violated v)) b
 
-  abbrev pub mergeFirst : (secondText : List ℕ) → (merge : List Configuration → List Configuration → List Configuration) → Verdict → Both → Merged
-  mergeFirst secondText merge accepted b = mergeSecond secondText merge (verdictOf (b .files) (b .second)) b
-  mergeFirst secondText merge (violated k n i m) b = mergeViolated (answerOf solutionFile (violated k n i m)) b
+  abbrev pub mergeFirst : (secondText : List ℕ) → (merge : List Configuration → List Configuration → List Configuration) → Finding → Both → Merged
+  mergeFirst secondText merge accepted b = mergeSecond secondText merge (verdictOf (b .files) (b .second) .finding) b
+  mergeFirst secondText merge (violated v) b = mergeViolated (answerOf solutionFile (violated v)) b
 
   abbrev pub mergeFrom : (secondText : List ℕ) → (merge : List Configuration → List Configuration → List Configuration) → Reading Both → Merged
   mergeFrom secondText merge (refused r) = mergeRefused r
-  mergeFrom secondText merge (good b) = mergeFirst secondText merge (verdictOf (b .files) (b .first)) b
+  mergeFrom secondText merge (good b) = mergeFirst secondText merge (verdictOf (b .files) (b .first) .finding) b
 
 unfoldable pub merged :
     (merge : List Configuration → List Configuration → List Configuration) → Stated → Texts → (first second : List ℕ) → Tables → (choices secondChoices text : List ℕ) → Merged

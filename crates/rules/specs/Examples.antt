@@ -1,28 +1,31 @@
 -- The examples of document 01 ("Examples to hold the definitions to"). The marked ones stand in one table with one statement, from texts to answers, and the checker
 -- computes them; then come the unmarked ones, and one for each error that document 01 says tempts.
-use Prim.Native.Nat.{ℕ, _-_, _^_}
+use Prim.Native.Nat.{ℕ, _-_, _*_, _^_}
 use Prim.Native.String.{String}
 use mathlib.Core.Path.{_≡_, refl}
 use mathlib.Core.Bool.{Bool, true, false}
 use mathlib.Core.List.{List, [], _∷_, _++_}
 use lib.ListN.{replicate, length}
 use lib.IntN.{ℤ, pos}
-use Rattle.rules.specs.Answers.{refusal, violation, badHorizon, badHeader, badRow, outOfRange, unknownName, noSubnet, noRoom, unknownEdition, noFile, timetableFile, profilesFile, constraintsFile, solutionFile}
+use Rattle.rules.specs.Limits.{constraintWidth}
+use Rattle.rules.specs.Answers.{refusal, violation, badHorizon, badHeader, badRow, outOfRange, unknownName, noSubnet, noRoom, unknownEdition, noFile, timetableFile, profilesFile, constraintsFile, solutionFile, Reading, refused, good}
 use Rattle.rules.specs.Bytes.{bytes, joined, comma}
 use Rattle.rules.specs.Timetable.{timetableHeader, configuration, inRange}
 use Rattle.rules.specs.Profiles.{profilesHeader}
 use Rattle.rules.specs.Kinds.{notOffered, headway, dwell, turnaround, connection, tableEdition, exampleEdition}
 use Rattle.rules.specs.Stated.{stated}
 use Rattle.rules.specs.Reading.{Texts}
+use Rattle.rules.specs.Tally.{noTests}
 use Rattle.rules.specs.Verdict.{All}
 use Rattle.rules.specs.Merge.{earlier, later}
-use Rattle.rules.specs.Entries.{Tables, checked, reported, merged}
+use Rattle.rules.specs.Entries.{Tables, roomsOf, verdictOf, Whole, allRead, checked, reported, merged}
 use Rattle.rules.specs.Display.{rowAt}
 use Rattle.rules.specs.Computed.{computed}
 use Rattle.rules.specs.declared.stated.Stated.{Stated}
 use Rattle.rules.specs.declared.sizes.Configuration.{Configuration}
 use Rattle.rules.specs.declared.figures.Peaks.{Peaks}
 use Rattle.rules.specs.declared.figures.Figures.{Figures}
+use Rattle.rules.specs.declared.answers.Tally.{Tally}
 use Rattle.rules.specs.declared.answers.Answer.{Answer}
 use Rattle.rules.specs.declared.answers.Answer.the-variants.{Accepted, Violated, Refused}
 
@@ -100,16 +103,19 @@ solution12 = rows "1,1,1,1,2,10_4_7,10_4_7 15_4_7\n2,1,2,2,3,12_3_8,40_3_8 12_3_
 
 -- ---- lent tables, with room to spare, that hold nines
 
-abbrev pub lent : Tables
-lent =
+abbrev pub lentFor : (constraints : ℕ) → Tables
+lentFor constraints =
     record {
       legs = replicate 24 9;
       configurations = replicate 18 9;
       profiles = replicate 9 9;
       samples = replicate 9 (pos 9);
-      constraints = replicate 18 9;
+      constraints = replicate (constraints * constraintWidth) 9;
       tracks = replicate 6 9;
     }
+
+abbrev pub lent : Tables
+lent = lentFor 3
 
 abbrev pub lentChoices : List ℕ
 lentChoices = replicate 9 9
@@ -127,6 +133,14 @@ figures t c s = reported S (texts t profiles c) s lent lentChoices (replicate 20
 abbrev pub mergedText : (merge : List Configuration → List Configuration → List Configuration) → List ℕ
 mergedText merge = merged merge S (texts draft profiles dwell20) solution15 solution45 lent lentChoices lentChoices (replicate (length draft) 0) .text
 
+-- what is counted of files that read, with room for a constraint of each kind; nothing where they are refused
+abbrev pub tallyOf : Reading Whole → Tally
+tallyOf (refused r) = noTests
+tallyOf (good w) = verdictOf (w .files) (w .choices) .tally
+
+abbrev pub tally : (timetable constraints solution : List ℕ) → Tally
+tally t c s = tallyOf (allRead S (texts t profiles c) s (roomsOf (lentFor 5)) (length lentChoices))
+
 -- ---- THE TABLE
 
 pub data Example : Type 0 where
@@ -135,6 +149,7 @@ pub data Example : Type 0 where
   merges : (merge : List Configuration → List Configuration → List Configuration) → (departures : List Configuration) (text : List ℕ) → Example
   ranges : Configuration → Bool → Example
   states : Stated → (timetable constraints : List ℕ) → Answer → Example
+  counts : (timetable constraints solution : List ℕ) → (kinds : List ℕ) (total : ℕ) → Example
 
 -- the choices of document 01's A and B
 abbrev pub A : List Configuration
@@ -150,6 +165,7 @@ Right (draws t c s before drawn lost fluctuation peaks) =
 Right (merges merge departures text) = (merge A B ≡ departures) × (mergedText merge ≡ text)
 Right (ranges c b) = inRange 4_000 c ≡ b
 Right (states stated t c a) = checked stated (texts t profiles c) draft lent lentChoices .answer ≡ a
+Right (counts t c s kinds total) = tally t c s ≡ record { kinds = kinds; total = total }
 
 -- both peaks in the only quarter
 abbrev pub inFirst : (before drawn : ℕ) → Peaks
@@ -342,3 +358,45 @@ editions =
 editions-hold : All Right editions
 unfolding computed
 editions-hold = (refl, (refl, (refl, (refl, (refl, (refl, (refl, (refl, (refl, (refl, (refl, (refl, (refl, (refl, tt))))))))))))))
+
+-- ---- how much was tested (document 02, E6)
+
+-- 12 for leg 1, listed in the solution alone
+abbrev pub firstAt12 : List ℕ
+firstAt12 = rows "1,1,1,1,2,12_4_7,12_4_7 15_4_7\n2,1,2,2,3,40_3_8,40_3_8 45_3_8\n"
+
+-- a record of each kind, all of them met by the draft's nominal departures
+abbrev pub eachKind : List ℕ
+eachKind =
+    object
+    (list "headway_time_constraints" headway3
+    ∷ list "single_track_headway_constraints" "{\"first_leg_id\": 1, \"second_leg_id\": 2}"
+    ∷ list "dwell_time_constraints" "{\"first_leg_id\": 1, \"second_leg_id\": 2, \"min_dwell_time\": 20}"
+    ∷ list "terminal_turnaround_constraints" "{\"first_leg_id\": 1, \"second_leg_id\": 2, \"min_turnaround_time\": 20}"
+    ∷ list "connection_constraints" "{\"first_leg_id\": 1, \"second_leg_id\": 2, \"min_connection_time\": 5, \"max_connection_time\": 26, \"connection_type\": \"arrival_to_departure\"}"
+    ∷ list "recuperation_subnets" oneSubnet
+    ∷ [])
+
+abbrev pub countings : List Example
+countings =
+    -- accepted: each row's choice, two for a headway and for a connection, one for each of the others
+    counts draft dwell20 solution15 (2 ∷ 0 ∷ 0 ∷ 1 ∷ 0 ∷ 0 ∷ []) 3
+    ∷ counts draft eachKind draft (2 ∷ 2 ∷ 1 ∷ 1 ∷ 1 ∷ 2 ∷ []) 9
+    -- a choice that is not offered is counted: one in row 0, two in row 1
+    ∷ counts draft eachKind firstAt12 (1 ∷ 0 ∷ 0 ∷ 0 ∷ 0 ∷ 0 ∷ []) 1
+    ∷ counts draft eachKind solution12 (2 ∷ 0 ∷ 0 ∷ 0 ∷ 0 ∷ 0 ∷ []) 2
+    -- so is an inequality that fails: one where it is its record's first, two where it is the second
+    ∷ counts draft dwell22 solution15 (2 ∷ 0 ∷ 0 ∷ 1 ∷ 0 ∷ 0 ∷ []) 3
+    ∷ counts draft (document dwellTwice oneSubnet) draft (2 ∷ 0 ∷ 0 ∷ 2 ∷ 0 ∷ 0 ∷ []) 4
+    ∷ counts draft otherOrder draft (2 ∷ 1 ∷ 0 ∷ 0 ∷ 0 ∷ 0 ∷ []) 3
+    ∷ counts draft13 (listed headway3 "" "" oneSubnet) draft13 (2 ∷ 2 ∷ 0 ∷ 0 ∷ 0 ∷ 0 ∷ []) 4
+    ∷ counts draft (listed headway3 dwellTwice "" oneSubnet) draft (2 ∷ 2 ∷ 0 ∷ 2 ∷ 0 ∷ 0 ∷ []) 6
+    ∷ counts draft (listed "" "" byArrivals oneSubnet) draft (2 ∷ 0 ∷ 0 ∷ 0 ∷ 0 ∷ 2 ∷ []) 4
+    -- nothing is tested of no legs and no constraints, nor of files that are refused
+    ∷ counts (rows "") (document "" oneSubnet) (rows "") (0 ∷ 0 ∷ 0 ∷ 0 ∷ 0 ∷ 0 ∷ []) 0
+    ∷ counts [] dwell20 draft (0 ∷ 0 ∷ 0 ∷ 0 ∷ 0 ∷ 0 ∷ []) 0
+    ∷ []
+
+countings-hold : All Right countings
+unfolding computed
+countings-hold = (refl, (refl, (refl, (refl, (refl, (refl, (refl, (refl, (refl, (refl, (refl, (refl, tt))))))))))))

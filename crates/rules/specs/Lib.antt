@@ -11,6 +11,7 @@ pub mod Tokens
 pub mod Constraints
 pub mod Stated
 pub mod Reading
+pub mod Tally
 pub mod Verdict
 pub mod Energy
 pub mod Merge

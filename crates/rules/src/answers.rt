@@ -1,6 +1,8 @@
-// The three answers of document 01: accepted, the first violation, a numbered refusal.
+// The three answers of document 01: accepted, the first violation, a numbered refusal; and a verdict's tally.
 ghost use mathlib.Core.Path.{_≡_};
 ghost use Rattle.rules.specs.Answers.{refusal, violation};
+ghost use Rattle.rules.specs.Tally.{noTests, counted, Countable};
+use crate::kinds::Kind;
 
 // The files, by document 01's numbers; 0 where a refusal lies in none.
 pub struct File {}
@@ -99,4 +101,41 @@ pub enum Answer {
     Accepted,
     Violated(Violation),
     Refused(Refusal),
+}
+
+// How much was tested: six counts, one per kind from 0 to 5, and their total.
+pub struct Tally {
+    pub kinds: [u32; Tally::KINDS],
+    pub total: u32,
+}
+
+impl Tally {
+    // Kind 0 and the five of document 01.
+    pub const KINDS: usize = Kind::COUNT + 1;
+
+    pub fn none() -> Tally
+        ensures { λ r. ⌜ r ≡ noTests ⌝ }
+    {
+        Tally {
+            kinds: [0; Tally::KINDS],
+            total: 0,
+        }
+    }
+
+    // So many tests more, of one kind.
+    pub fn with(self, kind: usize, tests: u32) -> Tally
+        requires { ⌜ Countable kind tests self ⌝ }
+        ensures { λ r. ⌜ r ≡ counted kind tests self ⌝ }
+    {
+        let mut t = self;
+        t.kinds[kind] = t.kinds[kind] + tests;
+        t.total = t.total + tests;
+        t
+    }
+}
+
+// A verdict: the answer, and how much was tested for it.
+pub struct Ruling {
+    pub answer: Answer,
+    pub tally: Tally,
 }

@@ -2,7 +2,7 @@
 use Prim.Native.Nat.{ℕ, _+_, _-_}
 use Prim.Native.String.{String}
 use mathlib.Core.Path.{_≡_, refl}
-use mathlib.Core.Bool.{cond}
+use mathlib.Core.Bool.{false, cond}
 use mathlib.Core.List.{List, [], _∷_, _++_, map}
 use lib.Dec.{eqb}
 use lib.ListN.{getD}
@@ -11,7 +11,8 @@ use Rattle.rules.specs.Bytes.{bytes, spelled, joined, comma}
 use Rattle.rules.specs.Timetable.{configuration}
 use Rattle.rules.specs.Kinds.{notOffered, headway, singleTrack, dwell, turnaround, connection, subnets, listNames, noType}
 use Rattle.rules.specs.Kinds.{byArrival as arrivalType, byDeparture as departureType}
-use Rattle.rules.specs.Verdict.{All, Verdict, accepted, violated, recordsFrom}
+use Rattle.rules.specs.Tally.{noTests}
+use Rattle.rules.specs.Verdict.{All, test, recordTests, Finding, accepted, violated, verdictFrom}
 use Rattle.rules.specs.Computed.{computed}
 use Rattle.rules.specs.Examples.{draft, profiles, rows, dwell20, oneSubnet, list, object}
 use Rattle.rules.specs.declared.answers.Answer.{Answer}
@@ -69,19 +70,23 @@ pub data Corner : Type 0 where
   judgesAt : (departure : String) → Listed → Answer → Corner
   answers : (draft constraints solution : List ℕ) → Answer → Corner
   -- a record that the table might hold, with the least and the greatest seconds, of the same two legs
-  gives : (kind type : ℕ) → Verdict → Corner
+  gives : (kind type : ℕ) → Finding → Corner
 
 abbrev leaving : String → List ℕ
 leaving d =
     let chosen = bytes d ++ bytes "_3_8" in
     rows "1,1,1,1,2,10_4_7,10_4_7\n" ++ bytes "2,1,2,2,3," ++ chosen ++ bytes "," ++ chosen ++ bytes "\n"
 
+-- at the first inequality, by a second
+abbrev fails : (kind : ℕ) → Finding
+fails k = violated (test k 0 1 1 false)
+
 abbrev pub Right : Corner → Type 0
 Right (judges r a) = answerTo (input 100 draft profiles (with r) draft) ≡ a
 Right (judgesAt d r a) = answerTo (input 100 (leaving d) profiles (with r) (leaving d)) ≡ a
 Right (answers t c s a) = answerTo (input 100 t profiles c s) ≡ a
 Right (gives k type v) =
-    recordsFrom notOffered 0 (configuration 10 4 7 ∷ configuration 40 3 8 ∷ []) (record { kind = k; first = 0; second = 1; low = 0; high = mostSeconds; connection = type } ∷ []) ≡ v
+    verdictFrom noTests (recordTests notOffered 0 (configuration 10 4 7 ∷ configuration 40 3 8 ∷ []) (record { kind = k; first = 0; second = 1; low = 0; high = mostSeconds; connection = type } ∷ [])) .finding ≡ v
 
 abbrev pub records : List Corner
 records =
@@ -144,12 +149,12 @@ records =
     -- a choice of another leg's list is not offered to this one, and comes before every constraint
     ∷ answers draft (with (dwells 2 1 0)) (rows "1,1,1,1,2,10_4_7,10_4_7\n2,1,2,2,3,10_4_7,10_4_7\n") (violates notOffered 1 0 0)
     -- no reading gives them: what is no kind, and a connection of a type that is none of the two, cannot hold; the other kinds do not look at the type
-    ∷ gives notOffered noType (violated notOffered 0 1 1)
-    ∷ gives subnets noType (violated subnets 0 1 1)
+    ∷ gives notOffered noType (fails notOffered)
+    ∷ gives subnets noType (fails subnets)
     ∷ gives connection arrivalType accepted
     ∷ gives connection departureType accepted
-    ∷ gives connection noType (violated connection 0 1 1)
-    ∷ gives connection (departureType + 1) (violated connection 0 1 1)
+    ∷ gives connection noType (fails connection)
+    ∷ gives connection (departureType + 1) (fails connection)
     ∷ gives dwell (departureType + 1) accepted
     ∷ []
 

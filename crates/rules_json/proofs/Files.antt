@@ -72,4 +72,4 @@ check-refuses S x s t c = (λ k. exact .0 (was read k), λ h. let k = exact .1 h
 
     was : (o : Reading Whole) → IsRefused (checkedFrom o t c .answer) → (r : Refusal) × (o ≡ refused r)
     was (refused r) k = (r, refl)
-    was (good w) k = absurd (verdict-not-refused solutionFile (verdictOf (w .files) (w .choices)) k)
+    was (good w) k = absurd (verdict-not-refused solutionFile (verdictOf (w .files) (w .choices) .finding) k)

@@ -11,7 +11,7 @@ use lib.IntN.{ℤ}
 use Rattle.rules.specs.Limits.{mostText}
 use Rattle.rules.specs.Answers.{Reading, refused, good, solutionFile}
 use Rattle.rules.specs.Reading.{Texts}
-use Rattle.rules.specs.Verdict.{Verdict, accepted, violated, answerOf}
+use Rattle.rules.specs.Verdict.{Finding, accepted, violated, answerOf}
 use Rattle.rules.specs.Merge.{unequalFrom, chosen, textOf}
 use Rattle.rules.specs.Entries.{Tables, roomsOf, verdictOf, Whole, allRead, checkedFrom, checked, reportAccepted, reportJudged, reportFrom, reported, Both, bothRead, Merged, mergeFitted, mergeTravel, mergeSecond, mergeFirst, mergeFrom, merged}
 use Rattle.rules.specs.declared.stated.Stated.{Stated}
@@ -28,9 +28,9 @@ accepted-not-refused h = let e = h .1 in let z : _≡_ {A = ℕ} 0 1 = cc in ome
 pub violated-not-refused : (v : Violation) → IsRefused (Violated v) → ⊥
 violated-not-refused v h = let e = h .1 in let z : _≡_ {A = ℕ} 0 1 = cc in omega arith
 
-pub verdict-not-refused : (file : ℕ) (v : Verdict) → IsRefused (answerOf file v) → ⊥
+pub verdict-not-refused : (file : ℕ) (v : Finding) → IsRefused (answerOf file v) → ⊥
 verdict-not-refused file accepted = accepted-not-refused
-verdict-not-refused file (violated k n i m) = violated-not-refused _
+verdict-not-refused file (violated v) = violated-not-refused _
 
 -- ---- what each entry leaves after a refusal
 
@@ -41,7 +41,7 @@ module _ (S : Stated) (x : Texts) (s : List ℕ) (t : Tables) (c : List ℕ) whe
     where
       go : (m : Reading Whole) → IsRefused (checkedFrom m t c .answer) → EmptiedCheck t c (checkedFrom m t c)
       go (refused r) e = record { tables = refl; choices = refl }
-      go (good w) e = absurd (verdict-not-refused solutionFile (verdictOf (w .files) (w .choices)) e)
+      go (good w) e = absurd (verdict-not-refused solutionFile (verdictOf (w .files) (w .choices) .finding) e)
 
   -- a check ends in one of three answers, and after a refusal every table is filled
   pub demand-one : DemandOne (checked S x s t c .answer) (EmptiedCheck t c (checked S x s t c))
@@ -56,13 +56,13 @@ module _ (S : Stated) (x : Texts) (s : List ℕ) (t : Tables) (c : List ℕ) whe
         fitted true w e = absurd (accepted-not-refused e)
         fitted false w e = record { tables = refl; choices = refl; curves = refl; figures = refl }
 
-        judged : (v : Verdict) (w : Whole) → IsRefused (reportJudged v (S .horizon) w t c p .answer) → EmptiedReport t c p (reportJudged v (S .horizon) w t c p)
+        judged : (v : Finding) (w : Whole) → IsRefused (reportJudged v (S .horizon) w t c p .answer) → EmptiedReport t c p (reportJudged v (S .horizon) w t c p)
         judged accepted w e = fitted (leb (w .files .document .opened * S .horizon) (length p)) w e
-        judged (violated k n i m) w e = absurd (violated-not-refused _ e)
+        judged (violated v) w e = absurd (violated-not-refused _ e)
 
         go : (m : Reading Whole) → IsRefused (reportFrom m (S .horizon) t c p .answer) → EmptiedReport t c p (reportFrom m (S .horizon) t c p)
         go (refused r) e = record { tables = refl; choices = refl; curves = refl; figures = refl }
-        go (good w) e = judged (verdictOf (w .files) (w .choices)) w e
+        go (good w) e = judged (verdictOf (w .files) (w .choices) .finding) w e
 
     -- a report too: its curve table is filled, and its figures are 0
     pub report-demand-one : DemandOne (reported S x s t c p .answer) (EmptiedReport t c p (reported S x s t c p))
@@ -86,17 +86,17 @@ module _ (S : Stated) (x : Texts) (s : List ℕ) (t : Tables) (c : List ℕ) whe
             fitted (leb (length written) (length text) && leb (length written) mostText) written b e
         travelled (some row) b e = record { tables = refl; choices = refl; second = refl; text = refl; length = refl }
 
-        second : (v : Verdict) (b : Both) → Emptied (mergeSecond t c d text s₂ merge v b)
+        second : (v : Finding) (b : Both) → Emptied (mergeSecond t c d text s₂ merge v b)
         second accepted b e = travelled (unequalFrom 0 (b .first) (b .second)) b e
-        second (violated k n i m) b e = absurd (violated-not-refused _ e)
+        second (violated v) b e = absurd (violated-not-refused _ e)
 
-        first : (v : Verdict) (b : Both) → Emptied (mergeFirst t c d text s₂ merge v b)
-        first accepted b e = second (verdictOf (b .files) (b .second)) b e
-        first (violated k n i m) b e = absurd (violated-not-refused _ e)
+        first : (v : Finding) (b : Both) → Emptied (mergeFirst t c d text s₂ merge v b)
+        first accepted b e = second (verdictOf (b .files) (b .second) .finding) b e
+        first (violated v) b e = absurd (violated-not-refused _ e)
 
         go : (m : Reading Both) → Emptied (mergeFrom t c d text s₂ merge m)
         go (refused r) e = record { tables = refl; choices = refl; second = refl; text = refl; length = refl }
-        go (good b) e = first (verdictOf (b .files) (b .first)) b e
+        go (good b) e = first (verdictOf (b .files) (b .first) .finding) b e
 
     -- a merge too, by whatever rule it chooses: both choice tables are filled, and the text buffer is zeroed
     pub merge-demand-one : DemandOne (merged merge S x s s₂ t c d text .answer) (EmptiedMerge t c d text (merged merge S x s s₂ t c d text))

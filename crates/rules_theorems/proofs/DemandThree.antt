@@ -41,8 +41,8 @@ over-front w t = take-append-seam w _
 module _ (S : Stated) (x : Texts) (a b : List ℕ) (t : Tables) (c d text : List ℕ) (merge : List Configuration → List Configuration → List Configuration)
     (f : Files) (s r : List Configuration) (files-read : filesOf S x (roomsOf t) ≡ good f)
     (first-read : choicesRead (S .horizon) f solutionFile (length c) a ≡ good s) (second-read : choicesRead (S .horizon) f secondFile (length d) b ≡ good r)
-    (first-accepted : verdictOf f s ≡ accepted) (second-accepted : verdictOf f r ≡ accepted) (no-unequal : unequalFrom 0 s r ≡ none)
-    (merge-accepted : verdictOf f (merge s r) ≡ accepted) where
+    (first-accepted : verdictOf f s .finding ≡ accepted) (second-accepted : verdictOf f r .finding ≡ accepted) (no-unequal : unequalFrom 0 s r ≡ none)
+    (merge-accepted : verdictOf f (merge s r) .finding ≡ accepted) where
   abbrev written : List ℕ
   written = textOf (chosen (f .rows) (merge s r))
 
@@ -52,7 +52,7 @@ module _ (S : Stated) (x : Texts) (a b : List ℕ) (t : Tables) (c d text : List
   abbrev new : Whole
   new = record { files = f; choices = merge s r }
 
-  are-offered : (cs : List Configuration) → verdictOf f cs ≡ accepted → Offered (offered (f .rows)) cs
+  are-offered : (cs : List Configuration) → verdictOf f cs .finding ≡ accepted → Offered (offered (f .rows)) cs
   are-offered cs v = verdict-accepted (offered (f .rows)) (ordered (f .document .constraints)) cs .1 v .offered
 
   -- the text limit always suffices
@@ -86,7 +86,7 @@ module _ (S : Stated) (x : Texts) (a b : List ℕ) (t : Tables) (c d text : List
       (files-choices-back S x (roomsOf t) f solutionFile (length c) (merge s r) files-read (are-offered (merge s r) merge-accepted) room)
 
   is-accepted : checked S x written t c .answer ≡ Accepted
-  is-accepted = checked-answer S x written t c new reads ∙ answer-accepted solutionFile (verdictOf f (merge s r)) .1 merge-accepted
+  is-accepted = checked-answer S x written t c new reads ∙ answer-accepted solutionFile (verdictOf f (merge s r) .finding) .1 merge-accepted
 
   one-merge : HasRoom f (merge s r) text → MergedTo (merge s r) f S x t c (merged merge S x a b t c d text)
   one-merge fits =
@@ -111,14 +111,14 @@ tables-add H f s r e =
 
 -- the verdict of a solution that was accepted
 verdict-of : (S : Stated) (x : Texts) (s : List ℕ) (t : Tables) (c : List ℕ) (w : Whole) → allRead S x s (roomsOf t) (length c) ≡ good w
-    → checked S x s t c .answer ≡ Accepted → verdictOf (w .files) (w .choices) ≡ accepted
-verdict-of S x s t c w e h = answer-accepted solutionFile (verdictOf (w .files) (w .choices)) .0 (sym (checked-answer S x s t c w e) ∙ h)
+    → checked S x s t c .answer ≡ Accepted → verdictOf (w .files) (w .choices) .finding ≡ accepted
+verdict-of S x s t c w e h = answer-accepted solutionFile (verdictOf (w .files) (w .choices) .finding) .0 (sym (checked-answer S x s t c w e) ∙ h)
 
 module _ (S : Stated) (x : Texts) (a b : List ℕ) (t : Tables) (c d e l : List ℕ) where
   -- over the same files f
   from-files : (f : Files) (s r : List Configuration) → filesOf S x (roomsOf t) ≡ good f
       → choicesRead (S .horizon) f solutionFile (length c) a ≡ good s → choicesRead (S .horizon) f solutionFile (length d) b ≡ good r
-      → verdictOf f s ≡ accepted → verdictOf f r ≡ accepted → SameTravel s r → DemandThree f s r S x a b t c d e l
+      → verdictOf f s .finding ≡ accepted → verdictOf f r .finding ≡ accepted → SameTravel s r → DemandThree f s r S x a b t c d e l
   from-files f s r files first second v w same =
       let lengths = travel-lengths s r same in
       let unequal = unequal-none s r lengths .1 same in

@@ -8,7 +8,7 @@ use lib.ListN.{length}
 use Rattle.rules.specs.Answers.{Reading, refused, good, solutionFile}
 use Rattle.rules.specs.Constraints.{ordered}
 use Rattle.rules.specs.Reading.{Rooms, Texts, Files, filesOf, legIds}
-use Rattle.rules.specs.Verdict.{All, offered, Kept, Acceptable, Verdict, accepted, violated, answerOf}
+use Rattle.rules.specs.Verdict.{All, offered, Kept, Acceptable, Test, Finding, accepted, violated, shownIn, answerOf}
 use Rattle.rules.specs.Entries.{Tables, roomsOf, verdictOf, Whole, allRead, checkedFrom, checked}
 use Rattle.rules.specs.declared.stated.Stated.{Stated}
 use Rattle.rules.specs.declared.sizes.Configuration.{Configuration}
@@ -25,17 +25,15 @@ use Rattle.rules_theorems.proofs.DemandOne.{verdict-not-refused}
 
 -- ---- the verdict and the answer
 
-pub answer-accepted : (file : ℕ) (v : Verdict) → (answerOf file v ≡ Accepted) ↔ (v ≡ accepted)
+pub answer-accepted : (file : ℕ) (v : Finding) → (answerOf file v ≡ Accepted) ↔ (v ≡ accepted)
 answer-accepted file accepted = (λ e. refl, λ e. refl)
-answer-accepted file (violated k n i m) =
+answer-accepted file (violated v) =
     (λ e. let z : _≡_ {A = ℕ} 0 1 = cc in absurd (omega arith), λ e. let z : _≡_ {A = ℕ} 0 1 = cc in absurd (omega arith))
 
--- a violation that an answer names is the verdict's
-pub answer-violated : (file : ℕ) (v : Verdict) (w : Violation) → answerOf file v ≡ Violated w → v ≡ violated (w .kind) (w .position) (w .inequality) (w .shortfall)
+-- a violation that an answer names is of the verdict's test
+pub answer-violated : (file : ℕ) (v : Finding) (w : Violation) → answerOf file v ≡ Violated w → (x : Test) × (v ≡ violated x) × (w ≡ shownIn file x)
 answer-violated file accepted w e = let z : _≡_ {A = ℕ} 0 1 = cc in absurd (omega arith)
-answer-violated file (violated k n i m) w e =
-    let parts : w ≡ record { kind = w .kind; position = w .position; inequality = w .inequality; shortfall = w .shortfall; file = w .file } = refl in
-    cc
+answer-violated file (violated x) w e = (x, refl, cc)
 
 -- ---- the order of the constraints does not matter for acceptance
 
@@ -56,26 +54,26 @@ files-kinds S x room files e =
 
 module _ (S : Stated) (x : Texts) (s : List ℕ) (t : Tables) (c : List ℕ) where
   -- a check of texts that all read
-  pub checked-answer : (w : Whole) → allRead S x s (roomsOf t) (length c) ≡ good w → checked S x s t c .answer ≡ answerOf solutionFile (verdictOf (w .files) (w .choices))
+  pub checked-answer : (w : Whole) → allRead S x s (roomsOf t) (length c) ≡ good w → checked S x s t c .answer ≡ answerOf solutionFile (verdictOf (w .files) (w .choices) .finding)
   unfolding checked
   checked-answer w e = rw e
 
   -- accepted: then all texts read, and the verdict is accepted
   pub accepted-read : checked S x s t c .answer ≡ Accepted
-      → (w : Whole) × (allRead S x s (roomsOf t) (length c) ≡ good w) × (verdictOf (w .files) (w .choices) ≡ accepted)
+      → (w : Whole) × (allRead S x s (roomsOf t) (length c) ≡ good w) × (verdictOf (w .files) (w .choices) .finding ≡ accepted)
   unfolding checked
   accepted-read = go (allRead S x s (roomsOf t) (length c)) refl
     where
       go : (m : Reading Whole) → allRead S x s (roomsOf t) (length c) ≡ m → checkedFrom m t c .answer ≡ Accepted
-          → (w : Whole) × (allRead S x s (roomsOf t) (length c) ≡ good w) × (verdictOf (w .files) (w .choices) ≡ accepted)
+          → (w : Whole) × (allRead S x s (roomsOf t) (length c) ≡ good w) × (verdictOf (w .files) (w .choices) .finding ≡ accepted)
       go (refused r) e h = let z : _≡_ {A = ℕ} 0 1 = cc in absurd (omega arith)
-      go (good w) e h = (w, e, answer-accepted solutionFile (verdictOf (w .files) (w .choices)) .0 h)
+      go (good w) e h = (w, e, answer-accepted solutionFile (verdictOf (w .files) (w .choices) .finding) .0 h)
 
   pub demand-two : (w : Whole) → allRead S x s (roomsOf t) (length c) ≡ good w → DemandTwo (S .horizon) (checked S x s t c .answer) w
   demand-two w e =
       let draft = offered (w .files .rows) in
       let table = ordered (w .files .document .constraints) in
-      let v = verdictOf (w .files) (w .choices) in
+      let v = verdictOf (w .files) (w .choices) .finding in
       let read = all-good S x s (roomsOf t) (length c) w e .0 in
       let judged = answer-accepted solutionFile v in
       let fair = verdict-accepted draft table (w .choices) in
@@ -85,8 +83,10 @@ module _ (S : Stated) (x : Texts) (s : List ℕ) (t : Tables) (c : List ℕ) whe
       (record {
         accepted = (λ h. order .1 (fair .1 (judged .0 h)), λ h. judged .1 (fair .0 (order .0 h)));
         accepted-in-order = (λ h. fair .1 (judged .0 h), λ h. judged .1 (fair .0 h));
-        violated = λ k h. names-the-first draft table (w .choices) (k .kind) (k .position) (k .inequality) (k .shortfall) .0 (answer-violated solutionFile v k h);
-        numbered = λ k h. shortfalls draft table (w .choices) (ordered-keeps OfKind (w .files .document .constraints) kinds) (k .kind) (k .position) (k .inequality) (k .shortfall) (answer-violated solutionFile v k h);
+        violated = λ k h. let n = answer-violated solutionFile v k h in (n .0, names-the-first draft table (w .choices) (n .0) .0 (n .1), n .2);
+        numbered =
+            λ k h. let n = answer-violated solutionFile v k h in
+            rw (n .2) (shortfalls draft table (w .choices) (ordered-keeps OfKind (w .files .document .constraints) kinds) (n .0) (n .1));
         judged = verdict-not-refused solutionFile v;
         reads-back = λ file room choices. files-choices-back S x (roomsOf t) (w .files) file room choices read;
       })

@@ -144,6 +144,6 @@ no-choice-is-fill S x room f e file choices s cs k =
 
 -- and of an accepted solution no power of its curves is
 pub no-power-is-fill : (S : Stated) (x : Texts) (s : List ℕ) (room : Rooms) (choices : ℕ) (w : Whole) → allRead S x s room choices ≡ good w
-    → verdictOf (w .files) (w .choices) ≡ accepted → NoPowerIsFill (S .horizon) (w .files) (w .choices)
+    → verdictOf (w .files) (w .choices) .finding ≡ accepted → NoPowerIsFill (S .horizon) (w .files) (w .choices)
 no-power-is-fill S x s room choices w e v =
     all-map (λ p. natAbs p ≤ mostPower) _ power-unfilled (curvesOf (S .horizon) (w .files) (w .choices)) (figures-bounded S x s room choices w e v .curves)

@@ -134,8 +134,8 @@ module _ (draft : List (List Configuration)) (cs : List Constraint) (s r : List 
       (record { offered = o .0; kept = m .0 }, record { offered = o .1; kept = m .1 })
 
   -- the same by verdicts
-  pub merge-verdicts : verdict draft cs s ≡ accepted → verdict draft cs r ≡ accepted
-      → (verdict draft cs (earlier s r) ≡ accepted) × (verdict draft cs (later s r) ≡ accepted)
+  pub merge-verdicts : verdict draft cs s .finding ≡ accepted → verdict draft cs r .finding ≡ accepted
+      → (verdict draft cs (earlier s r) .finding ≡ accepted) × (verdict draft cs (later s r) .finding ≡ accepted)
   merge-verdicts h k =
       let m = merges-accepted (verdict-accepted draft cs s .1 h) (verdict-accepted draft cs r .1 k) in
       (verdict-accepted draft cs (earlier s r) .0 (m .0), verdict-accepted draft cs (later s r) .0 (m .1))

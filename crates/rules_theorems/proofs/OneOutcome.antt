@@ -11,7 +11,7 @@ use lib.IntN.{ℤ}
 use Rattle.rules.specs.Limits.{mostText}
 use Rattle.rules.specs.Answers.{Reading, refused, good}
 use Rattle.rules.specs.Reading.{Texts}
-use Rattle.rules.specs.Verdict.{Verdict, accepted, violated}
+use Rattle.rules.specs.Verdict.{Finding, accepted, violated}
 use Rattle.rules.specs.Entries.{Tables, roomsOf, verdictOf, Whole, allRead, checked, checkedFrom, reported, reportAccepted, reportJudged, reportFrom, Both, bothRead, merged, mergeFitted, mergeTravel, mergeSecond, mergeFirst, mergeFrom}
 use Rattle.rules.specs.Merge.{unequalFrom, chosen, textOf}
 use Rattle.rules.specs.declared.stated.Stated.{Stated}
@@ -63,13 +63,13 @@ module _ (H : ℕ) (t t′ : Tables) (c c′ : List ℕ) (p p′ : List ℤ) whe
   report-accepted true w = record { answer = refl; figures = refl; desk = refl }
   report-accepted false w = record { answer = refl; figures = refl; desk = refl }
 
-  report-judged : length p ≡ length p′ → (v : Verdict) (w : Whole) → SameReport (reportJudged v H w t c p) (reportJudged v H w t′ c′ p′)
+  report-judged : length p ≡ length p′ → (v : Finding) (w : Whole) → SameReport (reportJudged v H w t c p) (reportJudged v H w t′ c′ p′)
   report-judged e accepted w = rw e (report-accepted (leb (w .files .document .opened * H) (length p′)) w)
-  report-judged e (violated k n i m) w = record { answer = refl; figures = refl; desk = refl }
+  report-judged e (violated v) w = record { answer = refl; figures = refl; desk = refl }
 
   report-from : length p ≡ length p′ → (r : Reading Whole) → SameReport (reportFrom r H t c p) (reportFrom r H t′ c′ p′)
   report-from e (refused r) = record { answer = refl; figures = refl; desk = refl }
-  report-from e (good w) = report-judged e (verdictOf (w .files) (w .choices)) w
+  report-from e (good w) = report-judged e (verdictOf (w .files) (w .choices) .finding) w
 
 -- and of a merge, with the room for its text
 module _ (t t′ : Tables) (c c′ d d′ text text′ : List ℕ) where
@@ -84,17 +84,17 @@ module _ (t t′ : Tables) (c c′ d d′ text text′ : List ℕ) where
         let written : List ℕ = textOf (chosen (b .files .rows) (merge (b .first) (b .second))) in
         rw e (merge-fitted (leb (length written) (length text′) && leb (length written) mostText) written b)
 
-    merge-second : (v : Verdict) (b : Both) → SameMerge (mergeSecond t c d text s₂ merge v b) (mergeSecond t′ c′ d′ text′ s₂ merge v b)
+    merge-second : (v : Finding) (b : Both) → SameMerge (mergeSecond t c d text s₂ merge v b) (mergeSecond t′ c′ d′ text′ s₂ merge v b)
     merge-second accepted b = merge-travel (unequalFrom 0 (b .first) (b .second)) b
-    merge-second (violated k n i m) b = record { answer = refl; length = refl }
+    merge-second (violated v) b = record { answer = refl; length = refl }
 
-    merge-first : (v : Verdict) (b : Both) → SameMerge (mergeFirst t c d text s₂ merge v b) (mergeFirst t′ c′ d′ text′ s₂ merge v b)
-    merge-first accepted b = merge-second (verdictOf (b .files) (b .second)) b
-    merge-first (violated k n i m) b = record { answer = refl; length = refl }
+    merge-first : (v : Finding) (b : Both) → SameMerge (mergeFirst t c d text s₂ merge v b) (mergeFirst t′ c′ d′ text′ s₂ merge v b)
+    merge-first accepted b = merge-second (verdictOf (b .files) (b .second) .finding) b
+    merge-first (violated v) b = record { answer = refl; length = refl }
 
     merge-from : (r : Reading Both) → SameMerge (mergeFrom t c d text s₂ merge r) (mergeFrom t′ c′ d′ text′ s₂ merge r)
     merge-from (refused r) = record { answer = refl; length = refl }
-    merge-from (good b) = merge-first (verdictOf (b .files) (b .first)) b
+    merge-from (good b) = merge-first (verdictOf (b .files) (b .first) .finding) b
 
 module _ (S : Stated) (x : Texts) (s : List ℕ) where
   pub check-own-input : ChecksOwnInput S x s

@@ -12,7 +12,7 @@ use Rattle.rules.specs.Lists.{any}
 use Rattle.rules.specs.Answers.{badRow, constraintsFile, refusal, noRoom, unequalTravel, solutionFile, secondFile, Reading}
 use Rattle.rules.specs.Rows.{placeOfRow}
 use Rattle.rules.specs.Reading.{Texts}
-use Rattle.rules.specs.Verdict.{Verdict, accepted, violated, answerOf}
+use Rattle.rules.specs.Verdict.{Finding, accepted, violated, answerOf}
 use Rattle.rules.specs.Merge.{unequalFrom, chosen, textOf}
 use Rattle.rules.specs.Entries.{
   Tables,
@@ -55,9 +55,9 @@ Says P (Refused r) = P r
 said : (P : Refusal → Type 0) (a : Answer) (r : Refusal) → Says P a → a ≡ Refused r → P r
 said P a r h e = rw e at h
 
-verdict-says : (P : Refusal → Type 0) (file : ℕ) (v : Verdict) → Says P (answerOf file v)
+verdict-says : (P : Refusal → Type 0) (file : ℕ) (v : Finding) → Says P (answerOf file v)
 verdict-says P file accepted = tt
-verdict-says P file (violated k n i m) = tt
+verdict-says P file (violated v) = tt
 
 module _ (P : Refusal → Type 0) (files : AllowsFiles P) (first : Allows P (solutionLine solutionFile)) (S : Stated) (x : Texts) (s : List ℕ) (t : Tables) (c : List ℕ) where
   all-refuse : Refuses P (allRead S x s (roomsOf t) (length c))
@@ -73,16 +73,16 @@ module _ (P : Refusal → Type 0) (files : AllowsFiles P) (first : Allows P (sol
     where
       go : (m : Reading Whole) → Refuses P m → Says P (checkedFrom m t c .answer)
       go m (refuses p) = p
-      go m (reads {a = w}) = verdict-says P solutionFile (verdictOf (w .files) (w .choices))
+      go m (reads {a = w}) = verdict-says P solutionFile (verdictOf (w .files) (w .choices) .finding)
 
   module _ (curves : List ℤ) (room : Allows P roomLine) where
     accepted-says : (fits : Bool) (w : Whole) → Says P (reportAccepted fits (S .horizon) w t c curves .answer)
     accepted-says true w = tt
     accepted-says false w = room .atStart noRoom tt
 
-    judged-says : (v : Verdict) (w : Whole) → Says P (reportJudged v (S .horizon) w t c curves .answer)
+    judged-says : (v : Finding) (w : Whole) → Says P (reportJudged v (S .horizon) w t c curves .answer)
     judged-says accepted w = accepted-says (leb (w .files .document .opened * S .horizon) (length curves)) w
-    judged-says (violated k n i m) w = tt
+    judged-says (violated v) w = tt
 
     report-says : Says P (reported S x s t c curves .answer)
     unfolding reported
@@ -90,7 +90,7 @@ module _ (P : Refusal → Type 0) (files : AllowsFiles P) (first : Allows P (sol
       where
         go : (m : Reading Whole) → Refuses P m → Says P (reportFrom m (S .horizon) t c curves .answer)
         go m (refuses p) = p
-        go m (reads {a = w}) = judged-says (verdictOf (w .files) (w .choices)) w
+        go m (reads {a = w}) = judged-says (verdictOf (w .files) (w .choices) .finding) w
 
   module _ (s₂ d text : List ℕ) (second : Allows P (solutionLine secondFile)) (travel : Allows P travelLine) (room : Allows P roomLine) (merge : List Configuration → List Configuration → List Configuration) where
     both-refuse : Refuses P (bothRead S x s s₂ (roomsOf t) (length c) (length d))
@@ -111,13 +111,13 @@ module _ (P : Refusal → Type 0) (files : AllowsFiles P) (first : Allows P (sol
         fitted-says (leb (length written) (length text) && leb (length written) mostText) written b
     travel-says (some row) b = travel .atPlace unequalTravel (placeOfRow s₂ row) tt
 
-    second-says : (v : Verdict) (b : Both) → Says P (mergeSecond t c d text s₂ merge v b .answer)
+    second-says : (v : Finding) (b : Both) → Says P (mergeSecond t c d text s₂ merge v b .answer)
     second-says accepted b = travel-says (unequalFrom 0 (b .first) (b .second)) b
-    second-says (violated k n i m) b = tt
+    second-says (violated v) b = tt
 
-    first-says : (v : Verdict) (b : Both) → Says P (mergeFirst t c d text s₂ merge v b .answer)
-    first-says accepted b = second-says (verdictOf (b .files) (b .second)) b
-    first-says (violated k n i m) b = tt
+    first-says : (v : Finding) (b : Both) → Says P (mergeFirst t c d text s₂ merge v b .answer)
+    first-says accepted b = second-says (verdictOf (b .files) (b .second) .finding) b
+    first-says (violated v) b = tt
 
     merge-says : Says P (merged merge S x s s₂ t c d text .answer)
     unfolding merged
@@ -125,7 +125,7 @@ module _ (P : Refusal → Type 0) (files : AllowsFiles P) (first : Allows P (sol
       where
         go : (m : Reading Both) → Refuses P m → Says P (mergeFrom t c d text s₂ merge m .answer)
         go m (refuses p) = p
-        go m (reads {a = b}) = first-says (verdictOf (b .files) (b .first)) b
+        go m (reads {a = b}) = first-says (verdictOf (b .files) (b .first) .finding) b
 
 -- ---- a table allows every refusal of its lines
 

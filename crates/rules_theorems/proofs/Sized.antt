@@ -14,7 +14,7 @@ use Rattle.rules.specs.Timetable.{Row}
 use Rattle.rules.specs.Profiles.{Curve}
 use Rattle.rules.specs.Constraints.{subnetOf, ordered}
 use Rattle.rules.specs.Reading.{Rooms, Texts, Files, legIds}
-use Rattle.rules.specs.Verdict.{All, offered, Offered, Verdict, accepted, violated}
+use Rattle.rules.specs.Verdict.{All, offered, Offered, Finding, accepted, violated}
 use Rattle.rules.specs.Energy.{samplesIn, homesOf, power, beforeAt, drawnAt, figuresOf, curvesOf}
 use Rattle.rules.specs.Entries.{Tables, roomsOf, verdictOf, Whole, allRead, noFigures, reportAccepted, reportJudged, reportFrom, reported}
 use Rattle.rules.specs.declared.stated.Stated.{Stated}
@@ -98,7 +98,7 @@ module _ (S : Stated) (x : Texts) (room : Rooms) (f : Files) (g : GoodFiles ByAu
 
 -- an accepted solution: an H in range; few legs, each with its samples; runs that end by H; and a subnet for each leg
 pub accepted-sized : (S : Stated) (x : Texts) (s : List ℕ) (room : Rooms) (choices : ℕ) (w : Whole) → allRead S x s room choices ≡ good w
-    → verdictOf (w .files) (w .choices) ≡ accepted → SizedFiles (S .horizon) (w .files) (w .choices)
+    → verdictOf (w .files) (w .choices) .finding ≡ accepted → SizedFiles (S .horizon) (w .files) (w .choices)
 accepted-sized S x s room choices w e v =
     offered-sized S x room (w .files) (files-good S x room (w .files) (all-good S x s room choices w e .0)) (w .choices)
     (verdict-accepted (offered (w .files .rows)) (ordered (w .files .document .constraints)) (w .choices) .1 v .offered)
@@ -141,7 +141,7 @@ sized-figures H f cs k =
 
 -- of an accepted solution: every energy is at most 2,359,296,000,000 kJ, and every power at most 655,360,000 kW
 pub figures-bounded : (S : Stated) (x : Texts) (s : List ℕ) (room : Rooms) (choices : ℕ) (w : Whole) → allRead S x s room choices ≡ good w
-    → verdictOf (w .files) (w .choices) ≡ accepted → BoundedFigures (S .horizon) (w .files) (w .choices)
+    → verdictOf (w .files) (w .choices) .finding ≡ accepted → BoundedFigures (S .horizon) (w .files) (w .choices)
 figures-bounded S x s room choices w e v = sized-figures (S .horizon) (w .files) (w .choices) (accepted-sized S x s room choices w e v)
 
 none-moderate : Moderate noFigures
@@ -157,10 +157,10 @@ report-bounded S x s t c p = go (allRead S x s (roomsOf t) (length c)) refl
     fitted w true b = b .figures
     fitted w false b = none-moderate
 
-    judged : (w : Whole) (v : Verdict) → (v ≡ accepted → BoundedFigures (S .horizon) (w .files) (w .choices)) → Moderate (reportJudged v (S .horizon) w t c p .figures)
+    judged : (w : Whole) (v : Finding) → (v ≡ accepted → BoundedFigures (S .horizon) (w .files) (w .choices)) → Moderate (reportJudged v (S .horizon) w t c p .figures)
     judged w accepted b = fitted w (leb (w .files .document .opened * S .horizon) (length p)) (b refl)
-    judged w (violated k n i m) b = none-moderate
+    judged w (violated v) b = none-moderate
 
     go : (m : Reading Whole) → allRead S x s (roomsOf t) (length c) ≡ m → Moderate (reportFrom m (S .horizon) t c p .figures)
     go (refused r) e = none-moderate
-    go (good w) e = judged w (verdictOf (w .files) (w .choices)) (figures-bounded S x s (roomsOf t) (length c) w e)
+    go (good w) e = judged w (verdictOf (w .files) (w .choices) .finding) (figures-bounded S x s (roomsOf t) (length c) w e)

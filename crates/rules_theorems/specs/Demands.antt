@@ -7,12 +7,12 @@ use lib.ListN.{length, take}
 use lib.IntN.{ℤ, _+ℤ_}
 use Rattle.rules.specs.Limits.{configurationWidth, unsignedFill, signedFill, byteFill}
 use Rattle.rules.specs.Lists.{flat}
-use Rattle.rules.specs.Answers.{good}
+use Rattle.rules.specs.Answers.{good, solutionFile}
 use Rattle.rules.specs.Timetable.{legsOf, configurationsOf, legNumbers, configurationNumbers}
 use Rattle.rules.specs.Profiles.{profilesFrom, profileNumbers, sampleTable}
 use Rattle.rules.specs.Constraints.{ordered, constraintNumbers, trackNumbers}
 use Rattle.rules.specs.Reading.{Texts, Files, choicesRead}
-use Rattle.rules.specs.Verdict.{All, offered, Offered, Acceptable}
+use Rattle.rules.specs.Verdict.{All, offered, Offered, Acceptable, Test, tests, shownIn}
 use Rattle.rules.specs.Energy.{samplesIn, homesOf, power, curvesOf}
 use Rattle.rules.specs.Merge.{zipped, earlier, later, SameTravel, chosen, textOf}
 use Rattle.rules.specs.Entries.{Tables, roomsOf, filled, filledTables, noFigures, Whole, allRead, Checked, checked, Reported, Merged, merged}
@@ -22,7 +22,7 @@ use Rattle.rules.specs.declared.answers.Refusal.{Refusal}
 use Rattle.rules.specs.declared.answers.Violation.{Violation}
 use Rattle.rules.specs.declared.answers.Answer.{Answer}
 use Rattle.rules.specs.declared.answers.Answer.the-variants.{Accepted, Violated, Refused}
-use Rattle.rules_theorems.specs.Tests.{tests, FirstFailing, Numbered}
+use Rattle.rules_theorems.specs.Tests.{FirstFailing, Numbered}
 use Rattle.rules_theorems.specs.Outcomes.{Outcome}
 
 -- ---- DEMAND 1: "Any bytes in any of the files end in one of three answers", "after a refusal each lent table holds only a number that no field can have"
@@ -88,7 +88,7 @@ pub record DemandTwo (H : ℕ) (a : Answer) (w : Whole) : Type 0 where
   pub accepted-in-order : (a ≡ Accepted) ↔ Acceptable (offered (w .files .rows)) (ordered (w .files .document .constraints)) (w .choices)
   -- otherwise the first failure in the fixed order is named
   pub violated : (v : Violation) → a ≡ Violated v
-      → FirstFailing (tests (offered (w .files .rows)) (ordered (w .files .document .constraints)) (w .choices)) (v .kind) (v .position) (v .inequality) (v .shortfall)
+      → (x : Test) × FirstFailing (tests (offered (w .files .rows)) (ordered (w .files .document .constraints)) (w .choices)) x × (v ≡ shownIn solutionFile x)
   -- with its shortfall in seconds, at least 1
   pub numbered : (v : Violation) → a ≡ Violated v → Numbered (v .kind) (v .inequality) (v .shortfall)
   -- and nothing is refused

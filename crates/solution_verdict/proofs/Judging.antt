@@ -5,9 +5,9 @@ use mathlib.Core.List.{List}
 use lib.ListN.{length}
 use Rattle.rules.specs.Answers.{good}
 use Rattle.rules.specs.Reading.{choicesRead}
-use Rattle.rules.specs.Verdict.{verdict, answerOf}
+use Rattle.rules.specs.Verdict.{verdict, ruling}
 use Rattle.rules.specs.Entries.{Tables, roomsOf, writtenTables, verdictOf}
-use Rattle.rules.specs.declared.answers.Answer.{Answer}
+use Rattle.rules.specs.declared.answers.Ruling.{Ruling}
 use Rattle.tables_views.specs.View.{offersIn, constraintsIn, configurationsIn}
 use Rattle.verdict.specs.Within.{Within}
 use Rattle.verdict.proofs.GoodReading.{tables-within, tables-judged}
@@ -40,14 +40,14 @@ module _ {counts : Counts} {legs configurations constraints choices : List ℕ} 
       (subst (λ t. Within (constraintsIn m (written .constraints)) (configurationsIn n t)) (sym (k .choices-are))
       (tables-within (l .stated) (l .texts) (roomsOf (l .lent)) (l .files) (l .read) (k .file) (k .room) (k .text) (k .chosen) chosen-read (l .lent) (k .lent) n m rows records))
 
-  judged : (file : ℕ) → answerOf file (verdict (offersIn n legs configurations) (constraintsIn m constraints) (configurationsIn n choices))
-      ≡ answerOf file (verdictOf (k .tables .left .files) (k .chosen))
+  judged : (file : ℕ) → ruling file (verdict (offersIn n legs configurations) (constraintsIn m constraints) (configurationsIn n choices))
+      ≡ ruling file (verdictOf (k .tables .left .files) (k .chosen))
   judged file =
       let l = k .tables .left in
-      (λ j. answerOf file (verdict (offersIn n (k .tables .legs-are j) (k .tables .configurations-are j)) (constraintsIn m (k .tables .constraints-are j)) (configurationsIn n (k .choices-are j))))
+      (λ j. ruling file (verdict (offersIn n (k .tables .legs-are j) (k .tables .configurations-are j)) (constraintsIn m (k .tables .constraints-are j)) (configurationsIn n (k .choices-are j))))
       ∙ tables-judged (l .stated) (l .texts) (roomsOf (l .lent)) (l .files) (l .read) (k .file) (k .room) (k .text) (k .chosen) chosen-read (l .lent) (k .lent) n m rows records file
 
-pub judge-right : {counts : Counts} {legs configurations constraints choices : List ℕ} (file : ℕ) {answer : Answer}
-    → answer ≡ answerOf file (verdict (offersIn (counts .legs) legs configurations) (constraintsIn (counts .constraints) constraints) (configurationsIn (counts .legs) choices))
-    → Judges counts legs configurations constraints choices file answer
-judge-right file e k = e ∙ judged k file
+pub judge-right : {counts : Counts} {legs configurations constraints choices : List ℕ} (file : ℕ) {r : Ruling}
+    → r ≡ ruling file (verdict (offersIn (counts .legs) legs configurations) (constraintsIn (counts .constraints) constraints) (configurationsIn (counts .legs) choices))
+    → Judges counts legs configurations constraints choices file (r .answer)
+judge-right file e k = ap (λ (r : Ruling). r .answer) (e ∙ judged k file)

@@ -63,4 +63,4 @@ pub record Ready (counts : Counts) (legs configurations constraints choices : Li
 
 abbrev pub Judges : Counts → (legs configurations constraints choices : List ℕ) → (file : ℕ) → Answer → Type 0
 Judges counts legs configurations constraints choices file answer =
-    (k : Ready counts legs configurations constraints choices) → answer ≡ answerOf file (verdictOf (k .tables .left .files) (k .chosen))
+    (k : Ready counts legs configurations constraints choices) → answer ≡ answerOf file (verdictOf (k .tables .left .files) (k .chosen) .finding)

@@ -44,5 +44,6 @@ pub fn judge_choices(
 {
     let n = counts.legs;
     let m = counts.constraints;
-    verdict::judge(legs, n, configurations, constraints, m, choices, file)
+    let ruling = verdict::judge(legs, n, configurations, constraints, m, choices, file);
+    ruling.answer
 }

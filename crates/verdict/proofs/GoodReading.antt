@@ -10,7 +10,7 @@ use Rattle.rules.specs.Timetable.{Row, choicesOf}
 use Rattle.rules.specs.Constraints.{ordered}
 use Rattle.rules.specs.Stated.{rulesBy}
 use Rattle.rules.specs.Reading.{Rooms, Texts, Files, legIds, filesOf, choicesRead}
-use Rattle.rules.specs.Verdict.{All, verdict, answerOf}
+use Rattle.rules.specs.Verdict.{All, verdict, ruling}
 use Rattle.rules.specs.Entries.{Tables, writtenTables, writtenChoices, verdictOf}
 use Rattle.rules.specs.declared.stated.Stated.{Stated}
 use Rattle.rules.specs.declared.sizes.Configuration.{Configuration}
@@ -81,8 +81,8 @@ module _ (S : Stated) (x : Texts) (room : Rooms) (files : Files) (read : filesOf
       pub tables-within : Within (constraintsIn m (writtenTables files t .constraints)) (configurationsIn n (writtenChoices s c))
       tables-within = within-written files s t c n m rows (choices-many ∙ rows) records-many choices-within
 
-      -- what it answers is the answer of the entries' definition
+      -- what it rules is the verdict of the entries' definition
       pub tables-judged : (named : ℕ)
-          → answerOf named (verdict (offersIn n (writtenTables files t .legs) (writtenTables files t .configurations)) (constraintsIn m (writtenTables files t .constraints)) (configurationsIn n (writtenChoices s c)))
-          ≡ answerOf named (verdictOf files s)
+          → ruling named (verdict (offersIn n (writtenTables files t .legs) (writtenTables files t .configurations)) (constraintsIn m (writtenTables files t .constraints)) (configurationsIn n (writtenChoices s c)))
+          ≡ ruling named (verdictOf files s)
       tables-judged = verdict-written files s t c n m rows (choices-many ∙ rows) records-many

@@ -86,11 +86,11 @@ module _ (row : Kind) (c : Constraint) (one two : Configuration) where
   abbrev of : ℕ → Finding
   of n = findingOf (take n (p ∷ q ∷ []))
 
-  pub found-none : row .inequalities < 1 → Kept ≡ found
+  pub found-none : row .inequalities < 1 → Kept 0 ≡ found
   unfolding byAnchors
   found-none = go (row .inequalities)
     where
-      go : (n : ℕ) → n < 1 → Kept ≡ of n
+      go : (n : ℕ) → n < 1 → Kept 0 ≡ of n
       go zero h = refl
       go (suc n) h = absurd (omega arith)
 
@@ -102,16 +102,16 @@ module _ (row : Kind) (c : Constraint) (one two : Configuration) where
         go : (n : ℕ) → 1 ≤ n → Fails 1 s ≡ of n
         go zero l = absurd (omega arith)
         go (suc n) l =
-            ap (Fails 1) es ∙ sym (ap (λ b. cond b (findingFrom 2 (take n (q ∷ []))) (Fails 1 (shortfallOf p))) (fails p s es h))
+            ap (Fails 1) es ∙ sym (ap (λ b. cond b (findingFrom 1 (take n (q ∷ []))) (Fails 1 (shortfallOf p))) (fails p s es h))
 
-    passed : (n : ℕ) → s ≤ 0 → findingFrom 2 (take n (q ∷ [])) ≡ of (suc n)
-    passed n h = sym (ap (λ b. cond b (findingFrom 2 (take n (q ∷ []))) (Fails 1 (shortfallOf p))) (holds p s es h))
+    passed : (n : ℕ) → s ≤ 0 → findingFrom 1 (take n (q ∷ [])) ≡ of (suc n)
+    passed n h = sym (ap (λ b. cond b (findingFrom 1 (take n (q ∷ []))) (Fails 1 (shortfallOf p))) (holds p s es h))
 
-    pub found-one : 1 ≤ row .inequalities → row .inequalities < 2 → s ≤ 0 → Kept ≡ found
+    pub found-one : 1 ≤ row .inequalities → row .inequalities < 2 → s ≤ 0 → Kept 1 ≡ found
     unfolding byAnchors
     found-one l m h = go (row .inequalities) l m
       where
-        go : (n : ℕ) → 1 ≤ n → n < 2 → Kept ≡ of n
+        go : (n : ℕ) → 1 ≤ n → n < 2 → Kept 1 ≡ of n
         go zero l m = absurd (omega arith)
         go (suc zero) l m = passed 0 h
         go (suc (suc n)) l m = absurd (omega arith)
@@ -126,17 +126,17 @@ module _ (row : Kind) (c : Constraint) (one two : Configuration) where
           go (suc zero) l = absurd (omega arith)
           go (suc (suc n)) l =
               ap (Fails 2) er
-              ∙ sym (ap (λ b. cond b (findingFrom 3 (take n [])) (Fails 2 (shortfallOf q))) (fails q r er k))
+              ∙ sym (ap (λ b. cond b (findingFrom 2 (take n [])) (Fails 2 (shortfallOf q))) (fails q r er k))
               ∙ passed (suc n) h
 
-      pub found-both : 2 ≤ row .inequalities → s ≤ 0 → r ≤ 0 → Kept ≡ found
+      pub found-both : 2 ≤ row .inequalities → s ≤ 0 → r ≤ 0 → Kept 2 ≡ found
       unfolding byAnchors
       found-both l h k = go (row .inequalities) l
         where
-          go : (n : ℕ) → 2 ≤ n → Kept ≡ of n
+          go : (n : ℕ) → 2 ≤ n → Kept 2 ≡ of n
           go zero l = absurd (omega arith)
           go (suc zero) l = absurd (omega arith)
           go (suc (suc n)) l =
-              sym (ap (findingFrom 3) (take-nil n))
-              ∙ sym (ap (λ b. cond b (findingFrom 3 (take n [])) (Fails 2 (shortfallOf q))) (holds q r er k))
+              sym (ap (findingFrom 2) (take-nil n))
+              ∙ sym (ap (λ b. cond b (findingFrom 2 (take n [])) (Fails 2 (shortfallOf q))) (holds q r er k))
               ∙ passed (suc n) h

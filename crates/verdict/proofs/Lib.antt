@@ -1,3 +1,4 @@
+pub mod Tallies
 pub mod RowSteps
 pub mod Times
 pub mod Inequalities

@@ -6,15 +6,16 @@ use mathlib.Core.Bool.{Bool, true, false, not, cond, _||_}
 use mathlib.Core.List.{List}
 use lib.ListN.{drop}
 use borrow.Author.Tests.{not-true, not-false}
-use Rattle.rules.specs.Answers.{violation}
+use Rattle.rules.specs.Tally.{counted}
 use Rattle.rules.specs.Energy.{tabulate}
 use Rattle.rules.specs.Kinds.{notOffered}
 use Rattle.rules.specs.Timetable.{same, offers}
-use Rattle.rules.specs.Verdict.{Verdict, accepted, violated, andThen, rowsFrom, answerOf}
+use Rattle.rules.specs.Verdict.{rowTest, rowTests, violated, Verdict, found, verdictFrom, answerOf, ruling}
 use Rattle.rules.specs.declared.sizes.Configuration.{Configuration}
 use Rattle.rules.specs.declared.sizes.Leg.{Leg}
-use Rattle.rules.specs.declared.answers.Violation.{Violation}
-use Rattle.rules.specs.declared.answers.Answer.the-variants.{Accepted, Violated}
+use Rattle.rules.specs.declared.answers.Tally.{Tally}
+use Rattle.rules.specs.declared.answers.Answer.{Answer}
+use Rattle.rules.specs.declared.answers.Answer.the-variants.{Accepted}
 use Rattle.tables_views.specs.View.{legAt, configurationAt, partOf, listIn, offersIn, configurationsIn}
 use Rattle.tables_views.proofs.Tabulated.{tabulate-from, tabulate-past}
 
@@ -47,36 +48,42 @@ module _ (table : List ℕ) (first count : ℕ) (choice : Configuration) where
       pub offer-differs : b ≡ false → all ≡ offersLeft (j + 1)
       offer-differs e = next-offer ∙ ap (λ a. a || offersLeft (suc j)) e ∙ ap offersLeft (sym (add-one j))
 
--- ---- n rows: what is left of them from row i on
+-- l and c are the leg and the choice that were read
+pub offered-row : (legs configurations choices : List ℕ) (i : ℕ) (l : Leg) → l ≡ legAt legs i → (c : Configuration) → c ≡ configurationAt choices i
+    → (b : Bool) → b ≡ offers (partOf (configurationAt configurations) l) c → b ≡ offers (listIn legs configurations i) (configurationAt choices i)
+offered-row legs configurations choices i l el c ec b eb = eb ∙ ap₂ (λ (k : Leg) (d : Configuration). offers (partOf (configurationAt configurations) k) d) el ec
+
+-- ---- n rows: what is left of them from row i on, after the tests that a tally counts
 
 module _ (n : ℕ) (legs configurations choices : List ℕ) where
-  abbrev pub rowsLeft : ℕ → Verdict
-  rowsLeft i = rowsFrom i (drop i (offersIn n legs configurations)) (drop i (configurationsIn n choices))
+  abbrev pub rowsLeft : Tally → ℕ → Verdict
+  rowsLeft t i = verdictFrom t (rowTests i (drop i (offersIn n legs configurations)) (drop i (configurationsIn n choices)))
 
   -- v is the verdict of all rows
-  module _ (v : Verdict) (i : ℕ) (left : v ≡ rowsLeft i) where
-    pub rows-passed : (file : ℕ) → n ≤ i → Accepted ≡ answerOf file v
-    rows-passed file h =
-        sym
-        (ap (answerOf file)
-        (left ∙ ap₂ (rowsFrom i) (tabulate-past n (listIn legs configurations) i h) (tabulate-past n (configurationAt choices) i h)))
+  module _ (v : Verdict) (t : Tally) (i : ℕ) (left : v ≡ rowsLeft t i) where
+    pub rows-passed : (file : ℕ) (a : Answer) → a ≡ Accepted → n ≤ i → record { answer = a; tally = t } ≡ ruling file v
+    rows-passed file a ea h =
+        ap (λ (x : Answer). record { answer = x; tally = t }) ea
+        ∙ sym
+        (ap (ruling file)
+        (left ∙ ap₂ (λ os cs. verdictFrom t (rowTests i os cs)) (tabulate-past n (listIn legs configurations) i h) (tabulate-past n (configurationAt choices) i h)))
 
-    -- l and c are the leg and the choice that were read, b whether the leg's list offers the choice
-    module _ (h : i < n) (l : Leg) (el : l ≡ legAt legs i) (c : Configuration) (ec : c ≡ configurationAt choices i)
-        (b : Bool) (eb : b ≡ offers (partOf (configurationAt configurations) l) c) where
+    -- b is whether the row's list offers its choice, u the tally with it
+    module _ (h : i < n) (b : Bool) (eb : b ≡ offers (listIn legs configurations i) (configurationAt choices i)) (u : Tally) (eu : u ≡ counted notOffered 1 t) where
       abbrev after : Bool → Verdict
-      after a = andThen (cond a accepted (violated notOffered i 0 0)) (rowsLeft (suc i))
+      after a = cond a (rowsLeft (counted notOffered 1 t) (suc i)) (found (violated (rowTest i a)) (counted notOffered 1 t))
 
       next-row : v ≡ after b
       next-row =
           left
-          ∙ ap₂ (rowsFrom i) (tabulate-from n (listIn legs configurations) i h) (tabulate-from n (configurationAt choices) i h)
-          ∙ ap₂ (λ (k : Leg) (d : Configuration). after (offers (partOf (configurationAt configurations) k) d)) (sym el) (sym ec)
+          ∙ ap₂ (λ os cs. verdictFrom t (rowTests i os cs)) (tabulate-from n (listIn legs configurations) i h) (tabulate-from n (configurationAt choices) i h)
           ∙ ap after (sym eb)
 
-      pub row-passes : not b ≡ false → v ≡ rowsLeft (i + 1)
-      row-passes e = next-row ∙ ap after (not-false b e) ∙ ap rowsLeft (sym (add-one i))
+      pub row-passes : not b ≡ false → v ≡ rowsLeft u (i + 1)
+      row-passes e = next-row ∙ ap after (not-false b e) ∙ ap₂ rowsLeft (sym eu) (sym (add-one i))
 
       -- r is the violation that was made of it
-      pub row-fails : not b ≡ true → (file : ℕ) (r : Violation) → r ≡ violation notOffered i 0 0 file → Violated r ≡ answerOf file v
-      row-fails e file r er = ap Violated er ∙ sym (ap (answerOf file) (next-row ∙ ap after (not-true b e)))
+      pub row-fails : not b ≡ true → (file : ℕ) (r : Answer) → r ≡ answerOf file (violated (rowTest i false))
+          → record { answer = r; tally = u } ≡ ruling file v
+      row-fails e file r er =
+          ap₂ (λ (x : Answer) (y : Tally). record { answer = x; tally = y }) er eu ∙ sym (ap (ruling file) (next-row ∙ ap after (not-true b e)))

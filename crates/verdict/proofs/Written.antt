@@ -5,7 +5,7 @@ use mathlib.Core.List.{List}
 use lib.ListN.{length}
 use Rattle.rules.specs.Constraints.{ordered}
 use Rattle.rules.specs.Reading.{Files}
-use Rattle.rules.specs.Verdict.{offered, verdict, answerOf}
+use Rattle.rules.specs.Verdict.{offered, verdict, ruling}
 use Rattle.rules.specs.Entries.{Tables, writtenTables, writtenChoices, verdictOf}
 use Rattle.rules.specs.declared.sizes.Configuration.{Configuration}
 use Rattle.tables_views.specs.View.{offersIn, constraintsIn, configurationsIn}
@@ -27,15 +27,15 @@ module _ (files : Files) (choices : List Configuration) (t : Tables) (c : List �
   choices-seen : configurationsIn n (writtenChoices choices c) ≡ choices
   choices-seen = subst (λ k. configurationsIn k (writtenChoices choices c) ≡ choices) chosen (configurations-written choices c)
 
-  -- THE JOIN: what `judge` answers over these tables is the answer of the entries' definition
+  -- THE JOIN: what `judge` rules over these tables is the verdict of the entries' definition
   pub verdict-written : (file : ℕ)
-      → answerOf file (verdict (offersIn n (w .legs) (w .configurations)) (constraintsIn m (w .constraints)) (configurationsIn n (writtenChoices choices c)))
-      ≡ answerOf file (verdictOf files choices)
+      → ruling file (verdict (offersIn n (w .legs) (w .configurations)) (constraintsIn m (w .constraints)) (configurationsIn n (writtenChoices choices c)))
+      ≡ ruling file (verdictOf files choices)
   verdict-written file =
-      ap (λ k. answerOf file (verdict (offersIn k (w .legs) (w .configurations)) (constraintsIn m (w .constraints)) (configurationsIn n (writtenChoices choices c)))) (sym rows)
-      ∙ ap (λ o. answerOf file (verdict o (constraintsIn m (w .constraints)) (configurationsIn n (writtenChoices choices c))))
+      ap (λ k. ruling file (verdict (offersIn k (w .legs) (w .configurations)) (constraintsIn m (w .constraints)) (configurationsIn n (writtenChoices choices c)))) (sym rows)
+      ∙ ap (λ o. ruling file (verdict o (constraintsIn m (w .constraints)) (configurationsIn n (writtenChoices choices c))))
       (offers-written (files .rows) (t .legs) (t .configurations))
-      ∙ ap₂ (λ cs s. answerOf file (verdict (offered (files .rows)) cs s)) records-seen choices-seen
+      ∙ ap₂ (λ cs s. ruling file (verdict (offered (files .rows)) cs s)) records-seen choices-seen
 
   -- the tables keep the limits where the lists do
   pub within-written : Within (ordered (files .document .constraints)) choices

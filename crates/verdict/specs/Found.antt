@@ -1,4 +1,4 @@
--- The first inequality of a record that fails, as the code has it: which, and by how much.
+-- The inequalities of a record up to the first that fails, as the code has them: how many hold, or which one fails and by how much.
 use Prim.Native.Nat.{ℕ, suc, _-_}
 use mathlib.Core.Bool.{cond}
 use mathlib.Core.List.{List, [], _∷_}
@@ -11,10 +11,15 @@ use Rattle.verdict.specs.declared.records.Finding.the-variants.{Kept, Fa
 abbrev pub shortfallOf : Inequality → ℕ
 shortfallOf q = q .left - q .right
 
--- from inequality i on
+-- after i inequalities that hold
 abbrev pub findingFrom : ℕ → List Inequality → Finding
-findingFrom i [] = Kept
-findingFrom i (q ∷ qs) = cond (leb (q .left) (q .right)) (findingFrom (suc i) qs) (Fails i (shortfallOf q))
+findingFrom i [] = Kept i
+findingFrom i (q ∷ qs) = cond (leb (q .left) (q .right)) (findingFrom (suc i) qs) (Fails (suc i) (shortfallOf q))
 
 abbrev pub findingOf : List Inequality → Finding
-findingOf = findingFrom 1
+findingOf = findingFrom 0
+
+-- how many were tested
+abbrev pub testsIn : Finding → ℕ
+testsIn (Kept i) = i
+testsIn (Fails i m) = i

@@ -1,13 +1,17 @@
 // Then the constraint table in order: the check stops at the first inequality that fails.
+ghost use mathlib.Core.Bool.{false};
 ghost use mathlib.Core.Path.{_≡_};
 ghost use Prim.Native.Nat.{_-_};
+ghost use Rattle.rules.specs.Limits.{mostLegs};
 ghost use Rattle.rules.specs.Kinds.{anchored, measured, byAnchor, byAnchors, notOffered};
-ghost use Rattle.rules.specs.Verdict.{choiceAt, inequalities, positionAfter, recordsFrom, answerOf};
+ghost use Rattle.rules.specs.Verdict.{choiceAt, inequalities, test, positionAfter, recordTests, verdictFrom, answerOf, ruling};
 ghost use Rattle.rules.specs.Verdict.{violated as found};
 ghost use Rattle.tables_views.specs.View.{constraintsIn, configurationsIn};
-ghost use Rattle.verdict.specs.Found.{shortfallOf, findingOf};
-ghost use Rattle.verdict.specs.Within.{Within, Failed};
+ghost use Rattle.verdict.specs.Found.{shortfallOf, findingOf, testsIn};
+ghost use Rattle.verdict.specs.Within.{Within, Fair, Failed};
 use rules::answers::Answer;
+use rules::answers::Ruling;
+use rules::answers::Tally;
 use rules::answers::Violation;
 use rules::kinds::Anchor;
 use rules::kinds::Key;
@@ -16,9 +20,9 @@ use rules::kinds::Time;
 use rules::sizes::Configuration;
 use rules::sizes::Constraint;
 
-// The first inequality of a record that fails, with its shortfall.
+// The inequalities of a record that were tested: all of them hold, or the last fails, with its shortfall.
 pub enum Finding {
-    Kept,
+    Kept(u8),
     Fails(u8, u64),
 }
 
@@ -103,20 +107,20 @@ pub fn first_failing(row: Kind, c: Constraint, one: Configuration, two: Configur
     let count = row.inequalities;
     let anchors = row.anchors;
     if count < 1 {
-        return Finding::Kept;
+        return Finding::Kept(0);
     }
     let short = shortfall(keys, anchors[0], anchors[1], c, one, two);
     if 0 < short {
         return Finding::Fails(1, short);
     }
     if count < 2 {
-        return Finding::Kept;
+        return Finding::Kept(1);
     }
     let second = shortfall(keys, anchors[2], anchors[3], c, one, two);
     if 0 < second {
         return Finding::Fails(2, second);
     }
-    Finding::Kept
+    Finding::Kept(2)
 }
 
 // The choice of a row; 0 everywhere where there is no such row.
@@ -154,6 +158,16 @@ pub fn judge_record(c: Constraint, choices: &[u32], n: usize) -> Finding
     first_failing(row, c, one, two)
 }
 
+// How many inequalities were tested.
+pub fn tests_of(finding: Finding) -> u32
+    ensures { λ r. ⌜ r ≡ testsIn finding ⌝ }
+{
+    match finding {
+        Finding::Kept(tests) => tests as u32,
+        Finding::Fails(inequality, _) => inequality as u32,
+    }
+}
+
 // The position within its list of a record that follows `n` records of a kind.
 pub fn position_after(before: u32, n: u32, kind: u32) -> u32
     ensures { λ r. ⌜ r ≡ positionAfter before n kind ⌝ }
@@ -164,33 +178,44 @@ pub fn position_after(before: u32, n: u32, kind: u32) -> u32
 // The answer that names a failing inequality.
 pub fn violated(kind: u32, position: u32, inequality: u8, short: u64, file: u8) -> Answer
     requires { ⌜ Failed kind short ⌝ }
-    ensures { λ r. ⌜ r ≡ answerOf file (found kind position inequality short) ⌝ }
+    ensures { λ r. ⌜ r ≡ answerOf file (found (test kind position inequality short false)) ⌝ }
 {
     Answer::Violated(Violation::new(kind as u8, position, inequality, short as u32, file))
 }
 
-// All records in order.
-pub fn judge_records(constraints: &[u32], m: usize, choices: &[u32], n: usize, file: u8) -> Answer
-    requires { ⌜ Within (constraintsIn m (now constraints)) (configurationsIn n (now choices)) ⌝ }
-    ensures { λ r. ⌜ r ≡ answerOf file (recordsFrom notOffered 0 (configurationsIn n (now (choices .entry))) (constraintsIn m (now (constraints .entry)))) ⌝ }
+// All records in order, after the tests that are counted already.
+pub fn judge_records(
+    constraints: &[u32],
+    m: usize,
+    choices: &[u32],
+    n: usize,
+    file: u8,
+    counted: Tally,
+) -> Ruling
+    requires { ⌜ Within (constraintsIn m (now constraints)) (configurationsIn n (now choices)) × Fair mostLegs counted ⌝ }
+    ensures { λ r. ⌜ r ≡ ruling file (verdictFrom counted (recordTests notOffered 0 (configurationsIn n (now (choices .entry))) (constraintsIn m (now (constraints .entry))))) ⌝ }
 {
+    let mut tally = counted;
     let mut before: u32 = Kind::NOT_OFFERED as u32;
     let mut next: u32 = 0;
     let mut i: usize = 0;
-    let answer = loop {
+    let ruling = loop {
         if m <= i {
-            break Answer::Accepted;
+            let answer = Answer::Accepted;
+            break Ruling { answer, tally };
         }
         let c = tables_views::constraint_at(constraints, i);
         let kind = c.kind;
         let position = position_after(before, next, kind);
         let finding = judge_record(c, choices, n);
+        tally = tally.with(kind as usize, tests_of(finding));
         if let Finding::Fails(inequality, short) = finding {
-            break violated(kind, position, inequality, short, file);
+            let answer = violated(kind, position, inequality, short, file);
+            break Ruling { answer, tally };
         }
         before = kind;
         next = position + 1;
         i += 1;
     };
-    answer
+    ruling
 }

@@ -1,0 +1,5 @@
+pub mod Returns
+pub mod Viewing
+pub mod Standing
+pub mod Holding
+pub mod Passing

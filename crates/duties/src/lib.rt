@@ -1,0 +1,5 @@
+// Rolling stock duties: the rows one after the other.
+pub mod lines; // a line less its CR
+pub mod steps; // a row after the rows before it
+pub mod places; // a row's names put among the nodes
+pub mod pass; // the first pass: rows and nodes

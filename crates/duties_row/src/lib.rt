@@ -1,0 +1,4 @@
+// A duty's row: its form, its numbers, its faults by number.
+pub mod numbers; // whole numbers
+pub mod forms; // names, course, type
+pub mod faults; // the lowest fault

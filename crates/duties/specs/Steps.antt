@@ -5,11 +5,12 @@ use mathlib.Core.List.{List, []}
 use lib.ListN.{length, drop}
 use Rattle.rules.specs.Limits.{nodeWidth, mostText}
 use Rattle.rules.specs.Answers.{Reading, good, refused, refusal}
-use Rattle.rules.specs.Bytes.{lineFeed, splitOn}
-use Rattle.rules.specs.Rows.{rowsFrom}
+use Rattle.rules.specs.Lists.{over}
+use Rattle.rules.specs.Bytes.{lineFeed, splitOn, startOf}
+use Rattle.rules.specs.Rows.{rowsFrom, placeOfRow}
 use Rattle.rules.specs.Limits.{mostEvents}
 use Rattle.rules.specs.Answers.{dutiesFile}
-use Rattle.rules.specs.Duties.{Event, placeIn, nodesOf, rowOf, fromColumn, toColumn}
+use Rattle.rules.specs.Duties.{Event, placeIn, nodesOf, placesFrom, rowOf, fromColumn, toColumn}
 use Rattle.duties.specs.declared.pass.Pass.{Pass}
 use Rattle.duties.specs.declared.pass.Pass.the-variants.{Read, Fault}
 use Rattle.duties_fields.specs.Fields.{contentIn}
@@ -46,12 +47,19 @@ pub record Good (text t : List ℕ) (n place : ℕ) (line : List ℕ) : Type 0 w
 abbrev pub leftAt : (room : ℕ) (text : List ℕ) (place : ℕ) → List Event → Reading (List Event)
 leftAt room text place before = rowsFrom dutiesFile (rowOf room) place before (splitOn lineFeed (drop place text))
 
--- the rows before a place, and the nodes that the table shows
+-- a row's place by its number: the rows that are left start where the text's rows do
+abbrev pub RowsAt : (text : List ℕ) (rows place : ℕ) → Type 0
+RowsAt text rows place = (j : ℕ) → placeOfRow text (rows + j) ≡ place + startOf j (splitOn lineFeed (drop place text))
+
+-- the rows before a place, and the nodes in the table
 pub record Holding (room : ℕ) (text : List ℕ) (from : ℕ) (t₀ : List ℕ) (place rows n : ℕ) (t : List ℕ) : Type 0 where
   pub before : List Event
   pub left : leftAt room text place before ≡ leftAt room text from []
   pub count : rows ≡ length before
   pub seen : view text t n ≡ nodesOf before
+  pub table : t ≡ over (placesFrom text 0 [] before) t₀
+  pub wide : length (placesFrom text 0 [] before) ≡ n * nodeWidth
+  pub rows-at : RowsAt text rows place
   pub within : place ≤ length text
   pub fits : n ≤ room
   pub few : rows ≤ mostEvents
@@ -60,9 +68,19 @@ pub record Holding (room : ℕ) (text : List ℕ) (from : ℕ) (t₀ : List ℕ)
 pub record Begins (room : ℕ) (text t : List ℕ) (from : ℕ) : Type 0 where
   pub short : length text ≤ mostText
   pub within : from ≤ length text
+  pub rows-at : RowsAt text 0 from
   pub room-fits : room * nodeWidth ≤ length t
 
+-- all rows are read: there are so many, and the table holds their nodes
+pub record AllRead (room : ℕ) (text : List ℕ) (from : ℕ) (t₀ : List ℕ) (es : List Event) (rows n : ℕ) (t : List ℕ) : Type 0 where
+  pub left : leftAt room text from [] ≡ good es
+  pub count : rows ≡ length es
+  pub few : rows ≤ mostEvents
+  pub seen : view text t n ≡ nodesOf es
+  pub table : t ≡ over (placesFrom text 0 [] es) t₀
+  pub fits : n ≤ room
+
 -- the answer of the first pass
-pub data Passes (room : ℕ) (text : List ℕ) (from : ℕ) : Pass → List ℕ → Type 0 where
-  all-read : {rows n : ℕ} {t : List ℕ} {es : List Event} → leftAt room text from [] ≡ good es → rows ≡ length es → view text t n ≡ nodesOf es → Passes room text from (Read rows n) t
-  at-fault : {f place : ℕ} {t : List ℕ} → leftAt room text from [] ≡ refused (refusal f dutiesFile place) → Passes room text from (Fault f place) t
+pub data Passes (room : ℕ) (text : List ℕ) (from : ℕ) (t₀ : List ℕ) : Pass → List ℕ → Type 0 where
+  all-read : {rows n : ℕ} {t : List ℕ} (es : List Event) → AllRead room text from t₀ es rows n t → Passes room text from t₀ (Read rows n) t
+  at-fault : {f place : ℕ} {t : List ℕ} → place ≤ mostText → leftAt room text from [] ≡ refused (refusal f dutiesFile place) → Passes room text from t₀ (Fault f place) t

@@ -31,7 +31,7 @@ pub fn put_both(text: &[u8], table: &mut [u32], n: usize, line: &[u8], place: us
 // The rows from a place on.
 pub fn read_rows(text: &[u8], table: &mut [u32], room: usize, from: usize) -> Pass
     requires { ⌜ Begins room (now text) (now table) from ⌝ }
-    ensures { λ r. ⌜ Passes room (now (text .entry)) from r (now (table .exit)) ⌝ }
+    ensures { λ r. ⌜ Passes room (now (text .entry)) from (now (table .entry)) r (now (table .exit)) ⌝ }
 {
     let mut place = from;
     let mut rows = 0;

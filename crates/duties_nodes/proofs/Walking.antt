@@ -18,14 +18,14 @@ use Rattle.duties_fields.specs.Fields.{partOf}
 use Rattle.duties_nodes.specs.Nodes.{nameAt, namesFrom, view, orCount, placeOf, withBoth, Puts}
 
 module _ (text table : List ℕ) where
-  names-long : (i n : ℕ) → length (namesFrom text table i n) ≡ n
+  pub names-long : (i n : ℕ) → length (namesFrom text table i n) ≡ n
   names-long i zero = refl
   names-long i (suc n) = ap suc (names-long (i + 1) n)
 
   abbrev pub rest : List ℕ → ℕ → ℕ → Option ℕ
   rest name n i = placeFrom i (sameList name) (namesFrom text table i (n - i))
 
-  one-off : (n i : ℕ) → i < n → namesFrom text table i (n - i) ≡ nameAt text table i ∷ namesFrom text table (i + 1) (n - (i + 1))
+  pub one-off : (n i : ℕ) → i < n → namesFrom text table i (n - i) ≡ nameAt text table i ∷ namesFrom text table (i + 1) (n - (i + 1))
   one-off n i h = let e : n - i ≡ suc (n - (i + 1)) = omega arith in rw e
 
   module _ (name : List ℕ) (n i : ℕ) (e : orCount n (rest name n i) ≡ orCount n (rest name n 0)) where

@@ -8,6 +8,8 @@ ghost use Rattle.duties_nodes.specs.Nodes.{nameAt, view, placeOf, withBo
 use duties_fields::names;
 use rules::sizes::Node;
 
+pub mod balances; // the balance of each node
+
 fn wide(x: u32) -> usize
     ensures { λ r. ⌜ r ≡ x ⌝ }
 {

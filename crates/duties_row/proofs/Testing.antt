@@ -110,8 +110,14 @@ module _ (f g : List ℕ) (e : f ≡ g) (r : Bool) where
   pub name-there : r ≡ isName f → r ≡ isName g
   name-there p = p ∙ ap isName e
 
+  pub train-there : r ≡ isTrain f → r ≡ isTrain g
+  train-there p = p ∙ ap isTrain e
+
   pub known-there : r ≡ isKnown f → r ≡ isKnown g
   known-there p = p ∙ ap isKnown e
+
+pub value-there : (f g : List ℕ) → f ≡ g → (r : ℕ) → r ≡ min (valueOf f) pastId → r ≡ min (valueOf g) pastId
+value-there f g e r p = p ∙ ap (λ (x : List ℕ). min (valueOf x) pastId) e
 
 pub course-there : (a b c d : List ℕ) → a ≡ b → c ≡ d → (r : Bool) → r ≡ isCourse a c → r ≡ isCourse b d
 course-there a b c d p q r e = e ∙ ap₂ isCourse p q

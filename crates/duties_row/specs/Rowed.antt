@@ -22,6 +22,10 @@ isWhole s = isSome (wholeOf s)
 abbrev pub valueOf : List ℕ → ℕ
 valueOf s = orZero (wholeOf s)
 
+-- a number as it is read: past every limit it stops
+abbrev pub heldIn : ℕ → List ℕ → ℕ
+heldIn k line = min (valueOf (contentIn k line)) pastId
+
 abbrev pub isNamed : List ℕ → Bool
 isNamed line = isName (contentIn dutyColumn line) && (isName (contentIn fromColumn line) && (isName (contentIn toColumn line) && isCourse (contentIn typeColumn line) (contentIn courseColumn line)))
 

@@ -10,13 +10,13 @@ use rules::sizes::Column;
 use rules::sizes::Event;
 use text_read::words;
 
-pub fn is_train(s: &[u8]) -> bool
+fn is_train(s: &[u8]) -> bool
     ensures { λ r. ⌜ r ≡ isTrain (now (s .entry)) ⌝ }
 {
     words::spells(s, &Event::TRAIN)
 }
 
-pub fn is_known(s: &[u8]) -> bool
+fn is_known(s: &[u8]) -> bool
     ensures { λ r. ⌜ r ≡ isKnown (now (s .entry)) ⌝ }
 {
     if is_train(s) {
@@ -64,6 +64,12 @@ fn is_named(line: &[u8]) -> bool
         }
     }
     false
+}
+
+pub fn train_in(line: &[u8]) -> bool
+    ensures { λ r. ⌜ r ≡ isTrain (contentIn typeColumn (now (line .entry))) ⌝ }
+{
+    is_train(fields::content_at(line, Column::KIND))
 }
 
 pub fn known_in(line: &[u8]) -> bool

@@ -3,7 +3,7 @@ ghost use mathlib.Core.Path.{_≡_};
 ghost use Prim.Native.Nat.{min};
 ghost use Rattle.text_read.specs.Held.{pastId};
 ghost use Rattle.duties_fields.specs.Fields.{contentIn};
-ghost use Rattle.duties_row.specs.Rowed.{isWhole, valueOf, isTime, hasWholes, inRange};
+ghost use Rattle.duties_row.specs.Rowed.{heldIn, isWhole, valueOf, isTime, hasWholes, inRange};
 use duties_fields::fields;
 use rules::sizes::Column;
 use rules::sizes::Event;
@@ -22,7 +22,7 @@ fn is_whole(s: &[u8]) -> bool
 }
 
 // The number, or one past the greatest id; 0 where there is none.
-pub fn value(s: &[u8]) -> u32
+fn value(s: &[u8]) -> u32
     ensures { λ r. ⌜ r ≡ min (valueOf (now (s .entry))) pastId ⌝ }
 {
     match numbers::read_whole(s) {
@@ -36,6 +36,12 @@ fn is_time(s: &[u8]) -> bool
     ensures { λ r. ⌜ r ≡ isTime (now (s .entry)) ⌝ }
 {
     value(s) <= Event::MOST_TIME
+}
+
+pub fn value_at(line: &[u8], k: usize) -> u32
+    ensures { λ r. ⌜ r ≡ heldIn k (now (line .entry)) ⌝ }
+{
+    value(fields::content_at(line, k))
 }
 
 fn whole_at(line: &[u8], k: usize) -> bool

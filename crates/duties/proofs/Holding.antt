@@ -16,7 +16,7 @@ use Rattle.duties.specs.Steps.{leftAt}
 use Rattle.rules.specs.Answers.{dutiesFile}
 use Rattle.rules.specs.Duties.{Event, withNodes, nodesFrom, nodesOf, rowOf}
 
-split-some : (P : List (List ℕ) → Type 0) (sep : ℕ) (s : List ℕ) → ((p : List ℕ) (ps : List (List ℕ)) → P (p ∷ ps)) → P (splitOn sep s)
+pub split-some : (P : List (List ℕ) → Type 0) (sep : ℕ) (s : List ℕ) → ((p : List ℕ) (ps : List (List ℕ)) → P (p ∷ ps)) → P (splitOn sep s)
 split-some P sep [] k = k [] []
 split-some P sep (b ∷ s) k = go (eqb b sep) (splitOn sep s)
   where

@@ -3,3 +3,7 @@ pub mod Viewing
 pub mod Standing
 pub mod Holding
 pub mod Passing
+pub mod Turning
+pub mod Resting
+pub mod Owing
+pub mod Judging

@@ -31,11 +31,11 @@ use Rattle.duties.proofs.Holding.{row-good, row-wrong, row-open, rows-e
 
 -- ---- what no fault says
 
-or-zero : (a b : ℕ) → orFault a b ≡ 0 → (a ≡ 0) × (b ≡ 0)
+pub or-zero : (a b : ℕ) → orFault a b ≡ 0 → (a ≡ 0) × (b ≡ 0)
 or-zero zero b e = (refl, e)
 or-zero (suc a) b e = absurd (omega arith)
 
-line-zero : (r i : Bool) → _≡_ {A = ℕ} (cond r (cond i 0 outOfRange) badRow) 0 → r ≡ true
+pub line-zero : (r i : Bool) → _≡_ {A = ℕ} (cond r (cond i 0 outOfRange) badRow) 0 → r ≡ true
 line-zero true i e = refl
 line-zero false i e = absurd (omega arith)
 
@@ -46,11 +46,11 @@ count-zero true true false r e = absurd (omega arith)
 count-zero true true true false e = absurd (omega arith)
 count-zero true true true true e = (refl, refl)
 
-view-long : (text t : List ℕ) (i n : ℕ) → length (namesFrom text t i n) ≡ n
+pub view-long : (text t : List ℕ) (i n : ℕ) → length (namesFrom text t i n) ≡ n
 view-long text t i zero = refl
 view-long text t i (suc n) = ap suc (view-long text t (i + 1) n)
 
-name-byte : (s : List ℕ) → isName s ≡ true → 1 ≤ length s
+pub name-byte : (s : List ℕ) → isName s ≡ true → 1 ≤ length s
 name-byte s e = leb-true 1 (length s) (and-first (leb 1 (length s)) _ e)
 
 record Clean (N : List (List ℕ)) (rows room : ℕ) (line : List ℕ) : Type 0 where

@@ -4,14 +4,13 @@ ghost use lib.ListN.{length};
 ghost use Rattle.rules.specs.Limits.{mostText};
 ghost use Rattle.duties.specs.Steps.{PutsBoth, Good, Begins, Passes};
 use crate::lines;
+use crate::lines::LINE_FEED;
 use crate::places;
 use crate::steps;
 use duties_row::faults;
 use rules::answers::Refusal;
 use rules::sizes::Column;
 use text_read::pieces;
-
-const LINE_FEED: u8 = b'\n';
 
 // The rows and the nodes; or the number of a row's fault, and the row's place.
 pub enum Pass {

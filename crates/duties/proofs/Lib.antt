@@ -7,3 +7,4 @@ pub mod Turning
 pub mod Resting
 pub mod Owing
 pub mod Judging
+pub mod Telling

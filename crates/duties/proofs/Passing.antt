@@ -39,12 +39,12 @@ pub line-zero : (r i : Bool) → _≡_ {A = ℕ} (cond r (cond i 0 outOfRange) b
 line-zero true i e = refl
 line-zero false i e = absurd (omega arith)
 
-count-zero : (a b k r : Bool) → _≡_ {A = ℕ} (cond (a && b) (cond k (cond r 0 noRoom) unknownName) tooMany) 0 → (a ≡ true) × (r ≡ true)
+count-zero : (a b k r : Bool) → _≡_ {A = ℕ} (cond (a && b) (cond k (cond r 0 noRoom) unknownName) tooMany) 0 → (a ≡ true) × (b ≡ true) × (r ≡ true)
 count-zero false b k r e = absurd (omega arith)
 count-zero true false k r e = absurd (omega arith)
 count-zero true true false r e = absurd (omega arith)
 count-zero true true true false e = absurd (omega arith)
-count-zero true true true true e = (refl, refl)
+count-zero true true true true e = (refl, refl, refl)
 
 pub view-long : (text t : List ℕ) (i n : ℕ) → length (namesFrom text t i n) ≡ n
 view-long text t i zero = refl
@@ -57,6 +57,7 @@ record Clean (N : List (List ℕ)) (rows room : ℕ) (line : List ℕ) : Type 0 
   from : 1 ≤ length (contentIn fromColumn line)
   to : 1 ≤ length (contentIn toColumn line)
   few : rows < mostEvents
+  most : length (withBoth N (contentIn fromColumn line) (contentIn toColumn line)) ≤ mostNodes
   fits : length (withBoth N (contentIn fromColumn line) (contentIn toColumn line)) ≤ room
 
 clean : (N : List (List ℕ)) (rows room : ℕ) (line : List ℕ) → rowFault N rows room line ≡ 0 → Clean N rows room line
@@ -71,7 +72,8 @@ clean N rows room line z =
       from = name-byte (contentIn fromColumn line) (and-first (isName (contentIn fromColumn line)) _ rest);
       to = name-byte (contentIn toColumn line) (and-first (isName (contentIn toColumn line)) _ (and-second (isName (contentIn fromColumn line)) _ rest));
       few = ltb-true rows mostEvents (counts .0);
-      fits = leb-true nodes room (counts .1);
+      most = leb-true nodes mostNodes (counts .1);
+      fits = leb-true nodes room (counts .2);
     }
 
 -- ---- the table of places
@@ -130,7 +132,7 @@ module _ (text : List ℕ) where
 
 pub begin-holds : (room : ℕ) (text t : List ℕ) (from : ℕ) → Begins room text t from → Holding room text from t from 0 0 t
 begin-holds room text t from g =
-    record { before = []; left = refl; count = refl; seen = refl; table = sym (over-none t); wide = omega arith; rows-at = g .rows-at; within = g .within; fits = omega arith; few = omega arith; long = refl }
+    record { before = []; left = refl; count = refl; seen = refl; table = sym (over-none t); wide = omega arith; rows-at = g .rows-at; within = g .within; fits = omega arith; few = omega arith; most = omega arith; long = refl }
 
 module _ (room : ℕ) (text : List ℕ) (from : ℕ) (t₀ : List ℕ) (place rows n : ℕ) (t : List ℕ) (h : Holding room text from t₀ place rows n t) where
   pub pass-end : length text ≤ place → Passes room text from t₀ (Read rows n) t
@@ -143,6 +145,8 @@ module _ (room : ℕ) (text : List ℕ) (from : ℕ) (t₀ : List ℕ) (place ro
         seen = h .seen;
         table = h .table;
         fits = h .fits;
+        most = h .most;
+        long = h .long;
       })
 
   module _ (g : Begins room text t₀ from) (end : ℕ) (q : end ≡ place + upTo lineFeed (drop place text)) (l : place < length text) where
@@ -231,5 +235,6 @@ module _ (room : ℕ) (text : List ℕ) (from : ℕ) (t₀ : List ℕ) (place ro
               within = omega arith;
               fits = omega arith;
               few = omega (arith, fine .few);
+              most = omega (arith, fine .most);
               long = lt ∙ lu ∙ h .long;
             }

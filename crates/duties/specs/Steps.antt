@@ -8,7 +8,7 @@ use Rattle.rules.specs.Answers.{Reading, good, refused, refusal}
 use Rattle.rules.specs.Lists.{over}
 use Rattle.rules.specs.Bytes.{lineFeed, splitOn, startOf}
 use Rattle.rules.specs.Rows.{rowsFrom, placeOfRow}
-use Rattle.rules.specs.Limits.{mostEvents}
+use Rattle.rules.specs.Limits.{mostEvents, mostNodes}
 use Rattle.rules.specs.Answers.{dutiesFile}
 use Rattle.rules.specs.Duties.{Event, placeIn, nodesOf, placesFrom, rowOf, fromColumn, toColumn}
 use Rattle.duties.specs.declared.pass.Pass.{Pass}
@@ -63,6 +63,7 @@ pub record Holding (room : ℕ) (text : List ℕ) (from : ℕ) (t₀ : List ℕ)
   pub within : place ≤ length text
   pub fits : n ≤ room
   pub few : rows ≤ mostEvents
+  pub most : n ≤ mostNodes
   pub long : length t ≡ length t₀
 
 pub record Begins (room : ℕ) (text t : List ℕ) (from : ℕ) : Type 0 where
@@ -79,6 +80,8 @@ pub record AllRead (room : ℕ) (text : List ℕ) (from : ℕ) (t₀ : List ℕ)
   pub seen : view text t n ≡ nodesOf es
   pub table : t ≡ over (placesFrom text 0 [] es) t₀
   pub fits : n ≤ room
+  pub most : n ≤ mostNodes
+  pub long : length t ≡ length t₀
 
 -- the answer of the first pass
 pub data Passes (room : ℕ) (text : List ℕ) (from : ℕ) (t₀ : List ℕ) : Pass → List ℕ → Type 0 where

@@ -5,3 +5,4 @@ pub mod places; // a row's names put among the nodes
 pub mod pass; // the first pass: rows and nodes
 pub mod turns; // a row beside the row before it
 pub mod judge; // the second pass: rules and balances
+pub mod entry; // the whole

@@ -1,12 +1,12 @@
 -- The rows below a text's header, by the place where the header ends. Assumes nothing.
-use Prim.Native.Nat.{ℕ, zero, suc, _+_, _≤_, _<_}
+use Prim.Native.Nat.{ℕ, suc, _+_, _≤_, _<_}
 use mathlib.Core.Path.{_≡_, refl, ap, sym, _∙_}
 use mathlib.Core.Bool.{Bool, true, false, cond}
 use mathlib.Core.List.{List, [], _∷_}
 use native.Mathlib.Omega.{arith}
 use lib.Dec.{eqb}
 use lib.ListN.{length, drop}
-use Rattle.rules.specs.Answers.{refusal, badHeader, Reading, refused, Judged}
+use Rattle.rules.specs.Answers.{refusal, badHeader, refused, Judged}
 use Rattle.rules.specs.Bytes.{lineFeed, onto, splitOn, startOf}
 use Rattle.rules.specs.Rows.{heads, headed, rowsFrom, placeOfRow}
 use Rattle.rules.proofs.Pieces.{split-cons}
@@ -49,14 +49,14 @@ module _ (names : List (List ℕ)) (text : List ℕ) (from : ℕ) (ends : from �
 
   module _ (some-end : from ≡ 0 → ⊥) where
     -- the header's line, and what follows it
-    record Below : Type 0 where
-      first : List ℕ
-      from-is : from ≡ length first + 1
-      within : from ≤ length text
-      lines : splitOn lineFeed text ≡ first ∷ splitOn lineFeed (drop from text)
-      is-headed : heads names first ≡ true
+    pub record Below : Type 0 where
+      pub first : List ℕ
+      pub from-is : from ≡ length first + 1
+      pub within : from ≤ length text
+      pub lines : splitOn lineFeed text ≡ first ∷ splitOn lineFeed (drop from text)
+      pub is-headed : heads names first ≡ true
 
-    below : Below
+    pub below : Below
     below = go (splitOn lineFeed text) refl ends
       where
         go : (ps : List (List ℕ)) → splitOn lineFeed text ≡ ps → from ≡ endIn names ps → Below

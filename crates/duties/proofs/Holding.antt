@@ -1,19 +1,18 @@
 -- The rows that are read, one step of the pass after the other. Assumes nothing.
-use Prim.Native.Nat.{ℕ, zero, suc, _+_, _*_, _-_, _≤_, _<_}
-use mathlib.Core.Path.{_≡_, refl, sym, ap, ap₂, _∙_}
+use Prim.Native.Nat.{ℕ, _+_, _*_, _-_, _≤_, _<_}
+use mathlib.Core.Path.{_≡_, refl, ap, _∙_}
 use mathlib.Core.Bool.{Bool, true, false, cond}
 use mathlib.Core.List.{List, [], _∷_, _++_}
 use native.Mathlib.Omega.{arith}
 use lib.Dec.{eqb}
-use lib.ListN.{length, take, drop, length-drop, length-append, drop-of-length-le}
-use lib.Seq.{length-take-le, take-all}
-use Rattle.rules.specs.Answers.{Judged, wrong, right, Reading, refused, good, refusal, badRow}
+use lib.ListN.{length, take, drop, length-drop, drop-of-length-le}
+use lib.Seq.{length-take-le}
+use Rattle.rules.specs.Answers.{wrong, right, refused, good, refusal, badRow, dutiesFile}
 use Rattle.rules.specs.Bytes.{lineFeed, splitOn, onto, lessReturn}
 use Rattle.rules.specs.Rows.{onRow, lastLine, rowsFrom}
 use Rattle.text_read.specs.Places.{upTo}
-use Rattle.text_read.proofs.Laws.{found-within, pieces-next, pieces-last}
+use Rattle.text_read.proofs.Laws.{pieces-next, pieces-last}
 use Rattle.duties.specs.Steps.{leftAt}
-use Rattle.rules.specs.Answers.{dutiesFile}
 use Rattle.rules.specs.Duties.{Event, withNodes, nodesFrom, nodesOf, rowOf}
 
 pub split-some : (P : List (List ℕ) → Type 0) (sep : ℕ) (s : List ℕ) → ((p : List ℕ) (ps : List (List ℕ)) → P (p ∷ ps)) → P (splitOn sep s)

@@ -1,5 +1,5 @@
 -- The loop of the second pass: each way through its body. Assumes nothing.
-use Prim.Native.Nat.{ℕ, zero, suc, _+_, _*_, _-_, _≤_, _<_, min}
+use Prim.Native.Nat.{ℕ, suc, _+_, _*_, _-_, _≤_, _<_, min}
 use mathlib.Core.Path.{_≡_, refl, sym, ap, ap₂, subst, _∙_}
 use mathlib.Core.Bool.{Bool, true, false, not, cond, _&&_, _||_}
 use mathlib.Core.List.{List, [], _∷_, _++_, map}
@@ -7,36 +7,34 @@ use mathlib.Core.Option.{Option, none, some}
 use native.Mathlib.Omega.{arith}
 use native.Mathlib.Numerals.{add-one}
 use lib.Dec.{ltb, eqb}
-use lib.ListN.{length, getD, take, drop, length-append, length-drop, length-take, drop-of-length-le}
+use lib.ListN.{length, getD, take, drop, length-append, length-drop, length-take, length-map, drop-of-length-le}
 use lib.Seq.{length-sets}
 use lib.IntN.{ℤ, pos, natAbs, _+ℤ_, +ℤ-idl}
 use borrow.Author.Tests.{lt-ltb, le-ltb}
 use Rattle.rules.specs.Limits.{mostText, mostEvents, nodeWidth}
 use Rattle.rules.specs.Lists.{any, sameList, over}
-use Rattle.rules.specs.Answers.{Test, _needs_, good}
+use Rattle.rules.specs.Answers.{_needs_, good}
 use Rattle.rules.specs.Bytes.{lineFeed, lessReturn}
-use Rattle.rules.specs.Rows.{RowFault, orElse, placeOfRow}
-use Rattle.rules.specs.Duties.{dutyColumn, fromColumn, toColumn, laterRule, staysRule, togetherRule, sequenceRule, meetsRule, textsRule, placeIn, Event, Before, after, withName, seenAt, isTrain, timeText, follows, seqAfter, meets, rules, lowest, brokenFrom, broken, balanceFrom}
+use Rattle.rules.specs.Rows.{orElse, placeOfRow}
+use Rattle.rules.specs.Duties.{dutyColumn, laterRule, staysRule, togetherRule, sequenceRule, meetsRule, textsRule, placeIn, Event, Before, after, withName, seenAt, isTrain, timeText, follows, seqAfter, meets, rules, lowest, brokenFrom, broken, balanceFrom}
 use Rattle.text_read.specs.Places.{upTo}
 use Rattle.duties_fields.specs.Fields.{contentIn}
-use Rattle.duties_row.specs.Rowed.{eventIn, inRange}
-use Rattle.duties_row.specs.Ruled.{followsIn, ruleIn}
+use Rattle.duties_row.specs.Rowed.{eventIn}
+use Rattle.duties_row.specs.Ruled.{ruleIn}
 use Rattle.duties_row.proofs.Ruling.{orNone, Exact, exact, exact-none, rule-is}
-use Rattle.duties_nodes.specs.Nodes.{view, Puts}
-use Rattle.duties_nodes.specs.Balances.{bumpedAt, mostBalance, BumpRoom}
+use Rattle.duties_nodes.specs.Nodes.{view}
+use Rattle.duties_nodes.specs.Balances.{BumpRoom}
 use Rattle.duties_nodes.proofs.Walking.{names-long}
-use Rattle.duties.specs.Steps.{leftAt, RowsAt, Near, Ready}
+use Rattle.duties.specs.Steps.{leftAt, RowsAt, Ready}
 use Rattle.duties.specs.Turns.{lineAt, restAt, Rules, endedIn, turnedIn, TurnRoom, Starts, Judges, all-kept, one-broken}
 use Rattle.duties.specs.declared.turns.Ruled.{Ruled}
-use Rattle.duties.specs.declared.judge.Found.{Found}
 use Rattle.duties.specs.declared.judge.Found.the-variants.{Kept, Broken}
 use Rattle.duties.proofs.Viewing.{put-shows}
 use Rattle.duties.proofs.Standing.{stands, stands-text, less-front}
-use Rattle.duties.proofs.Holding.{rows-end}
 use Rattle.duties.proofs.Passing.{rows-next}
 use Rattle.duties.proofs.Turning.{line-cut, ended-long, turned-small, turned-long}
 use Rattle.duties.proofs.Resting.{rest-is, Row, row-here, rest-end}
-use Rattle.duties.proofs.Owing.{Like, first, later, follows-like, turned-at, last-at, ended-past, turned-past, over-is, map-at, map-length}
+use Rattle.duties.proofs.Owing.{Like, first, later, turned-at, last-at, ended-past, turned-past, over-is, map-at}
 
 -- ---- the lowest rule
 
@@ -148,7 +146,7 @@ module _ (text table : List ℕ) (n : ℕ) (d₀ : List ℕ) (z₀ : List ℤ) (
         let none-left : restAt text place ≡ [] = rest-end text place l in
         let names = view text table n in
         let long : length names ≡ n = names-long text table 0 n in
-        let wide : length (map (balanceFrom none es) names) ≡ n = map-length (balanceFrom none es) names ∙ long in
+        let wide : length (map (balanceFrom none es) names) ≡ n = length-map names (balanceFrom none es) ∙ long in
         all-kept
         (sym (h .rules-left) ∙ ap (brokenFrom row (record { seen = view text d m; last = h .prev })) none-left)
         (over-is (pos 0) (map (balanceFrom none es) names) z₀ z′ (omega (arith, g .places)) (ap length e ∙ ended-long text table n z B ∙ h .long-z)

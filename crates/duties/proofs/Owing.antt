@@ -1,14 +1,14 @@
 -- The balances as the second pass goes on: what a table holds and what the rows left will add are the balances. Assumes nothing.
 use Prim.Native.Nat.{ℕ, zero, suc, _+_, _*_, _-_, _≤_, _<_}
-use mathlib.Core.Path.{_≡_, refl, sym, ap, ap₂, subst, _∙_}
+use mathlib.Core.Path.{_≡_, refl, sym, ap, ap₂, _∙_}
 use mathlib.Core.Bool.{Bool, true, false, cond, true≢false}
 use mathlib.Core.List.{List, [], _∷_, _++_, map}
 use mathlib.Core.Option.{Option, none, some}
 use native.Mathlib.Omega.{arith}
-use lib.Dec.{leb, ltb, eqb}
-use lib.ListN.{length, getD, drop, length-append, length-drop, List·getD-append}
+use lib.Dec.{ltb, eqb}
+use lib.ListN.{length, getD, drop, List·getD-append}
 use lib.Seq.{ext-getD, getD-append-add, getD-drop}
-use lib.IntN.{ℤ, pos, negsuc, natAbs, _+ℤ_, _-ℤ_, negℤ, negℤ-+ℤ, +ℤ-assoc, +ℤ-comm, +ℤ-idr, pos-+ℤ-pos}
+use lib.IntN.{ℤ, pos, negsuc, _+ℤ_, _-ℤ_, negℤ, negℤ-+ℤ, +ℤ-assoc, +ℤ-comm, +ℤ-idr, pos-+ℤ-pos}
 use borrow.Author.Tests.{ltb-true, ltb-false, ne-eqb}
 use Rattle.rules.specs.Lists.{sameList, over}
 use Rattle.rules.specs.Duties.{dutyColumn, fromColumn, toColumn, Event, follows, startsFrom, endOf, endsFrom, times, balanceFrom}
@@ -175,7 +175,3 @@ pub map-at : (f : List ℕ → ℤ) (ns : List (List ℕ)) (k : ℕ) (d : ℤ) �
 map-at f [] k d h = absurd (omega arith)
 map-at f (n ∷ ns) zero d h = refl
 map-at f (n ∷ ns) (suc k) d h = map-at f ns k d (omega arith)
-
-pub map-length : (f : List ℕ → ℤ) (ns : List (List ℕ)) → length (map f ns) ≡ length ns
-map-length f [] = refl
-map-length f (n ∷ ns) = ap suc (map-length f ns)

@@ -8,25 +8,23 @@ use lib.Dec.{leb, ltb}
 use lib.ListN.{length, take, drop, length-drop, length-take, length-append}
 use lib.Seq.{sets, length-sets, length-take-le}
 use borrow.Author.Tests.{leb-true, ltb-true}
-use Rattle.rules.specs.Limits.{nodeWidth, mostText}
-use Rattle.rules.specs.Answers.{Judged, wrong, right, badRow, outOfRange, tooMany, unknownName, noRoom}
+use Rattle.rules.specs.Limits.{nodeWidth, mostText, mostEvents, mostNodes}
+use Rattle.rules.specs.Answers.{badRow, outOfRange, tooMany, unknownName, noRoom}
 use Rattle.rules.specs.Lists.{any, sameList, over}
-use Rattle.rules.specs.Bytes.{lineFeed, splitOn, startOf, lessReturn}
+use Rattle.rules.specs.Bytes.{lineFeed, startOf, lessReturn}
 use Rattle.rules.specs.Rows.{placeOfRow}
 use Rattle.rules.proofs.Lists.{over-more}
 use Rattle.text_read.proofs.Laws.{pieces-next}
 use Rattle.rules.proofs.Truth.{and-first, and-second}
 use Rattle.text_read.specs.Places.{upTo}
-use Rattle.rules.specs.Limits.{mostEvents, mostNodes}
-use Rattle.rules.specs.Duties.{Event, withName, withNodes, nodesFrom, nodesOf, placesFrom, rowOf, seenAt, isName, isCourse, isKnown, placeIn, fromColumn, toColumn, dutyColumn, typeColumn}
-use Rattle.duties_fields.specs.Fields.{contentIn, isTen, partOf}
+use Rattle.rules.specs.Duties.{Event, withName, withNodes, nodesFrom, nodesOf, placesFrom, rowOf, seenAt, isName, isKnown, placeIn, fromColumn, toColumn, dutyColumn, typeColumn}
+use Rattle.duties_fields.specs.Fields.{contentIn, isTen}
 use Rattle.duties_row.specs.Rowed.{isRow, isNamed, hasWholes, inRange, eventIn, lineFault, countFault, orFault, judgedBy}
-use Rattle.duties_nodes.specs.Nodes.{namesFrom, view, withBoth, Puts}
-use Rattle.duties.specs.declared.pass.Pass.{Pass}
+use Rattle.duties_nodes.specs.Nodes.{namesFrom, view, withBoth}
 use Rattle.duties.specs.declared.pass.Pass.the-variants.{Read, Fault}
-use Rattle.duties.specs.Steps.{rowFault, leftAt, RowsAt, AllRead, Near, Good, PutsBoth, Begins, Holding, Passes, all-read, at-fault}
+use Rattle.duties.specs.Steps.{rowFault, RowsAt, Good, PutsBoth, Begins, Holding, Passes, all-read, at-fault}
 use Rattle.duties.proofs.Viewing.{step-judged, put-shows, not-fewer}
-use Rattle.duties.proofs.Standing.{Stands, stands, stands-text, less-front}
+use Rattle.duties.proofs.Standing.{stands, stands-text, less-front}
 use Rattle.duties.proofs.Holding.{row-good, row-wrong, row-open, rows-end, nodes-next}
 
 -- ---- what no fault says

@@ -1,22 +1,21 @@
 -- The rows that are left are the events of the lines that are left: each line is a row without fault. Assumes nothing.
 use Prim.Native.Nat.{ℕ, zero, suc, _+_, _-_, _≤_, _<_}
-use mathlib.Core.Path.{_≡_, refl, sym, ap, ap₂, _∙_}
+use mathlib.Core.Path.{_≡_, refl, sym, ap, _∙_}
 use mathlib.Core.Bool.{Bool, true, false, cond, _&&_}
 use mathlib.Core.List.{List, [], _∷_, _++_, append-assoc, append-nil}
 use native.Mathlib.Omega.{arith}
-use lib.Dec.{leb, ltb}
-use lib.ListN.{length, take, drop, length-drop, drop-of-length-le}
-use borrow.Author.Tests.{leb-true, ltb-true, ltb-false}
-use Rattle.rules.specs.Limits.{leastName, mostEvents, mostNodes}
-use Rattle.rules.specs.Answers.{Judged, wrong, right, Reading, refused, good, refusal, dutiesFile, badRow, outOfRange, tooMany, unknownName, noRoom}
+use lib.Dec.{ltb}
+use lib.ListN.{length, take, drop, drop-of-length-le}
+use borrow.Author.Tests.{ltb-true, ltb-false}
+use Rattle.rules.specs.Answers.{Judged, Reading, refused, good, refusal, dutiesFile, badRow, outOfRange}
 use Rattle.rules.specs.Bytes.{lineFeed, splitOn, lessReturn}
-use Rattle.rules.specs.Rows.{onRow, lastLine, rowsFrom}
-use Rattle.rules.specs.Duties.{dutyColumn, fromColumn, toColumn, typeColumn, Event, isName, isKnown, nodesOf, rowOf}
+use Rattle.rules.specs.Rows.{onRow, rowsFrom}
+use Rattle.rules.specs.Duties.{dutyColumn, fromColumn, toColumn, Event, isName, nodesOf, rowOf}
 use Rattle.rules.proofs.Truth.{and-first, and-second}
 use Rattle.text_read.specs.Places.{upTo}
-use Rattle.text_read.proofs.Laws.{pieces-next, found-within}
+use Rattle.text_read.proofs.Laws.{pieces-next}
 use Rattle.duties_fields.specs.Fields.{contentIn, isTen}
-use Rattle.duties_row.specs.Rowed.{isRow, isNamed, hasWholes, inRange, eventIn, lineFault, countFault, orFault, judgedBy}
+use Rattle.duties_row.specs.Rowed.{isRow, isNamed, hasWholes, inRange, eventIn, lineFault, countFault, judgedBy}
 use Rattle.duties_nodes.specs.Nodes.{withBoth}
 use Rattle.duties.specs.Steps.{rowFault, leftAt}
 use Rattle.duties.specs.Turns.{lineAt, eventsIn, restAt}

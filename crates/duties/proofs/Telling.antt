@@ -1,29 +1,27 @@
 -- Both passes together, as the entry has them. Assumes nothing.
-use Prim.Native.Nat.{ℕ, zero, suc, _+_, _*_, _-_, _/_, _≤_, _<_, _^_, min}
+use Prim.Native.Nat.{ℕ, _+_, _*_, _-_, _/_, _≤_, _<_, _^_, min}
 use mathlib.Core.Path.{_≡_, refl, sym, ap, ap₂, subst, _∙_}
-use mathlib.Core.Bool.{Bool, true, false, cond}
+use mathlib.Core.Bool.{true, false}
 use mathlib.Core.List.{List, [], _∷_, _++_, map}
-use mathlib.Core.Option.{Option, none, some}
+use mathlib.Core.Option.{none, some}
 use native.Mathlib.Omega.{arith}
-use lib.Dec.{leb}
-use lib.ListN.{length, getD, drop, replicate, length-append, length-drop, length-replicate, getD-replicate, List·getD-append}
+use lib.ListN.{length, getD, drop, replicate, length-map, length-replicate, getD-replicate, List·getD-append}
 use lib.IntN.{ℤ, pos}
 use mir.Syntax.{w32}
 use mir.Val.{bits}
 use borrow.Author.Tests.{le-leb, lt-leb}
-use Rattle.rules.specs.Limits.{mostText, mostEvents, mostNodes, nodeWidth, unsignedFill, signedFill}
+use Rattle.rules.specs.Limits.{mostText, mostEvents, nodeWidth, unsignedFill, signedFill}
 use Rattle.rules.specs.Lists.{over}
-use Rattle.rules.specs.Answers.{Reading, refused, good, refusal, brokenRule, tooLong, badHeader, dutiesFile, toldValues}
+use Rattle.rules.specs.Answers.{refused, good, refusal, brokenRule, tooLong, badHeader, dutiesFile, toldValues}
 use Rattle.rules.specs.Bytes.{lineFeed, splitOn}
-use Rattle.rules.specs.Rows.{RowFault, placeOfRow, csvOf}
+use Rattle.rules.specs.Rows.{placeOfRow, csvOf}
 use Rattle.rules.specs.Entries.{filled}
 use Rattle.rules.specs.Promises.{ChecksDuties}
-use Rattle.rules.specs.Duties.{dutiesNames, dutiesHeader, Event, rowOf, nodesOf, broken, balanceFrom, balances, placesFrom, nodeRoom, eventsOf, notAccepted, dutiesJudged, dutiesFrom, DutiesChecked, dutiesChecked}
+use Rattle.rules.specs.Duties.{dutiesNames, dutiesHeader, Event, rowOf, nodesOf, broken, balanceFrom, balances, nodeRoom, eventsOf, notAccepted, dutiesJudged, dutiesFrom, DutiesChecked, dutiesChecked}
 use Rattle.rules.specs.declared.answers.Refusal.{Refusal}
 use Rattle.rules.specs.declared.answers.BrokenRule.{BrokenRule}
 use Rattle.rules.specs.declared.answers.Told.{Told}
 use Rattle.rules.specs.declared.answers.Told.the-variants.{Accepted, Broken, Refused}
-use Rattle.rules.specs.declared.outcomes.Duties.{Duties}
 use Rattle.rules.proofs.Lists.{over-length}
 use Rattle.csv_marks.specs.declared.Mark.the-variants.{Bare}
 use Rattle.csv_header.specs.declared.Headed.{Headed}
@@ -36,7 +34,7 @@ use Rattle.duties.specs.declared.pass.Pass.{Pass}
 use Rattle.duties.specs.declared.pass.Pass.the-variants.{Read, Fault}
 use Rattle.duties.specs.declared.judge.Found.{Found}
 use Rattle.duties.specs.declared.judge.Found.the-variants as Found
-use Rattle.duties.specs.Steps.{leftAt, RowsAt, Begins, AllRead, Passes, all-read, at-fault}
+use Rattle.duties.specs.Steps.{leftAt, AllRead, Passes, all-read, at-fault}
 use Rattle.duties.specs.Turns.{restAt, Starts, Judges, all-kept, one-broken}
 use Rattle.duties.specs.Entry.{Whole, Judged, keeps, breaks, Passed, Tells, accepts, tells-broken, tells-refused, nodesAfter, balanceAfter}
 use Rattle.duties.proofs.Resting.{rest-is}
@@ -62,10 +60,6 @@ drop-front (x ∷ v) t = drop-front v t
 over-over : (w v t : List ℤ) → length w ≡ length v → over w (over v t) ≡ over w t
 unfolding over
 over-over w v t e = ap (λ (k : ℕ). w ++ drop k (v ++ drop (length v) t)) e ∙ ap (λ (x : List ℤ). w ++ x) (drop-front v (drop (length v) t) ∙ ap (λ (k : ℕ). drop k t) (sym e))
-
-map-long : (f : List ℕ → ℤ) (ns : List (List ℕ)) → length (map f ns) ≡ length ns
-map-long f [] = refl
-map-long f (n ∷ ns) = ap suc (map-long f ns)
 
 -- ---- `judge_all`
 
@@ -105,7 +99,7 @@ module _ (text table : List ℕ) (n : ℕ) (z : List ℤ) (from : ℕ) (g : Whol
         go : (f : Found) → Judges text table n u from f z′ → f ≡ Found.Kept → Judged text table n z from (Accepted n) z′
         go f (all-kept a b) q =
             let same : length (map (balanceFrom none (restAt text from)) (view text table n)) ≡ length (replicate n (pos 0)) =
-            map-long (balanceFrom none (restAt text from)) (view text table n) ∙ names-long text table 0 n ∙ sym (length-replicate n (pos 0)) in
+            length-map (view text table n) (balanceFrom none (restAt text from)) ∙ names-long text table 0 n ∙ sym (length-replicate n (pos 0)) in
             keeps a
             (b
             ∙ ap (over (map (balanceFrom none (restAt text from)) (view text table n))) e

@@ -1,14 +1,13 @@
 -- A row beside the row before it: the functions of the second pass's body. Assumes nothing.
-use Prim.Native.Nat.{ℕ, zero, suc, _+_, _*_, _-_, _≤_, _<_}
+use Prim.Native.Nat.{ℕ, _+_, _*_, _-_, _≤_, _<_}
 use mathlib.Core.Path.{_≡_, refl, sym, ap, ap₂, subst, _∙_}
 use mathlib.Core.Bool.{Bool, true, false, cond}
 use mathlib.Core.List.{List, [], _∷_}
 use native.Mathlib.Omega.{arith}
 use lib.Dec.{ltb, eqb}
-use lib.ListN.{length, getD, take, drop, length-drop, drop-of-length-le}
+use lib.ListN.{length, getD, take, drop, drop-of-length-le}
 use lib.IntN.{ℤ, pos, negsuc, natAbs, _+ℤ_}
 use borrow.Author.Tests.{eq-eqb, ne-eqb}
-use Rattle.rules.specs.Limits.{nodeWidth}
 use Rattle.rules.specs.Lists.{sameList}
 use Rattle.rules.specs.Bytes.{lineFeed, lessReturn}
 use Rattle.rules.specs.Duties.{dutyColumn, fromColumn, toColumn, placeIn}
@@ -23,7 +22,6 @@ use Rattle.duties_nodes.proofs.Walking.{names-long}
 use Rattle.duties_nodes.proofs.Bumping.{bumped-long, bumped-in}
 use Rattle.duties.specs.Steps.{Ready}
 use Rattle.duties.specs.Turns.{lineAt, Rules, endedIn, turnedIn, TurnRoom}
-use Rattle.duties.specs.declared.turns.Ruled.{Ruled}
 
 -- ---- `line_at`
 

@@ -5,12 +5,10 @@ use mathlib.Core.Bool.{Bool, true, false, cond}
 use mathlib.Core.List.{List, [], _∷_, _++_}
 use native.Mathlib.Omega.{arith}
 use native.Mathlib.Numerals.{add-one}
-use lib.Dec.{eqb}
 use lib.ListN.{length, getD, set, length-set, length-append}
-use lib.Seq.{sets, getD-set-same, getD-set-other, length-sets}
+use lib.Seq.{getD-set-same, getD-set-other, length-sets}
 use Rattle.rules.specs.Lists.{any, sameList}
-use Rattle.rules.specs.Answers.{Judged}
-use Rattle.rules.specs.Duties.{Event, withName, withNodes, nodesOf, seenAt, rowOf, placeIn, fromColumn, toColumn}
+use Rattle.rules.specs.Duties.{Event, withName, nodesOf, seenAt, rowOf, placeIn, fromColumn, toColumn}
 use Rattle.duties_fields.specs.Fields.{partOf, contentIn}
 use Rattle.duties_row.specs.Rowed.{eventIn, judgedBy, orFault, lineFault, countFault}
 use Rattle.duties_row.proofs.Forming.{row-judged}

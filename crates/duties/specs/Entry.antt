@@ -2,15 +2,15 @@
 use Prim.Native.Nat.{ℕ, _*_, _≤_}
 use mathlib.Core.Path.{_≡_}
 use mathlib.Core.List.{List, [], map}
-use mathlib.Core.Option.{Option, none, some}
+use mathlib.Core.Option.{none, some}
 use lib.ListN.{length}
 use lib.IntN.{ℤ}
 use Rattle.rules.specs.Limits.{mostText, mostEvents, mostNodes, nodeWidth, unsignedFill, signedFill}
 use Rattle.rules.specs.Lists.{over}
-use Rattle.rules.specs.Answers.{good, refusal, brokenRule}
-use Rattle.rules.specs.Rows.{RowFault, placeOfRow}
+use Rattle.rules.specs.Answers.{good, brokenRule}
+use Rattle.rules.specs.Rows.{placeOfRow}
 use Rattle.rules.specs.Entries.{filled}
-use Rattle.rules.specs.Duties.{broken, balanceFrom, nodeRoom, eventsOf, notAccepted, DutiesChecked, dutiesChecked}
+use Rattle.rules.specs.Duties.{broken, balanceFrom, nodeRoom, eventsOf, notAccepted, dutiesChecked}
 use Rattle.rules.specs.declared.answers.Refusal.{Refusal}
 use Rattle.rules.specs.declared.answers.BrokenRule.{BrokenRule}
 use Rattle.rules.specs.declared.answers.Told.{Told}

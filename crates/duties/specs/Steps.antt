@@ -3,13 +3,11 @@ use Prim.Native.Nat.{ℕ, _+_, _*_, _≤_}
 use mathlib.Core.Path.{_≡_}
 use mathlib.Core.List.{List, []}
 use lib.ListN.{length, drop}
-use Rattle.rules.specs.Limits.{nodeWidth, mostText}
-use Rattle.rules.specs.Answers.{Reading, good, refused, refusal}
+use Rattle.rules.specs.Limits.{nodeWidth, mostText, mostEvents, mostNodes}
+use Rattle.rules.specs.Answers.{Reading, good, refused, refusal, dutiesFile}
 use Rattle.rules.specs.Lists.{over}
 use Rattle.rules.specs.Bytes.{lineFeed, splitOn, startOf}
 use Rattle.rules.specs.Rows.{rowsFrom, placeOfRow}
-use Rattle.rules.specs.Limits.{mostEvents, mostNodes}
-use Rattle.rules.specs.Answers.{dutiesFile}
 use Rattle.rules.specs.Duties.{Event, placeIn, nodesOf, placesFrom, rowOf, fromColumn, toColumn}
 use Rattle.duties.specs.declared.pass.Pass.{Pass}
 use Rattle.duties.specs.declared.pass.Pass.the-variants.{Read, Fault}

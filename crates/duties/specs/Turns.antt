@@ -1,9 +1,9 @@
 -- The second pass: a line by its place, the rows that are left, and the balances after a row.
 use Prim.Native.Nat.{ℕ, _+_, _*_, _≤_, _<_}
 use mathlib.Core.Path.{_≡_}
-use mathlib.Core.Bool.{Bool, cond}
+use mathlib.Core.Bool.{cond}
 use mathlib.Core.List.{List, [], _∷_, map}
-use mathlib.Core.Option.{Option, none, some}
+use mathlib.Core.Option.{none, some}
 use lib.Dec.{ltb, eqb}
 use lib.ListN.{length, getD, take, drop}
 use lib.IntN.{ℤ, pos, negsuc, natAbs}
@@ -11,7 +11,7 @@ use Rattle.rules.specs.Limits.{mostText, mostEvents, nodeWidth}
 use Rattle.rules.specs.Lists.{over}
 use Rattle.rules.specs.Answers.{good}
 use Rattle.rules.specs.Bytes.{lineFeed, splitOn, lessReturn}
-use Rattle.rules.specs.Rows.{RowFault, placeOfRow}
+use Rattle.rules.specs.Rows.{placeOfRow}
 use Rattle.rules.specs.Duties.{dutyColumn, fromColumn, toColumn, placeIn, Event, broken, balanceFrom}
 use Rattle.text_read.specs.Places.{upTo}
 use Rattle.duties_fields.specs.Fields.{contentIn}

@@ -7,7 +7,6 @@ ghost use Rattle.rules.specs.Bytes.{lineFeed, splitOn};
 ghost use Rattle.rules.specs.Duties.{dutiesNames};
 ghost use Rattle.rules.specs.Promises.{ChecksDuties};
 ghost use Rattle.csv_header.specs.Heading.{endIn};
-ghost use Rattle.duties.specs.Steps.{Begins};
 ghost use Rattle.duties.specs.Entry.{Whole, Judged, Passed, Tells, nodesAfter, balanceAfter};
 use crate::judge;
 use crate::judge::Found;

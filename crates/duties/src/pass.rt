@@ -1,7 +1,4 @@
 // The first pass: a row after the other, its nodes put among the nodes.
-ghost use Prim.Native.Nat.{_*_, _≤_};
-ghost use lib.ListN.{length};
-ghost use Rattle.rules.specs.Limits.{mostText};
 ghost use Rattle.duties.specs.Steps.{PutsBoth, Good, Begins, Passes};
 use crate::lines;
 use crate::lines::LINE_FEED;
@@ -19,7 +16,7 @@ pub enum Pass {
 }
 
 // Both names of a row, its start first: how many nodes there are then.
-pub fn put_both(text: &[u8], table: &mut [u32], n: usize, line: &[u8], place: usize) -> usize
+fn put_both(text: &[u8], table: &mut [u32], n: usize, line: &[u8], place: usize) -> usize
     requires { ⌜ Good (now text) (now table) n place (now line) ⌝ }
     ensures { λ r. ⌜ PutsBoth (now (text .entry)) (now (table .entry)) n place (now (line .entry)) r (now (table .exit)) ⌝ }
 {

@@ -1,6 +1,6 @@
 // A row's names, put among the nodes by their places in the text.
 ghost use mathlib.Core.Path.{_≡_};
-ghost use Prim.Native.Nat.{_+_, _*_, _≤_};
+ghost use Prim.Native.Nat.{_+_};
 ghost use lib.ListN.{length};
 ghost use Rattle.rules.specs.Duties.{placeIn};
 ghost use Rattle.duties_fields.specs.Fields.{contentIn};
@@ -18,6 +18,7 @@ fn place_in(line: &[u8], k: usize, place: usize) -> u32
     (place + at) as u32
 }
 
+// How long it is.
 fn long_in(line: &[u8], k: usize, place: usize) -> u32
     requires { ⌜ Near place (now line) k ⌝ }
     ensures { λ r. ⌜ r ≡ length (contentIn k (now (line .entry))) ⌝ }

@@ -12,6 +12,7 @@ use duties_nodes;
 use duties_row::faults;
 use rules::sizes::Column;
 
+// How many nodes there are with the row's own.
 fn nodes_with(text: &[u8], table: &[u32], n: usize, line: &[u8]) -> usize
     requires { ⌜ n * nodeWidth ≤ length (now table) ⌝ }
     ensures { λ r. ⌜ r ≡ length (withBoth (view (now (text .entry)) (now (table .entry)) n) (contentIn fromColumn (now (line .entry))) (contentIn toColumn (now (line .entry)))) ⌝ }
@@ -21,6 +22,7 @@ fn nodes_with(text: &[u8], table: &[u32], n: usize, line: &[u8]) -> usize
     duties_nodes::with_both(text, table, n, from, to)
 }
 
+// The line's fault, or that of the counts; 0 where there is none.
 pub fn row_fault(text: &[u8], table: &[u32], n: usize, rows: usize, room: usize, line: &[u8]) -> u8
     requires { ⌜ n * nodeWidth ≤ length (now table) ⌝ }
     ensures { λ r. ⌜ r ≡ rowFault (view (now (text .entry)) (now (table .entry)) n) rows room (now (line .entry)) ⌝ }

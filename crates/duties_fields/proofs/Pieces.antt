@@ -1,20 +1,19 @@
 -- The pieces of a text by their numbers: where piece k starts, and what it is. Assumes nothing.
 use Prim.Native.Nat.{ℕ, zero, suc, _+_, _-_, _≤_, _<_}
-use mathlib.Core.Path.{_≡_, refl, sym, ap, ap₂, _∙_}
+use mathlib.Core.Path.{_≡_, refl, sym, ap, _∙_}
 use mathlib.Core.Bool.{Bool, true, false, cond, _&&_}
 use mathlib.Core.List.{List, [], _∷_}
 use native.Mathlib.Omega.{arith}
-use lib.Dec.{leb, ltb, eqb}
+use lib.Dec.{ltb, eqb}
 use lib.ListN.{length, getD, take, drop, length-drop}
 use lib.Seq.{take-all, drop-drop, length-take-le}
 use borrow.Author.Tests.{ltb-true, ltb-false}
 use Rattle.rules.specs.Lists.{every}
 use Rattle.rules.specs.Bytes.{comma, quote, splitOn, startOf, contentOf}
-use Rattle.text_read.specs.Places.{upTo, isOther}
-use Rattle.text_read.proofs.Runs.{lead-le}
+use Rattle.text_read.specs.Places.{upTo}
 use Rattle.text_read.proofs.Laws.{split-more, split-last, found-within, pieces-next, pieces-last}
 use Rattle.rules.specs.Duties.{columns, fieldIn, quotedBy, placeIn}
-use Rattle.duties_fields.specs.Fields.{orEmpty, sound, tenFrom, isTen}
+use Rattle.duties_fields.specs.Fields.{orEmpty, sound, tenFrom}
 
 start-none : (k : ℕ) → startOf k [] ≡ 0
 start-none zero = refl

@@ -1,17 +1,17 @@
 -- Times as texts. Assumes nothing.
-use Prim.Native.Nat.{ℕ, suc, _+_, _-_, _*_, _/_, _%_, _≤_, _<_}
+use Prim.Native.Nat.{ℕ, _+_, _-_, _*_, _/_, _%_, _≤_, _<_}
 use mathlib.Core.Path.{_≡_, refl, sym, ap, _∙_}
 use mathlib.Core.Bool.{Bool, true, false, _&&_, and-false}
 use mathlib.Core.List.{List, [], _∷_, _++_}
 use native.Mathlib.Omega.{arith}
-use lib.Dec.{leb, ltb, eqb}
+use lib.Dec.{eqb}
 use lib.ListN.{length, take, drop, length-drop}
 use lib.Seq.{take-all}
 use borrow.Author.Tests.{le-leb, lt-leb, lt-ltb, le-ltb}
 use Rattle.rules.specs.Lists.{sameList}
 use Rattle.rules.specs.Bytes.{digitZero}
 use Rattle.rules.specs.Limits.{mostTime, daySeconds, hourSeconds, minuteSeconds}
-use Rattle.rules.specs.Duties.{twoDigits, clock, timeText}
+use Rattle.rules.specs.Duties.{clock}
 use Rattle.duties_fields.specs.Fields.{timeIs}
 
 -- `is_clock`: its six digits

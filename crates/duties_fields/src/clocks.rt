@@ -1,10 +1,10 @@
 // Times of the day as texts.
 ghost use mathlib.Core.Path.{_≡_};
-ghost use Prim.Native.Nat.{_+_, _%_, _/_, _<_};
+ghost use Prim.Native.Nat.{_+_, _%_, _<_};
 ghost use Rattle.rules.specs.Bytes.{digitZero};
 ghost use Rattle.rules.specs.Limits.{daySeconds};
 ghost use Rattle.rules.specs.Lists.{sameList};
-ghost use Rattle.rules.specs.Duties.{clock, timeText};
+ghost use Rattle.rules.specs.Duties.{clock};
 ghost use Rattle.duties_fields.specs.Fields.{timeIs};
 use rules::sizes::Clock;
 use rules::sizes::Event;

@@ -1,6 +1,5 @@
 // Field k of a line, from 0.
 ghost use mathlib.Core.Path.{_≡_};
-ghost use Prim.Native.Nat.{_+_};
 ghost use Rattle.rules.specs.Bytes.{comma, splitOn, startOf};
 ghost use Rattle.rules.specs.Duties.{fieldIn, placeIn};
 ghost use Rattle.duties_fields.specs.Fields.{contentIn, isTen};

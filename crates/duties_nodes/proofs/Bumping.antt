@@ -10,7 +10,6 @@ use lib.IntN.{ℤ, pos, natAbs, _+ℤ_, +ℤ-idr}
 use mir.Syntax.{w32}
 use mir.Val.{SFits, toZ, ofZ}
 use mir.Facts.{toZ-ofZ}
-use Rattle.rules.specs.Limits.{nodeWidth}
 use Rattle.rules.specs.Lists.{sameList, over}
 use Rattle.rules.proofs.Truth.{by-case}
 use Rattle.rules_theorems.specs.Laying.{addAt}
@@ -18,7 +17,7 @@ use Rattle.rules_theorems.proofs.Parts.{size-part}
 use Rattle.rules_theorems.proofs.Sizes.{fits-small}
 use Rattle.tables_fill.proofs.Filling.{Filling, filling-none, filling-more}
 use Rattle.duties_nodes.specs.Nodes.{nameAt, namesFrom, view}
-use Rattle.duties_nodes.specs.Balances.{bumpedOne, bumpedAt, mostBalance, OneRoom, BumpRoom}
+use Rattle.duties_nodes.specs.Balances.{bumpedOne, bumpedAt, OneRoom, BumpRoom}
 use Rattle.duties_nodes.proofs.Walking.{one-off}
 
 -- ---- `clear`

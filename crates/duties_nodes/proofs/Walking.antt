@@ -6,13 +6,12 @@ use mathlib.Core.List.{List, [], _∷_, _++_}
 use mathlib.Core.Option.{Option, none, some}
 use native.Mathlib.Omega.{arith}
 use native.Mathlib.Numerals.{add-one}
-use lib.Dec.{ltb, eqb}
+use lib.Dec.{ltb}
 use lib.ListN.{length, getD, set, length-append}
-use lib.Seq.{sets}
-use borrow.Author.Tests.{ltb-true, ltb-false, lt-ltb, le-ltb}
+use borrow.Author.Tests.{lt-ltb, le-ltb}
 use Rattle.rules.specs.Limits.{nodeWidth}
 use Rattle.rules.specs.Lists.{any, sameList, placeFrom}
-use Rattle.rules.specs.Duties.{withName, seenAt}
+use Rattle.rules.specs.Duties.{withName}
 use Rattle.rules.proofs.Lists.{any-more}
 use Rattle.duties_fields.specs.Fields.{partOf}
 use Rattle.duties_nodes.specs.Nodes.{nameAt, namesFrom, view, orCount, placeOf, withBoth, Puts}

@@ -1,19 +1,19 @@
 -- The form of a row by its line: what the definition reads is what the code asks for. Assumes nothing.
 use Prim.Native.Nat.{ℕ, zero, suc, _+_}
-use mathlib.Core.Path.{_≡_, refl, sym, ap, ap₂, _∙_}
-use mathlib.Core.Bool.{Bool, true, false, cond, _&&_, and-false}
+use mathlib.Core.Path.{_≡_, refl, sym, ap, _∙_}
+use mathlib.Core.Bool.{Bool, true, false, cond, _&&_}
 use mathlib.Core.List.{List, [], _∷_, map}
 use mathlib.Core.Option.{Option, none, some}
 use native.Mathlib.Omega.{arith}
 use lib.Dec.{leb, ltb, eqb}
 use lib.ListN.{length, getD}
 use Rattle.rules.specs.Lists.{_>>=_, each, every, isSome}
-use Rattle.rules.specs.Answers.{Judged, wrong, right, judge, badRow, outOfRange, tooMany, unknownName, noRoom}
-use Rattle.rules.specs.Bytes.{comma, splitOn, contentOf, contentsOf, wholeOf}
-use Rattle.rules.specs.Limits.{mostTime, mostEvents, mostNodes}
-use Rattle.rules.specs.Duties.{columns, Event, isName, isCourse, isKnown, withNodes, nodesOf, tenOf, formOf, rowTests, judgeForm, rowOf, placeIn, dutyColumn, startTextColumn, endTextColumn, fromColumn, toColumn, typeColumn, seqColumn, startColumn, endColumn}
-use Rattle.duties_fields.specs.Fields.{orEmpty, contentIn, sound, isTen}
-use Rattle.duties_row.specs.Rowed.{orZero, isWhole, isNamed, hasWholes, isRow, eventIn, inRange, lineFault, countFault, orFault, judgedBy}
+use Rattle.rules.specs.Answers.{wrong, right, badRow, outOfRange, tooMany, unknownName, noRoom}
+use Rattle.rules.specs.Bytes.{comma, splitOn, contentOf, wholeOf}
+use Rattle.rules.specs.Limits.{mostEvents, mostNodes}
+use Rattle.rules.specs.Duties.{columns, Event, isKnown, withNodes, nodesOf, tenOf, formOf, judgeForm, rowOf, placeIn, dutyColumn, startTextColumn, endTextColumn, fromColumn, toColumn, typeColumn, seqColumn, startColumn, endColumn}
+use Rattle.duties_fields.specs.Fields.{orEmpty, contentIn, sound}
+use Rattle.duties_row.specs.Rowed.{orZero, isNamed, hasWholes, isRow, eventIn, inRange, lineFault, countFault, orFault, judgedBy}
 
 abbrev inside : List ℕ → List ℕ
 inside f = orEmpty (contentOf f)

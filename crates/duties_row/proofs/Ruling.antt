@@ -1,18 +1,17 @@
 -- The rules, one after the other, as the code tests them; and that the lowest is the definition's. Assumes nothing.
-use Prim.Native.Nat.{ℕ, zero, suc, _+_, _≤_, _<_, min}
+use Prim.Native.Nat.{ℕ, zero, suc, _+_, _≤_, _<_}
 use mathlib.Core.Path.{_≡_, refl, sym, ap, ap₂, _∙_}
 use mathlib.Core.Bool.{Bool, true, false, cond, not, _&&_, _||_}
 use mathlib.Core.List.{List, [], _∷_}
 use mathlib.Core.Option.{Option, none, some}
 use native.Mathlib.Omega.{arith}
-use lib.Dec.{leb, ltb, eqb}
+use lib.Dec.{ltb, eqb}
 use borrow.Author.Tests.{leb-true}
 use Rattle.rules.specs.Limits.{mostTime}
 use Rattle.rules.specs.Lists.{any, sameList}
-use Rattle.rules.specs.Answers.{Test, _needs_}
-use Rattle.rules.specs.Duties.{dutyColumn, seqColumn, startColumn, startTextColumn, endColumn, endTextColumn, fromColumn, toColumn, typeColumn, laterRule, staysRule, togetherRule, sequenceRule, meetsRule, textsRule, isTrain, timeText, Event, Before, rules, lowest}
+use Rattle.rules.specs.Answers.{_needs_}
+use Rattle.rules.specs.Duties.{dutyColumn, seqColumn, startColumn, startTextColumn, endColumn, endTextColumn, fromColumn, toColumn, typeColumn, laterRule, staysRule, togetherRule, sequenceRule, meetsRule, textsRule, isTrain, timeText, Before, rules, lowest}
 use Rattle.rules.proofs.Truth.{and-first, and-second}
-use Rattle.text_read.specs.Held.{pastId}
 use Rattle.duties_fields.specs.Fields.{contentIn, timeIs}
 use Rattle.duties_row.specs.Rowed.{valueOf, heldIn, isTime, inRange, eventIn, orFault}
 use Rattle.duties_row.specs.Ruled.{followsIn, laterIn, staysIn, sequenceIn, meetsIn, textsIn, firstRules, laterRules, ruleIn}

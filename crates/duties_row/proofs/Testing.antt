@@ -9,15 +9,14 @@ use lib.Dec.{leb, ltb, eqb}
 use lib.ListN.{length}
 use borrow.Author.Tests.{ne-eqb, le-leb, lt-leb, lt-ltb, le-ltb, leb-true, leb-false}
 use Rattle.rules.specs.Lists.{isSome, sameList}
-use Rattle.rules.specs.Limits.{mostId}
+use Rattle.rules.specs.Limits.{mostId, mostTime, mostEvents, mostNodes}
 use Rattle.rules.specs.Answers.{badRow, outOfRange, tooMany, unknownName, noRoom}
 use Rattle.rules.specs.Bytes.{bytes, wholeOf}
 use Rattle.text_read.specs.declared.numbers.Whole.{Whole}
 use Rattle.text_read.specs.declared.numbers.Whole.the-variants.{Number, Beyond, Malformed}
 use Rattle.text_read.specs.Held.{pastId, wholeHeld}
-use Rattle.rules.specs.Limits.{mostTime, mostEvents, mostNodes}
 use Rattle.rules.specs.Duties.{isTrain, isKnown, isCourse, isName, typeColumn, seqColumn, startColumn, endColumn, dutyColumn, fromColumn, toColumn, courseColumn}
-use Rattle.duties_fields.specs.Fields.{contentIn, isTen}
+use Rattle.duties_fields.specs.Fields.{contentIn}
 use Rattle.duties_row.specs.Rowed.{orZero, isWhole, valueOf, isTime, isNamed, hasWholes, isRow, inRange, lineFault, countFault}
 
 -- ---- chains

@@ -1,6 +1,6 @@
 -- A row by its line: its form, its event, its faults.
 use Prim.Native.Nat.{ℕ, suc, zero, min}
-use mathlib.Core.Bool.{Bool, true, false, cond, _&&_}
+use mathlib.Core.Bool.{Bool, cond, _&&_}
 use mathlib.Core.List.{List}
 use mathlib.Core.Option.{Option, none, some}
 use lib.Dec.{leb, ltb}

@@ -1,18 +1,16 @@
 -- Over all nodes, duties ending less duties starting add up to zero, whatever the rows. Assumes nothing.
 use Prim.Native.Nat.{ℕ, zero, suc, _+_, _≤_, _<_}
 use native.Mathlib.Omega.{arith}
-use mathlib.Core.Path.{_≡_, refl, sym, ap, ap₂, _∙_, subst}
+use mathlib.Core.Path.{_≡_, refl, sym, ap, ap₂, _∙_}
 use mathlib.Core.Bool.{Bool, true, false, cond, _&&_, _||_, true≢false}
 use mathlib.Core.List.{List, [], _∷_, _++_}
 use mathlib.Core.Option.{Option, none, some}
-use lib.Dec.{T, eqb, eqb-refl}
 use lib.ListN.{length}
 use lib.IntN.{ℤ, pos, _+ℤ_, _-ℤ_, negℤ, negℤ-+ℤ, +ℤ-invr}
-use borrow.Author.Tests.{eqb-true, eq-eqb}
 use Rattle.rules.specs.Lists.{any, sameList, sumOf}
 use Rattle.rules.specs.Verdict.{All}
 use Rattle.rules.proofs.Lists.{any-more, same-self, same-equal}
-use Rattle.rules.proofs.Truth.{and-first, and-second, by-case}
+use Rattle.rules.proofs.Truth.{by-case}
 use Rattle.rules_theorems.specs.Sized.{sumOfZ}
 use Rattle.rules_theorems.proofs.Parts.{interchange}
 use Rattle.rules_theorems.proofs.Sums.{list-add, sum-append}

@@ -4,12 +4,11 @@ use mathlib.Core.Path.{_≡_, refl, sym, ap, ap₂, _∙_}
 use mathlib.Core.Bool.{Bool, true, false, not, cond, _&&_, _||_, true≢false, false≢true}
 use mathlib.Core.List.{List, [], _∷_}
 use mathlib.Core.Option.{Option, none, some}
-use native.Mathlib.Omega.{arith}
 use lib.Dec.{ltb, eqb}
 use borrow.Author.Tests.{ltb-true, lt-ltb, eqb-true, eq-eqb}
 use Rattle.rules.specs.Lists.{any, sameList}
-use Rattle.rules.specs.Answers.{Test, _needs_}
-use Rattle.rules.specs.Rows.{RowFault, orElse}
+use Rattle.rules.specs.Answers.{_needs_}
+use Rattle.rules.specs.Rows.{orElse}
 use Rattle.rules.specs.Duties.{laterRule, staysRule, togetherRule, sequenceRule, meetsRule, textsRule, isTrain, timeText, Event, Before, nothingBefore, after, follows, seqAfter, meets, rules, lowest, brokenFrom, broken}
 use Rattle.rules.proofs.Truth.{and-first, and-second, missing}
 use Rattle.rules.proofs.Lists.{same-self, same-equal}

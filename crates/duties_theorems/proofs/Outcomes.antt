@@ -1,11 +1,11 @@
 -- Any outcomes of `check_duties`: the answer is the input's alone; accepted means that every row keeps every rule, and then the balances add up to zero; all else fills both tables. Assumes nothing.
-use Prim.Native.Nat.{ℕ, suc, _/_, min}
+use Prim.Native.Nat.{ℕ, _/_, min}
 use mathlib.Core.Path.{_≡_, refl, sym, ap, ap₂, _∙_}
 use mathlib.Core.List.{List, [], _∷_, _++_, map}
 use mathlib.Core.Logic.{_↔_}
 use mathlib.Core.Option.{Option, none, some}
 use native.Mathlib.Omega.{arith}
-use lib.ListN.{length, take, drop}
+use lib.ListN.{length, take, drop, length-map}
 use lib.Seq.{take-append-seam}
 use lib.IntN.{ℤ, pos, _+ℤ_}
 use Rattle.rules.specs.Limits.{nodeWidth, unsignedFill, signedFill}
@@ -16,7 +16,6 @@ use Rattle.rules.specs.Entries.{filled}
 use Rattle.rules.specs.Duties.{Event, nodesOf, broken, nothingBefore, balanceFrom, balances, eventsOf, nodeRoom, dutiesFrom, dutiesJudged, DutiesChecked, dutiesChecked}
 use Rattle.rules.specs.declared.answers.Told.{Told}
 use Rattle.rules.specs.declared.answers.Told.the-variants.{Accepted, Broken, Refused}
-use Rattle.rules.specs.declared.outcomes.Duties.{Duties}
 use Rattle.rules_theorems.specs.Sized.{sumOfZ}
 use Rattle.duties_theorems.specs.Kept.{AllKeep}
 use Rattle.duties_theorems.specs.Outcomes.{Outcome}
@@ -84,10 +83,6 @@ module _ (text t : List ℕ) (z : List ℤ) where
   sum-map f [] = refl
   sum-map f (n ∷ ns) = ap (λ (x : ℤ). f n +ℤ x) (sum-map f ns)
 
-  map-long : (f : List ℕ → ℤ) (ns : List (List ℕ)) → length (map f ns) ≡ length ns
-  map-long f [] = refl
-  map-long f (n ∷ ns) = ap suc (map-long f ns)
-
   front : (w : List ℤ) → take (length w) (over w z) ≡ w
   unfolding over
   front w = take-append-seam w (drop (length w) z)
@@ -97,7 +92,7 @@ module _ (text t : List ℕ) (z : List ℤ) where
       let w = taken n e in
       let es = w .rows in
       let b : dutiesChecked text t z .balance ≡ over (balances es) z = ap (λ (x : DutiesChecked). x .balance) (from-rows es (w .read) (w .kept)) in
-      let l : n ≡ length (balances es) = sym (w .count) ∙ sym (map-long (balanceFrom none es) (nodesOf es)) in
+      let l : n ≡ length (balances es) = sym (w .count) ∙ sym (length-map (nodesOf es) (balanceFrom none es)) in
       ap₂ (λ (k : ℕ) (x : List ℤ). sumOfZ (λ y. y) (take k x)) l b
       ∙ ap (sumOfZ (λ y. y)) (front (balances es))
       ∙ sum-map (balanceFrom none es) (nodesOf es)

@@ -1,3 +1,4 @@
+-- `duties_nodes::name_is` meets its contract. Assumes nothing.
 use borrow.Author.Needs.{needs}
 use Rattle.duties_nodes.proofs.Walking.{name-there}
 use Rattle.duties_nodes.proofs.name_is.Statement.{statement}

@@ -1,3 +1,4 @@
+-- `duties_nodes::place_of` meets its contract: what is left decides as the whole does. Assumes nothing.
 use borrow.Author.Needs.{needs}
 use Rattle.duties_nodes.specs.Nodes.{orCount}
 use denote.Ref.{now}

@@ -1,3 +1,4 @@
+-- `duties_nodes::put_node` meets its contract: two numbers are put behind the others, or nothing. Assumes nothing.
 use borrow.Author.Needs.{needs}
 use Rattle.duties_nodes.proofs.Walking.{put-known, put-new}
 use Rattle.duties_nodes.proofs.put_node.Statement.{statement}

@@ -1,3 +1,4 @@
+-- `duties_nodes::with_both` meets its contract: each name is known or new, and two new ones may be one. Assumes nothing.
 use borrow.Author.Needs.{needs}
 use Rattle.duties_nodes.proofs.Walking.{both-in, to-more, from-more, one-more, two-more}
 use Rattle.duties_nodes.proofs.with_both.Statement.{statement}

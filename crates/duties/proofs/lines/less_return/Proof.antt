@@ -1,3 +1,4 @@
+-- `duties::lines::less_return` meets its contract: the last byte decides. Assumes nothing.
 use borrow.Author.Needs.{needs}
 use Rattle.duties.proofs.Returns.{less-none, less-last, less-all}
 use Rattle.duties.proofs.lines.less_return.Statement.{statement}

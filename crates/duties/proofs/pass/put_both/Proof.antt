@@ -1,3 +1,4 @@
+-- `duties::pass::put_both` meets its contract: the table has room for both names. Assumes nothing.
 use borrow.Author.Needs.{needs}
 use Rattle.duties.proofs.Viewing.{ready-to}
 use Rattle.duties.proofs.pass.put_both.Statement.{statement}

@@ -1,3 +1,4 @@
+-- `duties::pass::read_rows` meets its contract: the rows before a place are read, and their nodes are in the table. Assumes nothing.
 use borrow.Author.Needs.{needs}
 use lib.ListN.{length}
 use Prim.Native.Nat.{_-_}

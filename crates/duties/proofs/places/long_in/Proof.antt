@@ -1,3 +1,4 @@
+-- `duties::places::long_in` meets its contract: so does its length. Assumes nothing.
 use borrow.Author.Needs.{needs}
 use native.Mathlib.Omega.{arith}
 use denote.Ref.{now}

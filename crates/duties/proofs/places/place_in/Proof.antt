@@ -1,3 +1,4 @@
+-- `duties::places::place_in` meets its contract: a content ends within a text of lawful length, so its place fits. Assumes nothing.
 use borrow.Author.Needs.{needs}
 use native.Mathlib.Omega.{arith}
 use denote.Ref.{now}

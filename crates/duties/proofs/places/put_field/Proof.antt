@@ -1,3 +1,4 @@
+-- `duties::places::put_field` meets its contract: what is put stands in the text at its place. Assumes nothing.
 use borrow.Author.Needs.{needs}
 use lib.ListN.{length}
 use mathlib.Core.Path.{ap, sym, _∙_}

@@ -1,3 +1,4 @@
+-- `duties::steps::nodes_with` meets its contract. Assumes nothing.
 use borrow.Author.Needs.{needs}
 use Rattle.duties.proofs.Viewing.{nodes-there}
 use Rattle.duties.proofs.steps.nodes_with.Statement.{statement}

@@ -1,3 +1,4 @@
+-- `duties::steps::row_fault` meets its contract: the line, then the counts. Assumes nothing.
 use borrow.Author.Needs.{needs}
 use Rattle.duties.proofs.Viewing.{step-line, step-counts}
 use Rattle.duties.proofs.steps.row_fault.Statement.{statement}

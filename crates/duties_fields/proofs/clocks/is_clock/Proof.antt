@@ -1,3 +1,4 @@
+-- `duties_fields::clocks::is_clock` meets its contract: six digits and two colons. Assumes nothing.
 use borrow.Author.Needs.{needs}
 use Rattle.duties_fields.proofs.Times.{clock-is}
 use Rattle.duties_fields.proofs.clocks.is_clock.Statement.{statement}

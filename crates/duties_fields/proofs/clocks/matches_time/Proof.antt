@@ -1,3 +1,4 @@
+-- `duties_fields::clocks::matches_time` meets its contract: the first three bytes, and then the clock. Assumes nothing.
 use borrow.Author.Needs.{needs}
 use Rattle.duties_fields.proofs.Times.{time-past, time-first, time-short, time-other, time-later}
 use Rattle.duties_fields.proofs.clocks.matches_time.Statement.{statement}

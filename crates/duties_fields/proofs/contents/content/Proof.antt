@@ -1,3 +1,4 @@
+-- `duties_fields::contents::content` meets its contract: between the quotes, or all of it. Assumes nothing.
 use borrow.Author.Needs.{needs}
 use Rattle.duties_fields.proofs.Quoted.{content-none, content-from, content-fits, content-is}
 use Rattle.duties_fields.proofs.contents.content.Statement.{statement}

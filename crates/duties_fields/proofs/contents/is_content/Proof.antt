@@ -1,3 +1,4 @@
+-- `duties_fields::contents::is_content` meets its contract: the first two quotes decide. Assumes nothing.
 use borrow.Author.Needs.{needs}
 use Rattle.duties_fields.proofs.Quoted.{is-plain, is-late, is-pair}
 use Rattle.duties_fields.proofs.contents.is_content.Statement.{statement}

@@ -1,3 +1,4 @@
+-- `duties_fields::contents::mark` meets its contract. Assumes nothing.
 use borrow.Author.Needs.{needs}
 use Rattle.duties_fields.proofs.Quoted.{mark-none, mark-one, mark-zero}
 use Rattle.duties_fields.proofs.contents.mark.Statement.{statement}

@@ -1,3 +1,4 @@
+-- `duties_fields::fields::content_at` meets its contract. Assumes nothing.
 use borrow.Author.Needs.{needs}
 use Rattle.duties_fields.proofs.Pieces.{content-there}
 use Rattle.duties_fields.proofs.fields.content_at.Statement.{statement}

@@ -1,3 +1,4 @@
+-- `duties_fields::fields::field` meets its contract: a field goes from its start to the next comma. Assumes nothing.
 use borrow.Author.Needs.{needs}
 use Rattle.duties_fields.proofs.Pieces.{field-past, field-within, field-here}
 use Rattle.duties_fields.proofs.fields.field.Statement.{statement}

@@ -1,3 +1,4 @@
+-- `duties_fields::fields::is_ten` meets its contract: what is left of the line has the fields that are left. Assumes nothing.
 use borrow.Author.Needs.{needs}
 use lib.ListN.{length, drop}
 use mathlib.Core.Path.{_≡_}

@@ -1,3 +1,4 @@
+-- `duties_fields::fields::place_at` meets its contract: a content stands behind its quote. Assumes nothing.
 use borrow.Author.Needs.{needs}
 use Rattle.duties_fields.proofs.Pieces.{place-past, place-plain, place-quoted}
 use Rattle.duties_fields.proofs.fields.place_at.Statement.{statement}

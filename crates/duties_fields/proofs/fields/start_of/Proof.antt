@@ -1,9 +1,10 @@
+-- `duties_fields::fields::start_of` meets its contract: what is left of the line has the fields that are left. Assumes nothing.
 use borrow.Author.Needs.{needs}
 use lib.ListN.{length, drop}
 use mathlib.Core.Path.{_≡_}
 use Prim.Native.Nat.{_+_, _-_, _≤_}
 use Rattle.rules.specs.Bytes.{comma, splitOn, startOf}
-use Rattle.duties_fields.proofs.Pieces.{start-past, start-next, start-here, field-within}
+use Rattle.duties_fields.proofs.Pieces.{start-past, start-next, start-here}
 use Rattle.duties_fields.proofs.fields.start_of.Statement.{statement}
 use Rattle.duties_fields.proofs.fields.start_of.Tie as tie
 

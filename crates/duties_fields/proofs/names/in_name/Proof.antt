@@ -1,3 +1,4 @@
+-- `duties_fields::names::in_name` meets its contract. Assumes nothing.
 use borrow.Author.Needs.{needs}
 use Rattle.duties_fields.proofs.Naming.{byte-low, byte-high, byte-quote, byte-other}
 use Rattle.duties_fields.proofs.names.in_name.Statement.{statement}

@@ -1,3 +1,4 @@
+-- `duties_fields::names::is_name` meets its contract: what is left decides as the whole does. Assumes nothing.
 use borrow.Author.Needs.{needs}
 use Rattle.rules.specs.Duties.{inName}
 use Rattle.rules.specs.Lists.{every}

@@ -1,3 +1,4 @@
+-- `duties_fields::names::part` meets its contract: past the end there is nothing. Assumes nothing.
 use borrow.Author.Needs.{needs}
 use Rattle.duties_fields.proofs.Naming.{part-past, part-rest, part-here}
 use Rattle.duties_fields.proofs.names.part.Statement.{statement}

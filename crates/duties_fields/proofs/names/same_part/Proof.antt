@@ -1,3 +1,4 @@
+-- `duties_fields::names::same_part` meets its contract. Assumes nothing.
 use borrow.Author.Needs.{needs}
 use Rattle.duties_fields.proofs.Naming.{same-there}
 use Rattle.duties_fields.proofs.names.same_part.Statement.{statement}

@@ -1,6 +1,5 @@
 -- `duties_nodes::balances::clear` meets its contract, by the laws of a fill. Assumes nothing.
 use Prim.Native.Nat.{_-_, _≤_}
-use lib.IntN.{pos}
 use borrow.Author.Needs.{needs}
 use Rattle.duties_nodes.proofs.Bumping.{Clearing, none-cleared, one-cleared, all-cleared}
 use Rattle.duties_nodes.proofs.balances.clear.Statement.{statement}

@@ -1,3 +1,4 @@
+-- `duties_row::faults::count_fault` meets its contract: the first test that fails. Assumes nothing.
 use borrow.Author.Needs.{needs}
 use Rattle.duties_row.proofs.Testing.{count-rows, count-nodes, count-none, count-room, count-unknown}
 use Rattle.duties_row.proofs.faults.count_fault.Statement.{statement}

@@ -1,3 +1,4 @@
+-- `duties_row::faults::line_fault` meets its contract: the form, then the range. Assumes nothing.
 use borrow.Author.Needs.{needs}
 use Rattle.duties_row.proofs.Testing.{fault-none, fault-range, fault-form}
 use Rattle.duties_row.proofs.faults.line_fault.Statement.{statement}

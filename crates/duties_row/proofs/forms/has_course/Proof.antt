@@ -1,3 +1,4 @@
+-- `duties_row::forms::has_course` meets its contract. Assumes nothing.
 use borrow.Author.Needs.{needs}
 use Rattle.duties_row.proofs.Testing.{course-there}
 use Rattle.duties_row.proofs.forms.has_course.Statement.{statement}

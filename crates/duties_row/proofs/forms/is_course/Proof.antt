@@ -1,3 +1,4 @@
+-- `duties_row::forms::is_course` meets its contract. Assumes nothing.
 use borrow.Author.Needs.{needs}
 use Rattle.duties_row.proofs.Testing.{course-name, course-none}
 use Rattle.duties_row.proofs.forms.is_course.Statement.{statement}

@@ -1,3 +1,4 @@
+-- `duties_row::forms::is_known` meets its contract. Assumes nothing.
 use borrow.Author.Needs.{needs}
 use Rattle.duties_row.proofs.Testing.{known-first, known-second, known-third}
 use Rattle.duties_row.proofs.forms.is_known.Statement.{statement}

@@ -1,3 +1,4 @@
+-- `duties_row::forms::is_named` meets its contract. Assumes nothing.
 use denote.Ref.{now}
 use borrow.Author.Needs.{needs}
 use Rattle.duties_row.proofs.Testing.{named-first, named-second, named-third, named-all}

@@ -1,3 +1,4 @@
+-- `duties_row::forms::is_row` meets its contract. Assumes nothing.
 use borrow.Author.Needs.{needs}
 use Rattle.duties_row.proofs.Testing.{all-three, no-first, no-second}
 use Rattle.duties_row.proofs.forms.is_row.Statement.{statement}

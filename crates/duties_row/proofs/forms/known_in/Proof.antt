@@ -1,3 +1,4 @@
+-- `duties_row::forms::known_in` meets its contract. Assumes nothing.
 use borrow.Author.Needs.{needs}
 use Rattle.duties_row.proofs.Testing.{known-there}
 use Rattle.duties_row.proofs.forms.known_in.Statement.{statement}

@@ -1,3 +1,4 @@
+-- `duties_row::forms::name_at` meets its contract. Assumes nothing.
 use borrow.Author.Needs.{needs}
 use Rattle.duties_row.proofs.Testing.{name-there}
 use Rattle.duties_row.proofs.forms.name_at.Statement.{statement}

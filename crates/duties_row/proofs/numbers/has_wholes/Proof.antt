@@ -1,3 +1,4 @@
+-- `duties_row::numbers::has_wholes` meets its contract. Assumes nothing.
 use denote.Ref.{now}
 use borrow.Author.Needs.{needs}
 use Rattle.duties_row.proofs.Testing.{wholes-first, wholes-second, wholes-all}

@@ -1,3 +1,4 @@
+-- `duties_row::numbers::in_range` meets its contract. Assumes nothing.
 use denote.Ref.{now}
 use borrow.Author.Needs.{needs}
 use Rattle.duties_row.proofs.Testing.{range-first, range-second, range-all}

@@ -1,3 +1,4 @@
+-- `duties_row::numbers::is_time` meets its contract: where a number is held it is past the limit too. Assumes nothing.
 use borrow.Author.Needs.{needs}
 use Rattle.duties_row.proofs.Testing.{time-is}
 use Rattle.duties_row.proofs.numbers.is_time.Statement.{statement}

@@ -1,3 +1,4 @@
+-- `duties_row::numbers::is_whole` meets its contract. Assumes nothing.
 use borrow.Author.Needs.{needs}
 use Rattle.duties_row.proofs.Testing.{whole-number, whole-beyond, whole-broken}
 use Rattle.duties_row.proofs.numbers.is_whole.Statement.{statement}

@@ -1,3 +1,4 @@
+-- `duties_row::numbers::time_at` meets its contract. Assumes nothing.
 use borrow.Author.Needs.{needs}
 use Rattle.duties_row.proofs.Testing.{time-there}
 use Rattle.duties_row.proofs.numbers.time_at.Statement.{statement}

@@ -1,3 +1,4 @@
+-- `duties_row::numbers::value` meets its contract: a number past the greatest id is held at one past it. Assumes nothing.
 use borrow.Author.Needs.{needs}
 use Rattle.duties_row.proofs.Testing.{value-number, value-beyond, value-none}
 use Rattle.duties_row.proofs.numbers.value.Statement.{statement}

@@ -1,3 +1,4 @@
+-- `duties_row::numbers::whole_at` meets its contract. Assumes nothing.
 use borrow.Author.Needs.{needs}
 use Rattle.duties_row.proofs.Testing.{whole-there}
 use Rattle.duties_row.proofs.numbers.whole_at.Statement.{statement}

@@ -5,9 +5,11 @@ ghost use Prim.Native.Nat.{_<_};
 ghost use lib.ListN.{length};
 ghost use Rattle.rules.specs.Timetable.{timetableHeader};
 ghost use Rattle.rules.specs.Profiles.{profilesHeader};
+ghost use Rattle.rules.specs.Duties.{dutiesHeader};
 ghost use Rattle.csv_header.specs.Heading.{beginsIn, steppedIn, comparedFrom};
 use csv_marks::Act;
 use csv_marks::Mark;
+use rules::sizes::Event;
 use rules::sizes::Leg;
 use rules::sizes::Profile;
 
@@ -111,4 +113,11 @@ pub fn profiles_header(part: &[u8], head: usize, mark: Mark) -> Headed
     ensures { λ r. ⌜ r ≡ comparedFrom profilesHeader mark head 0 (now (part .entry)) ⌝ }
 {
     compared(&Profile::HEADER, part, head, mark)
+}
+
+// The duties'.
+pub fn duties_header(part: &[u8], head: usize, mark: Mark) -> Headed
+    ensures { λ r. ⌜ r ≡ comparedFrom dutiesHeader mark head 0 (now (part .entry)) ⌝ }
+{
+    compared(&Event::HEADER, part, head, mark)
 }

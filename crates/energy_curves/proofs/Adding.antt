@@ -16,7 +16,7 @@ use Rattle.rules.specs.Limits.{mostKw}
 use Rattle.rules.specs.Verdict.{All}
 use Rattle.rules_theorems.specs.Laying.{addAt, Within}
 use Rattle.rules_theorems.proofs.Parts.{size-part}
-use Rattle.energy_parts.proofs.Sizes.{fits-small}
+use Rattle.rules_theorems.proofs.Sizes.{fits-small}
 use Rattle.energy_curves.specs.Room.{addedFrom, mostBefore, AddRoom}
 
 -- a bound on each is a bound at each place

@@ -17,7 +17,7 @@ use Rattle.rules_theorems.specs.Sized.{mostPower}
 use Rattle.rules_theorems.proofs.Parts.{size-part, size-neg}
 use Rattle.rules_theorems.proofs.Order.{Linear, up, down, extreme-at}
 use Rattle.energy_curves.specs.Curves.{CurveTable, powerIn, totalIn, fluctuationIn}
-use Rattle.energy_parts.proofs.Sizes.{fits-small, fits-long}
+use Rattle.rules_theorems.proofs.Sizes.{fits-small, fits-long}
 
 -- ---- the sum over subnets, at second i
 

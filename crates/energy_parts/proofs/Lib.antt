@@ -4,7 +4,6 @@ pub mod CutAtZero
 pub mod Listed
 pub mod SideSums
 pub mod Lookup
-pub mod Sizes
 pub mod WindowSums
 pub mod QuarterSteps
 pub mod QuarterSums

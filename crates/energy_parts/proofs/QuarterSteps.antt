@@ -21,7 +21,7 @@ use Rattle.rules_theorems.proofs.Sums.{sum-zero, sum-split}
 use Rattle.rules_theorems.proofs.Parts.{above-part, size-part}
 use Rattle.rules_theorems.proofs.Tabulate.{tabulate-length, tabulate-at}
 use Rattle.energy_parts.specs.Quarters.{quartersBefore, drawnBy, quarterTaken, withRun, RunRoom}
-use Rattle.energy_parts.proofs.Sizes.{fits-long}
+use Rattle.rules_theorems.proofs.Sizes.{fits-long}
 
 -- ---- sums with numbers added, up to entry k
 

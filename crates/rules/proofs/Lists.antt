@@ -3,13 +3,13 @@ use Prim.Native.Nat.{ℕ, zero, suc, _+_, _*_, _≤_, _<_}
 use native.Mathlib.Omega.{arith}
 use native.Mathlib.Nat.{suc-mul, le-of-suc-le-suc, not-suc-le-zero}
 use mathlib.Core.Path.{_≡_, refl, ap, ap₂, sym, _∙_}
-use mathlib.Core.Bool.{Bool, true, false, _&&_, false≢true}
+use mathlib.Core.Bool.{Bool, true, false, _&&_, _||_, false≢true}
 use mathlib.Core.List.{List, [], _∷_, _++_, append-assoc}
 use lib.Dec.{eqb}
 use lib.ListN.{length, getD, take, drop, length-append, length-drop}
 use lib.Seq.{sets, sets-eq, drop-drop, take-append-seam, drop-append-add}
 use borrow.Author.Tests.{eqb-true, eq-eqb}
-use Rattle.rules.specs.Lists.{every, lead, sameList, sameLists, flat, over}
+use Rattle.rules.specs.Lists.{every, any, lead, sameList, sameLists, flat, over}
 use Rattle.rules.specs.Energy.{tabulate}
 use Rattle.rules.proofs.Truth.{by-case, and-true}
 
@@ -21,6 +21,19 @@ every-more p [] x = and-true (p x)
 every-more p (y ∷ xs) x = rw (every-more p xs x) (go (p y))
   where
     go : (t : Bool) → t && (every p xs && p x) ≡ (t && every p xs) && p x
+    go true = refl
+    go false = refl
+
+-- any element, and one more
+pub any-more : {A : Type 0} (p : A → Bool) (xs : List A) (x : A) → any p (xs ++ x ∷ []) ≡ any p xs || p x
+any-more p [] x = go (p x)
+  where
+    go : (t : Bool) → t || false ≡ t
+    go true = refl
+    go false = refl
+any-more p (y ∷ xs) x = rw (any-more p xs x) (go (p y))
+  where
+    go : (t : Bool) → t || (any p xs || p x) ≡ (t || any p xs) || p x
     go true = refl
     go false = refl
 

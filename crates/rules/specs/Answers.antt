@@ -6,6 +6,9 @@ use Rattle.rules.specs.declared.answers.Refusal.{Refusal}
 use Rattle.rules.specs.declared.answers.Violation.{Violation}
 use Rattle.rules.specs.declared.answers.Answer.{Answer}
 use Rattle.rules.specs.declared.answers.Answer.the-variants.{Accepted, Violated, Refused}
+use Rattle.rules.specs.declared.answers.BrokenRule.{BrokenRule}
+use Rattle.rules.specs.declared.answers.Told.{Told}
+use Rattle.rules.specs.declared.answers.Told.the-variants as Told
 
 -- 1: H out of range
 abbrev pub badHorizon : ℕ
@@ -98,12 +101,18 @@ solutionFile = 4
 abbrev pub secondFile : ℕ
 secondFile = 5
 
+abbrev pub dutiesFile : ℕ
+dutiesFile = 6
+
 abbrev pub refusal : (number file place : ℕ) → Refusal
 refusal number file place = record { number = number; file = file; place = place }
 
 abbrev pub violation : (kind position inequality shortfall file : ℕ) → Violation
 violation kind position inequality shortfall file =
     record { kind = kind; position = position; inequality = inequality; shortfall = shortfall; file = file }
+
+abbrev pub brokenRule : (row rule place : ℕ) → BrokenRule
+brokenRule row rule place = record { row = row; rule = rule; place = place }
 
 -- document 01's values for each case of the answer: none; kind, position, inequality, shortfall, file; number, file, place
 abbrev pub valuesOf : Answer → List ℕ
@@ -120,6 +129,12 @@ abbrev pub isAccepted : Answer → Bool
 isAccepted Accepted = true
 isAccepted (Violated v) = false
 isAccepted (Refused r) = false
+
+-- of the duties (document 02, E13): how many nodes; row, rule, place; number, file, place
+abbrev pub toldValues : Told → List ℕ
+toldValues (Told.Accepted nodes) = nodes ∷ []
+toldValues (Told.Broken b) = b .row ∷ b .rule ∷ b .place ∷ []
+toldValues (Told.Refused r) = r .number ∷ r .file ∷ r .place ∷ []
 
 -- a file that was read, or the refusal that ends everything
 pub data Reading (A : Type 0) : Type 0 where

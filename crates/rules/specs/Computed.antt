@@ -13,7 +13,8 @@ use Rattle.rules.specs.Energy.{figuresOf, curvesOf, deskOf}
 use Rattle.rules.specs.Merge.{textOf}
 use Rattle.rules.specs.Display.{rowIn, rowAt}
 use Rattle.rules.specs.Entries.{allRead, checked, reported, bothRead, merged}
+use Rattle.rules.specs.Duties.{eventsOf, dutiesChecked}
 
 unfoldable pub computed : Unit {0}
-unfolding over csvOf timetableOf solutionOf profilesOf listNamed keyNamed keyIn typeNamed ruleOf tokensOf actionOf keysOf listName documentEnds recordOpens keyName recordEnds stringValue stringCut legValue subnetValue secondsValue numberValue tracksOpen trackNumber act turnOf run constraintsOf ordered known filesOf choicesRead tests verdict figuresOf curvesOf deskOf textOf rowIn rowAt allRead checked reported bothRead merged
+unfolding over csvOf timetableOf solutionOf profilesOf listNamed keyNamed keyIn typeNamed ruleOf tokensOf actionOf keysOf listName documentEnds recordOpens keyName recordEnds stringValue stringCut legValue subnetValue secondsValue numberValue tracksOpen trackNumber act turnOf run constraintsOf ordered known filesOf choicesRead tests verdict figuresOf curvesOf deskOf textOf rowIn rowAt allRead checked reported bothRead merged eventsOf dutiesChecked
 computed = tt

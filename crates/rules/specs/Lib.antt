@@ -1,4 +1,4 @@
--- The law book: document 01 as definitions, in the order in which a reader needs them.
+-- The law book: document 01, and what document 02 adds to it, as definitions, in the order in which a reader needs them.
 pub mod Limits
 pub mod Answers
 pub mod Lists
@@ -17,9 +17,11 @@ pub mod Energy
 pub mod Merge
 pub mod Display
 pub mod Entries
+pub mod Duties
 -- The worked examples, computed.
 pub mod Computed
 pub mod Examples
+pub mod DutyExamples
 -- What the code's constructors answer, and the numbers that its constants are.
 pub mod Made
 pub mod Ties

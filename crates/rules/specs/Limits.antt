@@ -89,6 +89,35 @@ mostTracks = 4_096
 abbrev pub trackWidth : ℕ
 trackWidth = 2
 
+-- rolling stock duties (document 02, E13): rows, nodes and the numbers of a node's entry, the bytes of a name, the greatest SEQ and time
+abbrev pub mostEvents : ℕ
+mostEvents = 8_192
+
+abbrev pub mostNodes : ℕ
+mostNodes = 1_024
+
+abbrev pub nodeWidth : ℕ
+nodeWidth = 2
+
+abbrev pub leastName : ℕ
+leastName = 1
+
+abbrev pub mostName : ℕ
+mostName = 32
+
+abbrev pub mostTime : ℕ
+mostTime = 863_999
+
+-- the seconds of a day, an hour and a minute
+abbrev pub daySeconds : ℕ
+daySeconds = 86_400
+
+abbrev pub hourSeconds : ℕ
+hourSeconds = 3_600
+
+abbrev pub minuteSeconds : ℕ
+minuteSeconds = 60
+
 -- what a lent table or text holds after a refusal
 abbrev pub unsignedFill : ℕ
 unsignedFill = 4_294_967_295

@@ -4,15 +4,17 @@ use Prim.Native.Nat.{ℕ}
 use mathlib.Core.Path.{_≡_}
 use mathlib.Core.List.{List}
 use lib.IntN.{ℤ}
-use Rattle.rules.specs.Answers.{valuesOf}
+use Rattle.rules.specs.Answers.{valuesOf, toldValues}
 use Rattle.rules.specs.Reading.{Texts}
 use Rattle.rules.specs.Merge.{mergeOf}
 use Rattle.rules.specs.Entries.{Tables, checked, reported, merged}
+use Rattle.rules.specs.Duties.{dutiesChecked}
 use Rattle.rules.specs.declared.stated.Stated.{Stated}
 use Rattle.rules.specs.declared.outcomes.Checked.{Checked}
 use Rattle.rules.specs.declared.outcomes.Report.{Report}
 use Rattle.rules.specs.declared.outcomes.Merged.{Merged}
 use Rattle.rules.specs.declared.outcomes.Direction.{Direction}
+use Rattle.rules.specs.declared.outcomes.Duties.{Duties}
 
 -- In each: what is stated, S, the files' texts x, and the solution, or two of them, a and b; as they were lent, the tables t and the choices c, with the curves p, or with the second
 -- choices d and the text's buffer w; what is given back, r; and what was lent, as it is left, with a ′.
@@ -43,3 +45,10 @@ pub record Merges (direction : Direction) (S : Stated) (x : Texts) (a b : List �
   pub choices : c′ ≡ merged (mergeOf direction) S x a b t c d w .choices
   pub second : d′ ≡ merged (mergeOf direction) S x a b t c d w .second
   pub text : w′ ≡ merged (mergeOf direction) S x a b t c d w .text
+
+-- `check_duties`: the text; the nodes n and the balance z as they were lent
+pub record ChecksDuties (text n : List ℕ) (z : List ℤ) (r : Duties) (n′ : List ℕ) (z′ : List ℤ) : Type 0 where
+  pub answer : r .answer ≡ dutiesChecked text n z .answer
+  pub values : toldValues (r .answer) ≡ toldValues (dutiesChecked text n z .answer)
+  pub nodes : n′ ≡ dutiesChecked text n z .nodes
+  pub balance : z′ ≡ dutiesChecked text n z .balance

@@ -1,6 +1,6 @@
-// The three answers of document 01: accepted, the first violation, a numbered refusal; and a verdict's tally.
+// The three answers of document 01: accepted, the first violation, a numbered refusal; and a verdict's tally. The duties have their own three.
 ghost use mathlib.Core.Path.{_≡_};
-ghost use Rattle.rules.specs.Answers.{refusal, violation};
+ghost use Rattle.rules.specs.Answers.{refusal, violation, brokenRule};
 ghost use Rattle.rules.specs.Tally.{noTests, counted, Countable};
 use crate::kinds::Kind;
 
@@ -19,6 +19,8 @@ impl File {
     pub const SOLUTION: u8 = 4;
 
     pub const SECOND_SOLUTION: u8 = 5;
+
+    pub const DUTIES: u8 = 6;
 }
 
 pub struct Refusal {
@@ -100,6 +102,28 @@ impl Violation {
 pub enum Answer {
     Accepted,
     Violated(Violation),
+    Refused(Refusal),
+}
+
+// The first row of the duties, from 0, that breaks a rule, its lowest rule, and its first byte.
+pub struct BrokenRule {
+    pub row: u32,
+    pub rule: u8,
+    pub place: u32,
+}
+
+impl BrokenRule {
+    pub fn new(row: u32, rule: u8, place: u32) -> BrokenRule
+        ensures { λ r. ⌜ r ≡ brokenRule row rule place ⌝ }
+    {
+        BrokenRule { row, rule, place }
+    }
+}
+
+// What is answered of the duties (document 02, E13): accepted, with so many nodes; the first broken row; a refusal.
+pub enum Told {
+    Accepted(u32),
+    Broken(BrokenRule),
     Refused(Refusal),
 }
 

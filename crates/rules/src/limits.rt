@@ -3,6 +3,7 @@ ghost use mathlib.Core.Path.{_≡_};
 ghost use Rattle.rules.specs.Ties.{limits, signedFills, numbers, names};
 ghost use Rattle.rules.specs.Timetable.{timetableHeader};
 ghost use Rattle.rules.specs.Profiles.{profilesHeader};
+ghost use Rattle.rules.specs.Duties.{dutiesHeader};
 use crate::answers::File;
 use crate::answers::Refusal;
 use crate::figures::Figures;
@@ -11,13 +12,19 @@ use crate::kinds::Edition;
 use crate::kinds::Key;
 use crate::kinds::Kind;
 use crate::sizes::Choice;
+use crate::sizes::Clock;
+use crate::sizes::Column;
 use crate::sizes::Configuration;
 use crate::sizes::Constraint;
+use crate::sizes::Event;
 use crate::sizes::Fill;
 use crate::sizes::Horizon;
 use crate::sizes::Id;
 use crate::sizes::Leg;
+use crate::sizes::Name;
+use crate::sizes::Node;
 use crate::sizes::Profile;
+use crate::sizes::Rule;
 use crate::sizes::Sample;
 use crate::sizes::Subnet;
 use crate::sizes::Text;
@@ -25,7 +32,7 @@ use crate::sizes::Track;
 use crate::tokens::Lists;
 
 // Sizes and widths, in the order of specs/Ties.antt.
-const LIMITS: [u64; 32] = [
+const LIMITS: [u64; 41] = [
     Horizon::LEAST as u64,
     Horizon::MOST as u64,
     Horizon::QUARTER as u64,
@@ -53,6 +60,15 @@ const LIMITS: [u64; 32] = [
     Subnet::MOST as u64,
     Track::WIDTH as u64,
     Track::MOST as u64,
+    Event::MOST as u64,
+    Node::MOST as u64,
+    Node::WIDTH as u64,
+    Name::LEAST as u64,
+    Name::MOST as u64,
+    Event::MOST_TIME as u64,
+    Clock::DAY as u64,
+    Clock::HOUR as u64,
+    Clock::MINUTE as u64,
     Fill::UNSIGNED as u64,
     Fill::BYTE as u64,
     Figures::MOST as u64,
@@ -60,7 +76,7 @@ const LIMITS: [u64; 32] = [
     Figures::KJ_A_MW as u64,
 ];
 
-pub fn limits_are_the_laws() -> [u64; 32]
+pub fn limits_are_the_laws() -> [u64; 41]
     ensures { λ r. ⌜ r ≡ limits ⌝ }
 {
     LIMITS
@@ -74,7 +90,7 @@ pub fn signed_fill_is_the_law() -> [i32; 1]
 }
 
 // The numbers of refusals, and the files.
-const NUMBERS: [u64; 24] = [
+const NUMBERS: [u64; 25] = [
     Refusal::HORIZON as u64,
     Refusal::TOO_LONG as u64,
     Refusal::HEADER as u64,
@@ -99,16 +115,17 @@ const NUMBERS: [u64; 24] = [
     File::CONSTRAINTS as u64,
     File::SOLUTION as u64,
     File::SECOND_SOLUTION as u64,
+    File::DUTIES as u64,
 ];
 
-pub fn numbers_are_the_laws() -> [u64; 24]
+pub fn numbers_are_the_laws() -> [u64; 25]
     ensures { λ r. ⌜ r ≡ numbers ⌝ }
 {
     NUMBERS
 }
 
-// The kinds, lists, keys, anchors and connection types.
-const NAMES: [u64; 30] = [
+// The kinds, lists, keys, anchors and connection types; the columns, rules and bytes of the duties.
+const NAMES: [u64; 49] = [
     Kind::NOT_OFFERED as u64,
     Kind::HEADWAY as u64,
     Kind::SINGLE_TRACK as u64,
@@ -139,9 +156,28 @@ const NAMES: [u64; 30] = [
     Constraint::NO_TYPE as u64,
     Constraint::ARRIVAL as u64,
     Constraint::DEPARTURE as u64,
+    Column::DUTY as u64,
+    Column::SEQ as u64,
+    Column::START as u64,
+    Column::START_TEXT as u64,
+    Column::END as u64,
+    Column::END_TEXT as u64,
+    Column::FROM as u64,
+    Column::TO as u64,
+    Column::KIND as u64,
+    Column::COURSE as u64,
+    Column::ALL as u64,
+    Rule::LATER as u64,
+    Rule::STAYS as u64,
+    Rule::TOGETHER as u64,
+    Rule::SEQUENCE as u64,
+    Rule::MEETS as u64,
+    Rule::TEXTS as u64,
+    Name::FIRST_BYTE as u64,
+    Name::LAST_BYTE as u64,
 ];
 
-pub fn names_are_the_laws() -> [u64; 30]
+pub fn names_are_the_laws() -> [u64; 49]
     ensures { λ r. ⌜ r ≡ names ⌝ }
 {
     NAMES
@@ -158,4 +194,10 @@ pub fn profiles_header_is_the_law() -> [u8; Profile::HEADER_LENGTH]
     ensures { λ r. ⌜ r ≡ profilesHeader ⌝ }
 {
     Profile::HEADER
+}
+
+pub fn duties_header_is_the_law() -> [u8; Event::HEADER_LENGTH]
+    ensures { λ r. ⌜ r ≡ dutiesHeader ⌝ }
+{
+    Event::HEADER
 }

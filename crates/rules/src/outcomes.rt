@@ -1,5 +1,6 @@
 // What the entries give back, and which merge is asked for. Every crate that makes a part of an outcome names these; what is promised of each stands in ../specs/Promises.antt.
 use crate::answers::Answer;
+use crate::answers::Told;
 use crate::figures::Desk;
 use crate::figures::Figures;
 
@@ -19,6 +20,11 @@ pub struct Report {
 pub struct Merged {
     pub answer: Answer,
     pub length: usize,
+}
+
+// What `check_duties` gives back.
+pub struct Duties {
+    pub answer: Told,
 }
 
 // Which of two choices `merge` takes at each leg. An enum, so that there is no wrong one.

@@ -1,4 +1,4 @@
-// Each limit and each width of document 01 ("Sizes", "The tables") stands here once, with the type it belongs to.
+// Each limit and each width of document 01 ("Sizes", "The tables"), and of document 02's duties, stands here once, with the type it belongs to.
 ghost use mathlib.Core.Path.{_≡_};
 ghost use Rattle.rules.specs.Limits as law;
 ghost use Rattle.rules.specs.Made.{horizonMade, configurationMade, legMade, profileMade, sampleMade};
@@ -344,6 +344,111 @@ impl Track {
     pub const SUBNET_AT: usize = 1;
 
     pub const MOST: usize = 4_096;
+}
+
+// A row of the rolling stock duties: one event of a duty.
+pub struct Event {}
+
+impl Event {
+    pub const MOST: usize = 8_192;
+
+    // The greatest SEQ, and the greatest seconds.
+    pub const MOST_TIME: u32 = 863_999;
+
+    // The first line of the duties, its LF too.
+    pub const HEADER_LENGTH: usize = 129;
+
+    pub const HEADER: [u8; Event::HEADER_LENGTH] =
+        *b"DUTY_ID,SEQ,START_TIME_SECONDS,START_TIME_HHMMSS,END_TIME_SECONDS,END_TIME_HHMMSS,START_NODE,END_NODE,EVENT_TYPE,TRAIN_COURSE_ID\n";
+
+    // The event types.
+    pub const TRAIN: [u8; 5] = *b"TRAIN";
+
+    pub const CHANGE_END: [u8; 10] = *b"CHANGE_END";
+
+    pub const SPARE: [u8; 5] = *b"SPARE";
+}
+
+// The columns of the duties, from 0.
+pub struct Column {}
+
+impl Column {
+    pub const DUTY: usize = 0;
+
+    pub const SEQ: usize = 1;
+
+    pub const START: usize = 2;
+
+    pub const START_TEXT: usize = 3;
+
+    pub const END: usize = 4;
+
+    pub const END_TEXT: usize = 5;
+
+    pub const FROM: usize = 6;
+
+    pub const TO: usize = 7;
+
+    pub const KIND: usize = 8;
+
+    pub const COURSE: usize = 9;
+
+    pub const ALL: usize = 10;
+}
+
+// The rules of the duties, by their numbers; 0 where none is broken.
+pub struct Rule {}
+
+impl Rule {
+    pub const NONE: u8 = 0;
+
+    pub const LATER: u8 = 1;
+
+    pub const STAYS: u8 = 2;
+
+    pub const TOGETHER: u8 = 3;
+
+    pub const SEQUENCE: u8 = 4;
+
+    pub const MEETS: u8 = 5;
+
+    pub const TEXTS: u8 = 6;
+}
+
+// A node of the duties: where its name first stands in the text, and how long it is.
+pub struct Node {}
+
+impl Node {
+    pub const WIDTH: usize = 2;
+
+    // An entry of the table begins with the place; this is where the length stands.
+    pub const LENGTH_AT: usize = 1;
+
+    pub const MOST: usize = 1_024;
+}
+
+// A name in the duties: its least and greatest length, its least and greatest byte.
+pub struct Name {}
+
+impl Name {
+    pub const LEAST: usize = 1;
+
+    pub const MOST: usize = 32;
+
+    pub const FIRST_BYTE: u8 = b'!';
+
+    pub const LAST_BYTE: u8 = b'~';
+}
+
+// The seconds of a day, an hour and a minute.
+pub struct Clock {}
+
+impl Clock {
+    pub const DAY: u32 = 86_400;
+
+    pub const HOUR: u32 = 3_600;
+
+    pub const MINUTE: u32 = 60;
 }
 
 // What a lent table holds after a refusal: a number that no field can have.

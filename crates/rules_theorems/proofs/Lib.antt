@@ -6,6 +6,7 @@ pub mod Each
 pub mod Sums
 pub mod Order
 pub mod Parts
+pub mod Sizes
 pub mod Tabulate
 -- Timetables and profiles: what a text that is read without refusal is, and that what is written is read back
 pub mod GoodText

@@ -5,19 +5,18 @@ use mathlib.Core.Bool.{Bool, true, false, cond}
 use mathlib.Core.List.{List, [], _∷_}
 use mathlib.Core.Option.{Option, none, some}
 use native.Mathlib.Omega.{arith}
-use lib.Dec.{eqb}
 use lib.ListN.{length, drop}
 use borrow.Author.Tests.{le-leb, lt-leb}
 use Rattle.rules.specs.Limits.{mostText, configurationWidth}
 use Rattle.rules.specs.Lists.{flat, over}
 use Rattle.rules.specs.Answers.{refusal, tooLong, badHeader, Reading, refused, good, _>>=_, Judged}
-use Rattle.rules.specs.Bytes.{lineFeed, onto, splitOn}
+use Rattle.rules.specs.Bytes.{lineFeed, splitOn}
 use Rattle.rules.specs.Rows as Rows
-use Rattle.rules.specs.Rows.{heads, rowsFrom, csvOf}
+use Rattle.rules.specs.Rows.{rowsFrom, csvOf}
 use Rattle.rules.specs.Timetable.{Row, rowOf, solutionFits, solutionOf, timetableNames, choicesOf, configurationNumbers}
 use Rattle.rules.specs.Reading.{Files, differsFrom, matched, choicesRead}
 use Rattle.rules.specs.declared.sizes.Configuration.{Configuration}
-use Rattle.rules.proofs.Pieces.{split-cons}
+use Rattle.csv_header.proofs.Below as Below
 use Rattle.solution_row.specs.declared.draft.Choices.{Choices}
 use Rattle.solution_row.specs.declared.draft.Choices.the-variants.{Fault, Read}
 use Rattle.solution.specs.Promise.{Able, HoldsRows, choicesAnswer, ChoicesRead}
@@ -25,77 +24,15 @@ use Rattle.solution.specs.Whole.{headEnd, Headed, rowsAfter, choicesAfte
 use Rattle.solution.proofs.Differing.{choices-length}
 use Rattle.solution.proofs.Unpacking.{choices-out}
 
--- the text's second line and those after it start behind the first line's LF
-rest-of : (s p q : List ℕ) (ps : List (List ℕ)) → splitOn lineFeed s ≡ p ∷ q ∷ ps → (splitOn lineFeed (drop (suc (length p)) s) ≡ q ∷ ps) × (length p < length s)
-rest-of [] p q ps e = let z : _≡_ {A = ℕ} 0 1 = cc in absurd (omega arith)
-rest-of (b ∷ s) p q ps e = go (eqb b lineFeed) (split-cons lineFeed s) (rest-of s) e
-  where
-    go : (t : Bool) → (x : List ℕ) × (more : List (List ℕ)) × (splitOn lineFeed s ≡ x ∷ more)
-        → ((p q : List ℕ) (ps : List (List ℕ)) → splitOn lineFeed s ≡ p ∷ q ∷ ps → (splitOn lineFeed (drop (suc (length p)) s) ≡ q ∷ ps) × (length p < length s))
-        → cond t ([] ∷ splitOn lineFeed s) (onto b (splitOn lineFeed s)) ≡ p ∷ q ∷ ps
-        → (splitOn lineFeed (drop (length p) s) ≡ q ∷ ps) × (length p < suc (length s))
-    go true c ih e =
-        let nothing : p ≡ [] = cc in
-        let rest : splitOn lineFeed s ≡ q ∷ ps = cc in
-        rw nothing (rest, omega arith)
-    go false c ih e =
-        let whole : (b ∷ c .0) ∷ c .1 ≡ p ∷ q ∷ ps = sym (ap (onto b) (c .2)) ∙ e in
-        let front : p ≡ b ∷ c .0 = cc in
-        let back : c .1 ≡ q ∷ ps = cc in
-        let w = ih (c .0) q ps (c .2 ∙ ap (λ (y : List (List ℕ)). c .0 ∷ y) back) in
-        rw front (w .0, omega (arith, w .1))
-
 module _ (H : ℕ) (text legs : List ℕ) (n from : ℕ) (ends : from ≡ headEnd (splitOn lineFeed text)) (some-end : from ≡ 0 → ⊥) where
   pub headed : Able H legs n → length text ≤ mostText → Headed H text legs n from
-  headed a l = go (splitOn lineFeed text) refl ends
-    where
-      go : (ps : List (List ℕ)) → splitOn lineFeed text ≡ ps → from ≡ headEnd ps → Headed H text legs n from
-      go [] e f = absurd (some-end f)
-      go (p ∷ []) e f = absurd (some-end f)
-      go (p ∷ q ∷ ps) e f = by-test (heads timetableNames p) f
-        where
-          by-test : (t : Bool) → from ≡ cond t (length p + 1) 0 → Headed H text legs n from
-          by-test true f =
-              let w = rest-of text p q ps e in
-              let at : from ≡ suc (length p) = omega arith in
-              record {
-                able = a;
-                short = l;
-                first = p;
-                first-is = e ∙ ap (λ (y : List (List ℕ)). p ∷ y) (sym (w .0) ∙ ap (λ (x : ℕ). splitOn lineFeed (drop x text)) (sym at));
-                from-is = f;
-                inside = omega (arith, w .1);
-              }
-          by-test false f = absurd (some-end f)
+  headed a l =
+      let b = Below.below timetableNames text from ends some-end in
+      record { able = a; short = l; first = b .first; first-is = b .lines; from-is = b .from-is; inside = b .within }
 
   -- the definition's rows are those from there on
   headed-rows : (file : ℕ) (judge : List Row → List ℕ → Judged Row) → Rows.headed file judge timetableNames (splitOn lineFeed text) ≡ rowsFrom file judge from [] (splitOn lineFeed (drop from text))
-  headed-rows file judge = go (splitOn lineFeed text) refl ends
-    where
-      go : (ps : List (List ℕ)) → splitOn lineFeed text ≡ ps → from ≡ headEnd ps
-          → Rows.headed file judge timetableNames ps ≡ rowsFrom file judge from [] (splitOn lineFeed (drop from text))
-      go [] e f = absurd (some-end f)
-      go (p ∷ []) e f = absurd (some-end f)
-      go (p ∷ q ∷ ps) e f = by-test (heads timetableNames p) f
-        where
-          by-test : (t : Bool) → from ≡ cond t (length p + 1) 0
-              → cond t (rowsFrom file judge (length p + 1) [] (q ∷ ps)) (refused (refusal badHeader file 0)) ≡ rowsFrom file judge from [] (splitOn lineFeed (drop from text))
-          by-test true f =
-              let w = rest-of text p q ps e in
-              let at : suc (length p) ≡ from = omega arith in
-              ap (λ (x : ℕ). rowsFrom file judge x [] (q ∷ ps)) (sym f)
-              ∙ ap (rowsFrom file judge from []) (sym (w .0) ∙ ap (λ (x : ℕ). splitOn lineFeed (drop x text)) at)
-          by-test false f = absurd (some-end f)
-
-headless : (file : ℕ) (judge : List Row → List ℕ → Judged Row) (ps : List (List ℕ)) → 0 ≡ headEnd ps → Rows.headed file judge timetableNames ps ≡ refused (refusal badHeader file 0)
-headless file judge [] e = refl
-headless file judge (p ∷ []) e = refl
-headless file judge (p ∷ q ∷ ps) e = by-test (heads timetableNames p) e
-  where
-    by-test : (t : Bool) → 0 ≡ cond t (length p + 1) 0
-        → cond t (rowsFrom file judge (length p + 1) [] (q ∷ ps)) (refused (refusal badHeader file 0)) ≡ refused (refusal badHeader file 0)
-    by-test true e = absurd (omega arith)
-    by-test false e = refl
+  headed-rows file judge = Below.headed-rows timetableNames text from ends some-end file judge
 
 module _ (H : ℕ) (text legs : List ℕ) (n : ℕ) (lent now : List ℕ) where
   -- the rows, and then 14
@@ -120,7 +57,7 @@ module _ (H : ℕ) (text legs : List ℕ) (n : ℕ) (lent now : List ℕ) where
     -- 3: the header differs
     pub read-headless : from ≡ 0 → ChoicesRead H text legs n lent (Fault badHeader 0) now
     unfolding solutionOf csvOf
-    read-headless u = refused-whole badHeader (λ file. rw (le-leb (length text) mostText short) (headless file (rowOf H (solutionFits (length lent / configurationWidth))) (splitOn lineFeed text) (sym u ∙ ends)))
+    read-headless u = refused-whole badHeader (λ file. rw (le-leb (length text) mostText short) (Below.headless timetableNames text from ends file (rowOf H (solutionFits (length lent / configurationWidth))) u))
 
     module _ (u : from ≡ 0 → ⊥) (answer : Choices) (choices : List ℕ) (rows : RowsRead H text legs n from lent answer choices) where
       rows-are : (files : Files) (file : ℕ) → choicesRead H files file (length lent) text ≡ choicesAfter file (files .rows) text (rowsAfter H file from lent text)

@@ -1,0 +1,10 @@
+pub mod Returns
+pub mod Viewing
+pub mod Standing
+pub mod Holding
+pub mod Passing
+pub mod Turning
+pub mod Resting
+pub mod Owing
+pub mod Judging
+pub mod Telling

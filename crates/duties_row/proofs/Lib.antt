@@ -1,0 +1,3 @@
+pub mod Forming
+pub mod Testing
+pub mod Ruling

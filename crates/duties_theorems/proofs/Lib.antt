@@ -1,0 +1,4 @@
+pub mod Balance
+pub mod Keeping
+pub mod Outcomes
+pub mod Refusals

@@ -17,7 +17,7 @@ use Rattle.csv_machine.specs.Machine.{inRow as rowAt, stopped as stoppedAt, Fau
 use Rattle.csv_machine.proofs.Machine.{faulty-fold}
 use Rattle.csv_machine.proofs.Fold.{fold-drop, fold-end}
 use Rattle.csv_marks.specs.declared.Mark.{Mark}
-use Rattle.csv_marks.specs.declared.Mark.the-variants.{Bare}
+use Rattle.csv_marks.specs.declared.Mark.the-variants.{Bare, Within}
 use Rattle.csv_marks.specs.Turns.{marked, takes, plainUnder}
 use Rattle.csv_marks.proofs.Late.{late, late-most, late-open, late-shut}
 use Rattle.csv_header.specs.declared.Headed.{Headed}
@@ -40,8 +40,12 @@ use Rattle.profiles_state.specs.Holds.{Holds, in-id, in-whole, in-fraction, at-
 use Rattle.profiles.specs.declared.reader.Reader.{Reader}
 use Rattle.profiles.specs.declared.reader.Many.{Many}
 use Rattle.profiles.specs.declared.reader.Moved.{Moved}
-use Rattle.profiles.specs.Feeds.{Held, in-header, in-rows, Feeds, Alive, Lined, opened, begunAt, countIn, ManyRead, Skips, Quickens}
+use Rattle.profiles.specs.declared.reader.Crossed.{Crossed}
+use Rattle.profiles.specs.Feeds.{Held, in-header, in-rows, Feeds, Alive, Lined, opened, begunAt, countIn, ManyRead, Skips, Quickens, TurnedAt, CrossedTo}
 use Rattle.profiles_sample.specs.Quick.{Samples, lasting}
+use Rattle.profiles_sample.specs.declared.Headed.{Headed as Head}
+use Rattle.profiles_sample.specs.declared.Headed.the-variants.{At as HeadAt}
+use Rattle.profiles_sample.specs.Heads.{ListAfter, Heads, headed as head-there}
 use Rattle.profiles_state.proofs.Fraction.{fraction-space}
 use Rattle.profiles_state.proofs.Marking.{Other, other-space, turn-plain}
 use Rattle.profiles_state.proofs.Leaps.{leap-none, leap-then, leap-step}
@@ -180,14 +184,6 @@ count-below at-stop = omega arith
 
 -- ---- a turn
 
--- a turn of the loop at a byte of a part: it goes on, but for a byte that is left once, under a mark that takes contents
-pub record TurnedAt (gone : ℕ) (state : State) (mark : Mark) (profiles : List ℕ) (samples : List ℤ) (part : List ℕ) (i : ℕ) (state′ : State) (mark′ : Mark) (j : ℕ) (profiles′ : List ℕ) (samples′ : List ℤ) : Type 0 where
-  pub onward : i ≤ j
-  pub inside : j ≤ length part
-  pub stays : j ≡ i → (takes mark ≡ false) × (takes mark′ ≡ true)
-  pub leads : (profiles₀ : List ℕ) (samples₀ : List ℤ) (text : Read) → Stands profiles₀ samples₀ (gone + i) mark state profiles samples text
-      → Leads profiles₀ samples₀ (gone + j) mark′ state′ profiles′ samples′ (drop (j) part) (reading profiles₀ samples₀ text (drop i part))
-
 -- the samples after a byte may be counted
 pub turn-count : {state one : State} {profiles profiles′ : List ℕ} {samples samples′ : List ℤ} (gone i long b : ℕ) → Steps (gone + i) state profiles samples b one profiles′ samples′
     → Live (gone + i) state profiles samples → gone + long ≤ mostText → countIn one + long ≤ mostText + (i + 1)
@@ -273,6 +269,29 @@ module _ {gone : ℕ} {state : State} {mark : Mark} {profiles : List ℕ} {sampl
                 ∙ ap (λ (x : Read). reading profiles₀ samples₀ x (drop (i + 1) part)) (l .leads)
                 ∙ sym (fold-drop (read (length profiles₀ / profileWidth) (length samples₀)) text part i h));
           }
+
+-- the row's id is read with the quotes about it
+pub crossed-row : {part : List ℕ} {from : ℕ} {mark : Mark} {state : State} {x : Head} (past : Past) (n : Number) (id next : ℕ) (l : Listed) → state ≡ Id past n → n ≡ Empty → mark ≡ Bare → Heads part from x
+    → x ≡ HeadAt id next → ListAfter id l → CrossedTo part from mark state (record { state = Whole past l false Empty; mark = Within; next = next })
+crossed-row {part} {from} past n id next l e z m heads q after gone profiles samples = rw (e, z, m) (go (rw q at heads))
+  where
+    go : Heads part from (HeadAt id next) → TurnedAt gone (Id past Empty) Bare profiles samples part from (Whole past l false Empty) Within next profiles samples
+    go (head-there h crosses) =
+        let x = crosses past l after in
+        record { onward = omega arith; inside = x .inside; stays = λ same. absurd (omega arith); leads = x .crosses gone profiles samples }
+
+pub crossed-byte : {part : List ℕ} {from : ℕ} {mark : Mark} {state : State} {v : Passed} {moved : Moved} → from < length part → plainUnder mark (getD part from 0) ≡ false
+    → Passes state mark (getD part from 0) v → Skips part (from + v .step) (v .state) moved → CrossedTo part from mark state (record { state = moved .state; mark = v .mark; next = moved .next })
+crossed-byte h y passes skips gone profiles samples = turned-passed h false (sym y) refl passes skips
+
+-- the state and the mark by other names
+pub crossed-as : {part : List ℕ} {from : ℕ} {mark : Mark} {state : State} {r : Crossed} (named : State) → state ≡ named → CrossedTo part from mark named r → CrossedTo part from mark state r
+crossed-as {part} {from} {mark} {state} {r} named e crossed gone profiles samples = rw e (crossed gone profiles samples)
+
+pub not-plain : (mark : Mark) (b : ℕ) (p : Bool) → p ≡ plainUnder mark b → p ≡ false → plainUnder mark b ≡ false
+not-plain mark b p q y = sym q ∙ y
+
+pub ruleset crossing = (crossed-row, crossed-byte, crossed-as)
 
 -- less is left, or the byte is left no more
 pub turned-less : {gone : ℕ} {state : State} {mark : Mark} {profiles : List ℕ} {samples : List ℤ} {part : List ℕ} {i : ℕ} {state′ : State} {mark′ : Mark} {j : ℕ} {profiles′ : List ℕ} {samples′ : List ℤ}

@@ -18,10 +18,11 @@ use Rattle.profiles_row.specs.declared.row.Listed.{Listed}
 use Rattle.profiles_state.specs.declared.state.State.{State}
 use Rattle.profiles_state.specs.declared.state.State.the-variants.{Id, Whole as InWhole, Fraction, Stopped}
 use Rattle.profiles_state.specs.Open.{Read}
-use Rattle.profiles_state.specs.Holds.{Stands, Live, reading, Leap}
+use Rattle.profiles_state.specs.Holds.{Stands, Live, reading, Leads, Leap}
 use Rattle.profiles.specs.declared.reader.Reader.{Reader}
 use Rattle.profiles.specs.declared.reader.Many.{Many}
 use Rattle.profiles.specs.declared.reader.Moved.{Moved}
+use Rattle.profiles.specs.declared.reader.Crossed.{Crossed}
 
 -- the reader and the tables stand for what is read
 pub data Held (profiles₀ : List ℕ) (samples₀ : List ℤ) (next head : ℕ) (mark : Mark) (state : State) (profiles : List ℕ) (samples : List ℤ) (text : Read) : Type 0 where
@@ -71,3 +72,16 @@ Skips part from state r = (mark : Mark) (profiles : List ℕ) (samples : List �
 
 abbrev pub Quickens : List ℕ → (from : ℕ) → Mark → State → List ℤ → Moved → List ℤ → Type 0
 Quickens part from mark state samples r samples′ = (profiles : List ℕ) → Leap part mark from state profiles samples (r .next) (r .state) profiles samples′
+
+-- a turn of the loop at a byte of a part: it goes on, but for a byte that is left once, under a mark that takes contents
+pub record TurnedAt (gone : ℕ) (state : State) (mark : Mark) (profiles : List ℕ) (samples : List ℤ) (part : List ℕ) (i : ℕ) (state′ : State) (mark′ : Mark) (j : ℕ) (profiles′ : List ℕ) (samples′ : List ℤ) : Type 0 where
+  pub onward : i ≤ j
+  pub inside : j ≤ length part
+  pub stays : j ≡ i → (takes mark ≡ false) × (takes mark′ ≡ true)
+  pub leads : (profiles₀ : List ℕ) (samples₀ : List ℤ) (text : Read) → Stands profiles₀ samples₀ (gone + i) mark state profiles samples text
+      → Leads profiles₀ samples₀ (gone + j) mark′ state′ profiles′ samples′ (drop j part) (reading profiles₀ samples₀ text (drop i part))
+
+-- such a turn that leaves the tables alone, wherever the part begins
+abbrev pub CrossedTo : List ℕ → (from : ℕ) → Mark → State → Crossed → Type 0
+CrossedTo part from mark state r =
+    (gone : ℕ) (profiles : List ℕ) (samples : List ℤ) → TurnedAt gone state mark profiles samples part from (r .state) (r .mark) (r .next) profiles samples

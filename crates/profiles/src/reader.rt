@@ -1,9 +1,11 @@
 // The text of profiles.csv, whole or in parts.
 use csv_marks::Mark;
 use profiles_row::number::Number;
+use profiles_row::row;
 use profiles_row::row::Listed;
 use profiles_row::row::Past;
 use profiles_row::sample;
+use profiles_sample::Headed;
 use profiles_sample::Spaced;
 use profiles_state::marked;
 use profiles_state::state;
@@ -13,12 +15,14 @@ use rules::answers::Refusal;
 use rules::sizes::Profile;
 use rules::sizes::Text;
 ghost use mathlib.Core.Path.{_≡_};
-ghost use Prim.Native.Nat.{_+_, _≤_};
-ghost use lib.ListN.{length};
+ghost use mathlib.Core.Bool.{false};
+ghost use Prim.Native.Nat.{_+_, _≤_, _<_};
+ghost use lib.ListN.{length, getD};
 ghost use Rattle.rules.specs.Limits.{mostText};
 ghost use Rattle.rules.specs.Answers.{refusal, profilesFile};
+ghost use Rattle.csv_marks.specs.Turns.{plainUnder};
 ghost use Rattle.profiles_state.specs.Holds.{Live};
-ghost use Rattle.profiles.specs.Feeds.{Feeds, Alive, Lined, begunAt, countIn, ManyRead, Skips, Quickens};
+ghost use Rattle.profiles.specs.Feeds.{Feeds, Alive, Lined, begunAt, countIn, ManyRead, Skips, Quickens, CrossedTo};
 ghost use Rattle.profiles.specs.Reads.{Starts, Finishes, Reads};
 
 // Samples that were read, and the place behind the last one's space.
@@ -98,6 +102,55 @@ pub struct Reader {
     pub state: State,
 }
 
+// A state under a mark, and the place of the byte that it waits for.
+pub struct Crossed {
+    pub state: State,
+    pub mark: Mark,
+    pub next: usize,
+}
+
+// A byte that is not plain goes to the marks.
+fn cross_byte(state: State, mark: Mark, part: &[u8], from: usize) -> Crossed
+    requires { ⌜ (from < length (now part)) × (plainUnder mark (getD (now part) from 0) ≡ false) ⌝ }
+    ensures { λ r. ⌜ CrossedTo (now (part .entry)) from mark state r ⌝ }
+{
+    let passed = marked::pass(state, mark, part[from]);
+    let after = passed.mark;
+    let one = passed.state;
+    let moved = skip(one, part, from + passed.step);
+    let state = moved.state;
+    Crossed {
+        state,
+        mark: after,
+        next: moved.next,
+    }
+}
+
+// Such a byte, or at a row's beginning the whole id in quotes that it opens, and the quote that opens the list.
+fn cross(state: State, mark: Mark, part: &[u8], from: usize) -> Crossed
+    requires { ⌜ (from < length (now part)) × (plainUnder mark (getD (now part) from 0) ≡ false) ⌝ }
+    ensures { λ r. ⌜ CrossedTo (now (part .entry)) from mark state r ⌝ }
+{
+    let State::Id(past, n) = state else {
+        return cross_byte(state, mark, part, from);
+    };
+    let Number::Empty = n else {
+        return cross_byte(state, mark, part, from);
+    };
+    let Mark::Bare = mark else {
+        return cross_byte(state, mark, part, from);
+    };
+    let Headed::At(id, next) = profiles_sample::head_at(part, from) else {
+        return cross_byte(state, mark, part, from);
+    };
+    let l = row::list_of(id);
+    Crossed {
+        state: State::Whole(past, l, false, Number::Empty),
+        mark: Mark::Within,
+        next,
+    }
+}
+
 // The rows of a part, which follows `next` bytes, from a place on: a plain byte goes to the contents, with the whole samples behind it, and any other one to the marks.
 fn run_rows(
     before: State,
@@ -123,12 +176,10 @@ fn run_rows(
             state = moved.state;
             i = moved.next;
         } else {
-            let passed = marked::pass(state, mark, b);
-            let one = passed.state;
-            let moved = skip(one, part, i + passed.step);
-            state = moved.state;
-            mark = passed.mark;
-            i = moved.next;
+            let crossed = cross(state, mark, part, i);
+            state = crossed.state;
+            mark = crossed.mark;
+            i = crossed.next;
         }
     }
     Reader {

@@ -18,13 +18,13 @@ use Rattle.profiles_sample.specs.declared.Sign.{Sign}
 use Rattle.profiles_sample.specs.declared.Spaced.{Spaced}
 use Rattle.profiles_row.specs.declared.row.Past.{Past}
 use Rattle.profiles_row.specs.declared.row.Listed.{Listed}
-use Rattle.profiles_state.specs.declared.state.State.the-variants.{Whole, Fraction}
+use Rattle.profiles_state.specs.declared.state.State.the-variants.{Id, Whole, Fraction}
 use Rattle.profiles_row.specs.Sample.{mostDigits}
 use Rattle.profiles_row.specs.Near.{cap, Ends}
 use Rattle.profiles_state.specs.Holds.{Jump}
 use Rattle.profiles_sample.specs.Quick.{Runs, tail, Points, missed, pointed, Spaces, unspaced, spaced, unlasting, lasting, Fractions, Signs, signed, unsigned, Samples}
 use Rattle.profiles_row.proofs.Near.{pushes-zero, pushes-first, pushes-next}
-use Rattle.profiles_state.proofs.Steps.{whole-digits, point-value, minus-first}
+use Rattle.profiles_state.proofs.Steps.{id-digits, whole-digits, point-value, minus-first}
 use Rattle.profiles_state.proofs.Fraction.{fraction-digits}
 use Rattle.profiles_state.proofs.Marking.{other-digit, other-point, other-minus}
 use Rattle.profiles_state.proofs.Leaps.{leap-none, leap-then, jump-step}
@@ -33,10 +33,12 @@ use Rattle.profiles_state.proofs.Leaps.{leap-none, leap-then, jump-step}
 
 pub record Running (part : List ℕ) (from value v i : ℕ) : Type 0 where
   pub inside : i ≤ length part
+  pub ids : (past : Past) → Jump part from (Id past (Digits value)) i (Id past (Digits v))
   pub jumps : (past : Past) (l : Listed) (negative : Bool) → Jump part from (Whole past l negative (Digits value)) i (Whole past l negative (Digits v))
 
 pub running-none : {part : List ℕ} {from : ℕ} (value : ℕ) → from ≤ length part → Running part from value value from
-running-none value h = record { inside = h; jumps = λ past l negative mark t profiles samples. leap-none h }
+running-none value h =
+    record { inside = h; ids = λ past mark t profiles samples. leap-none h; jumps = λ past l negative mark t profiles samples. leap-none h }
 
 module _ {part : List ℕ} {from value v i : ℕ} (r : Running part from value v i) where
   pub running-next : {w : ℕ} → i < length part → digitZero ≤ getD part i 0 → getD part i 0 ≤ digitNine → w ≡ min (v * 10 + (getD part i 0 - digitZero)) cap
@@ -44,6 +46,11 @@ module _ {part : List ℕ} {from value v i : ℕ} (r : Running part from value v
   running-next {w} h low high e =
       record {
         inside = omega arith;
+        ids =
+            λ past mark t profiles samples. leap-then (r .ids past mark t profiles samples)
+            (jump-step (getD part i 0) (other-digit low high) h refl
+            (id-digits past (Digits v) (getD part i 0) low high (To (Digits w)) (pushes-next (getD part i 0) v w refl low high e) (Digits w) refl)
+            mark t profiles samples);
         jumps =
             λ past l negative mark t profiles samples. leap-then (r .jumps past l negative mark t profiles samples)
             (jump-step (getD part i 0) (other-digit low high) h refl
@@ -52,7 +59,7 @@ module _ {part : List ℕ} {from value v i : ℕ} (r : Running part from value v
       }
 
   pub running-end : Runs part from value (record { value = v; next = i })
-  running-end = r .jumps
+  running-end = record { of-an-id = r .ids; of-a-sample = r .jumps }
 
 -- ---- the point
 
@@ -80,7 +87,7 @@ module _ {part : List ℕ} {from : ℕ} (h : from < length part) (low : digitZer
       (jump-step (getD part from 0) (other-digit low high) h refl
       (whole-digits past l negative Empty (getD part from 0) low high (To (Digits (getD part from 0 - digitZero))) (pushes-first (getD part from 0) refl low high z) (Digits (getD part from 0 - digitZero)) refl)
       mark t profiles samples)
-      (runs past l negative mark t profiles samples))
+      (runs .of-a-sample past l negative mark t profiles samples))
       (f past l negative mark t profiles samples))
 
 -- ---- digits past the point

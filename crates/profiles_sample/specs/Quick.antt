@@ -17,12 +17,13 @@ use Rattle.profiles_row.specs.declared.row.Past.{Past}
 use Rattle.profiles_row.specs.declared.row.Listed.{Listed}
 use Rattle.profiles_row.specs.declared.sample.Tail.{Tail}
 use Rattle.profiles_state.specs.declared.state.State.{State}
-use Rattle.profiles_state.specs.declared.state.State.the-variants.{Whole, Fraction}
+use Rattle.profiles_state.specs.declared.state.State.the-variants.{Id, Whole, Fraction}
 use Rattle.profiles_state.specs.Holds.{Jump}
 
--- more digits of the whole part
-abbrev pub Runs : List ℕ → (from value : ℕ) → Run → Type 0
-Runs part from value r = (past : Past) (l : Listed) (negative : Bool) → Jump part from (Whole past l negative (Digits value)) (r .next) (Whole past l negative (Digits (r .value)))
+-- more digits of an id, or of a sample's whole part
+pub record Runs (part : List ℕ) (from value : ℕ) (r : Run) : Type 0 where
+  pub of-an-id : (past : Past) → Jump part from (Id past (Digits value)) (r .next) (Id past (Digits (r .value)))
+  pub of-a-sample : (past : Past) (l : Listed) (negative : Bool) → Jump part from (Whole past l negative (Digits value)) (r .next) (Whole past l negative (Digits (r .value)))
 
 abbrev pub tail : (negative : Bool) (whole digits value : ℕ) → Tail
 tail negative whole digits value = record { negative = negative; whole = whole; digits = digits; value = value }

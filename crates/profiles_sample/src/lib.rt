@@ -1,4 +1,4 @@
-// Whole samples of a list at once: numbers in registers, the state touched at the spaces alone. It is the fast way of `profiles`; what is no whole sample is left for `profiles_state::state::step`.
+// Whole samples of a list at once, and a whole id in quotes: numbers in registers, the state touched behind them alone. They are the fast ways of `profiles`; what is neither is left for `profiles_state::state::step`.
 use profiles_row::number;
 use profiles_row::number::Ended;
 use profiles_row::number::Number;
@@ -6,6 +6,7 @@ use profiles_row::sample::Tail;
 ghost use Prim.Native.Nat.{_≤_, _<_};
 ghost use lib.ListN.{length};
 ghost use Rattle.profiles_sample.specs.Quick.{Runs, Points, Spaces, Fractions, Signs, Samples};
+ghost use Rattle.profiles_sample.specs.Heads.{Joins, Heads};
 ghost use mathlib.Core.Bool.{false};
 
 // Digits after others: the number that they make, and the place behind them.
@@ -166,4 +167,63 @@ pub fn sample_at(part: &[u8], from: usize) -> Spaced
     }
     let sign = sign_at(part, from);
     unsigned_at(part, sign.next, sign.negative)
+}
+
+// An id in quotes, its comma and the quote that opens the list: the id, and the place behind that quote.
+pub enum Headed {
+    At(u32, usize),
+    Miss,
+}
+
+impl Headed {
+    // A quote and a digit.
+    const BEFORE: usize = 2;
+
+    // A quote, a comma and a quote.
+    const BEHIND: usize = 3;
+}
+
+// What stands behind the digits of an id in quotes.
+fn join_at(part: &[u8], from: usize, id: u32) -> Headed
+    ensures { λ r. ⌜ Joins (now (part .entry)) from id r ⌝ }
+{
+    if part.len() < Headed::BEHIND {
+        return Headed::Miss;
+    }
+    if part.len() - Headed::BEHIND < from {
+        return Headed::Miss;
+    }
+    if part[from] != b'"' {
+        return Headed::Miss;
+    }
+    if part[from + 1] != b',' {
+        return Headed::Miss;
+    }
+    if part[from + 2] != b'"' {
+        return Headed::Miss;
+    }
+    Headed::At(id, from + Headed::BEHIND)
+}
+
+pub fn head_at(part: &[u8], from: usize) -> Headed
+    ensures { λ r. ⌜ Heads (now (part .entry)) from r ⌝ }
+{
+    if part.len() < Headed::BEFORE {
+        return Headed::Miss;
+    }
+    if part.len() - Headed::BEFORE < from {
+        return Headed::Miss;
+    }
+    if part[from] != b'"' {
+        return Headed::Miss;
+    }
+    let b = part[from + 1];
+    if b <= b'0' {
+        return Headed::Miss;
+    }
+    if b'9' < b {
+        return Headed::Miss;
+    }
+    let run = digit_run(part, from + Headed::BEFORE, (b - b'0') as u32);
+    join_at(part, run.next, run.value)
 }

@@ -22,7 +22,7 @@ use Rattle.timetable_row.specs.declared.line.Line.{Line}
 use Rattle.timetable_row.specs.Digits.{held}
 use Rattle.timetable.specs.Open.{Open, partly, separate, openStep}
 use Rattle.timetable_row.specs.Slots.{separators, lastSlot, entrySlot, separatorOf, nominalOf}
-use Rattle.timetable.specs.Held.{Shaped, inHead, inFirst, inSecond, inThird, lineWith, leading, sameHeld, Opened, Tables, tables, InLine, AfterByte, Entered, Closed}
+use Rattle.timetable.specs.Held.{Shaped, inHead, inFirst, inSecond, inThird, lineWith, keptIn, leading, sameHeld, Opened, Tables, tables, InLine, AfterByte, Entered, Closed}
 use Rattle.timetable_row.specs.RowOver.{stoppedWith}
 use Rattle.timetable_row.proofs.Leaves.{getD-inside}
 use Rattle.timetable.proofs.Words.{length-snoc}
@@ -123,7 +123,7 @@ module _ (H : ℕ) (line : Line) (n b : ℕ) (table : List ℕ) (w : ℕ) (ws : 
       step-other o b v (ap isDigit k ∙ no-digit (line .slot)) e ∙ ap (λ (x : ℕ). separate o x v) (k ∙ ap separatorOf s) ∙ q
 
   -- a number before the list, or the first or second of an entry
-  pub close-slot : line .slot < lastSlot → Closed H line n b (lineWith line (line .slot + 1) (set (line .numbers) (line .slot) n) (line .entries) (line .nominal) (line .wide)) table table
+  pub close-slot : line .slot < lastSlot → Closed H line n b (keptIn line n) table table
   close-slot h =
       record {
         closes = λ lent legs place before o v g e nv q. rw nv (go lent legs place before o v g e (g .opened .shaped));
@@ -179,6 +179,9 @@ module _ (H : ℕ) (line : Line) (n b : ℕ) (table : List ℕ) (w : ℕ) (ws : 
               rw (to-next o v next (g .opened .slot-is) e at)
               (held-on lent legs place before closed list (d ∷ []) g v closed (d ∷ v ∷ []) (inThird k) (sym (append-assoc closed (d ∷ []) (v ∷ []))) (g .opened .nominal-is), refl)
           by-shape closed list (d ∷ t ∷ []) m g e (inThird k) = absurd (omega (arith, g .opened .slot-is, entry-slot closed (d ∷ t ∷ []) 2 k refl))
+
+  pub close-kept : (line′ : Line) → line .slot < lastSlot → line′ ≡ keptIn line n → Closed H line n b line′ table table
+  close-kept line′ h e = rw e (close-slot h)
 
   -- the third number of an entry
   pub close-entry : (line′ : Line) (table′ : List ℕ) → lastSlot ≤ line .slot → Entered H line n line′ table table′ → Closed H line n b line′ table table′

@@ -11,6 +11,7 @@ pub mod Lands
 pub mod Marking
 pub mod Turn
 pub mod Listing
+pub mod Quoted
 pub mod Run
 pub mod Feed
 pub mod Whole

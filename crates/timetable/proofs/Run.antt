@@ -6,7 +6,8 @@ use mathlib.Core.List.{List}
 use native.Mathlib.Omega.{arith}
 use native.Mathlib.Nat.{add-zero}
 use lib.ListN.{length, getD, drop}
-use borrow.Author.Tests.{le-leb, lt-leb}
+use lib.Dec.{eqb}
+use borrow.Author.Tests.{le-leb, lt-leb, eq-eqb, eqb-true}
 use Rattle.rules.specs.Limits.{mostText}
 use Rattle.rules.specs.Answers.{badRow}
 use Rattle.rules.specs.Timetable.{timetableHeader}
@@ -22,7 +23,7 @@ use Rattle.csv_marks.specs.declared.Move.{Move}
 use Rattle.csv_marks.specs.Turns.{takes, plainUnder, leftAt, movedBy, movedUnder}
 use Rattle.csv_marks.proofs.Follow.{never-plain}
 use Rattle.csv_marks.proofs.Late.{late, late-most, late-open, late-shut}
-use Rattle.csv_marks.proofs.Moves.{Moves, goesTo, leaves, breaks, moves, left, step-most}
+use Rattle.csv_marks.proofs.Moves.{Moves, goesTo, leaves, breaks, moves, Left, left, step-most}
 use Rattle.timetable.specs.Held.{tables}
 use Rattle.timetable.specs.Text.{Signed, lineBegins, Frees, kept, freed, Leads, Placed, Opens, Ran, Lined, placedAt, begunAt}
 use Rattle.timetable.specs.declared.entries.Listed.{Listed}
@@ -100,7 +101,7 @@ module _ {H read : ℕ} {part : List ℕ} {from : ℕ} {mark : Mark} {legs₀ co
         onward = omega (arith, g .onward);
         inside = omega arith;
         clear = λ x. absurd (omega arith);
-        halts = λ x. absurd (omega arith);
+        halts = λ x same. absurd (omega arith);
         runs =
             led-over H read part from mark number₀ line₀ (tables legs₀ configurations₀) (t .next) mark (t .number) line (tables legs configurations)
             (led-taken H read part from mark number₀ line₀ (tables legs₀ configurations₀) i mark number line (tables legs configurations) (g .led) t (g .open-mark) (g .clear) h e k) k l;
@@ -115,7 +116,7 @@ module _ {H read : ℕ} {part : List ℕ} {from : ℕ} {mark : Mark} {legs₀ co
         onward = omega (arith, g .onward, taken-forward number part i t e);
         inside = omega arith;
         clear = λ x. g .clear;
-        halts = λ x. sym q ∙ y;
+        halts = λ x same. sym q ∙ y;
         runs = led-taken H read part from mark number₀ line₀ (tables legs₀ configurations₀) i mark number line (tables legs configurations) (g .led) t (g .open-mark) (g .clear) h e (omega arith);
       }
 
@@ -130,7 +131,7 @@ module _ {H read : ℕ} {part : List ℕ} {from : ℕ} {mark : Mark} {legs₀ co
         onward = omega (arith, g .onward, g .within);
         inside = omega arith;
         clear = λ x. absurd (omega arith);
-        halts = λ x. absurd (omega arith);
+        halts = λ x same. absurd (omega arith);
         runs =
             led-stopped H read part from mark number₀ line₀ (tables legs₀ configurations₀) (t .next + 1) mark Empty line′ (tables legs′ configurations′)
             (signs t at line′ legs′ configurations′ h e k a p q y s) mark Empty c;
@@ -144,7 +145,7 @@ module _ {H read : ℕ} {part : List ℕ} {from : ℕ} {mark : Mark} {legs₀ co
         onward = g .onward;
         inside = g .within;
         clear = λ x. absurd (omega arith);
-        halts = λ x. absurd (omega arith);
+        halts = λ x same. absurd (omega arith);
         runs = g .led;
       }
 
@@ -159,7 +160,7 @@ ran-none H read part from mark legs configurations line number t p e q =
       onward = omega arith;
       inside = p .inside;
       clear = λ x. p .no-fault;
-      halts = λ x. never-plain mark (getD part from 0) (sym e ∙ q);
+      halts = λ x same. never-plain mark (getD part from 0) (sym e ∙ q);
       runs = led-none H read part from mark number line (tables legs configurations);
     }
 
@@ -255,9 +256,15 @@ line-less {part = part} {i = i} {mark = mark} {r = r} ran h begins v moved right
     go (goesTo m t e) =
         subst (λ (x : Move). 2 * (length part - (r .next + x .step)) + late (x .mark) < 2 * (length part - i) + late mark) (sym e) (omega (arith, ran .onward, late-most m))
     go (leaves m t e) =
-        let l = left m (getD part (r .next) 0) begins mark t in
-        subst (λ (x : Move). 2 * (length part - (r .next + x .step)) + late (x .mark) < 2 * (length part - i) + late mark) (sym e)
-        (omega (arith, ran .onward, late-open m (l .open-mark), late-shut mark (l .late (ran .halts h))))
+        subst (λ (x : Move). 2 * (length part - (r .next + x .step)) + late (x .mark) < 2 * (length part - i) + late mark) (sym e) (stands (eqb (r .next) i) refl)
+      where
+        l : Left mark m (getD part (r .next) 0) begins
+        l = left m (getD part (r .next) 0) begins mark t
+
+        -- the byte is left: some were passed before it, or the mark is taken back
+        stands : (x : Bool) → eqb (r .next) i ≡ x → 2 * (length part - (r .next + 0)) + late m < 2 * (length part - i) + late mark
+        stands true q = omega (arith, late-open m (l .open-mark), late-shut mark (l .late (ran .halts h (eqb-true (r .next) i q))))
+        stands false q = let other : r .next ≡ i → ⊥ = λ z. true≢false (sym (eq-eqb (r .next) i z) ∙ q) in omega (arith, ran .onward, late-open m (l .open-mark))
     go (breaks t e) = absurd (true≢false (sym right ∙ ap (λ (x : Move). x .right) e))
 
 -- a mark that is taken back leaves no byte

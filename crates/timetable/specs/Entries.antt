@@ -1,9 +1,10 @@
--- Whole entries of a list at once: what the reader holds after them.
+-- Whole entries of a list at once, and whole ids in quotes: what the reader holds after them.
 use Prim.Native.Nat.{ℕ, _≤_}
 use mathlib.Core.Path.{_≡_}
 use mathlib.Core.Bool.{true}
 use mathlib.Core.List.{List}
 use lib.ListN.{length}
+use Rattle.timetable_row.specs.declared.number.Number.{Number}
 use Rattle.timetable_row.specs.declared.number.Number.the-variants.{Empty}
 use Rattle.timetable_row.specs.declared.line.Line.{Line}
 use Rattle.csv_marks.specs.declared.Mark.{Mark}
@@ -24,3 +25,10 @@ pub record Lists (H : ℕ) (line : Line) (part : List ℕ) (from : ℕ) (r : Lis
   pub clear : r .line .fault ≡ 0
   pub listed : (read : ℕ) (mark : Mark) (legs : List ℕ) → takes mark ≡ true
       → Leads H read part from mark Empty line (tables legs table) (r .next) mark Empty (r .line) (tables legs table′)
+
+-- from a place of a part to another in the same row, with the same mark and open number; nothing is stored
+pub record Passes (line : Line) (number : Number) (mark : Mark) (part : List ℕ) (from : ℕ) (r : Listed) : Type 0 where
+  pub forward : from ≤ r .next
+  pub inside : r .next ≤ length part
+  pub clear : r .line .fault ≡ 0
+  pub passed : (H read : ℕ) (legs table : List ℕ) → Leads H read part from mark number line (tables legs table) (r .next) mark number (r .line) (tables legs table)

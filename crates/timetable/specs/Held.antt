@@ -44,6 +44,10 @@ lineWith line slot numbers entries nominal wide =
       above = line .above;
     }
 
+-- with the open number closed, which is not an entry's last
+abbrev pub keptIn : Line → (n : ℕ) → Line
+keptIn line n = lineWith line (line .slot + 1) (set (line .numbers) (line .slot) n) (line .entries) (line .nominal) (line .wide)
+
 -- with the first two numbers of an entry closed
 abbrev pub openEntry : Line → (d t : ℕ) → Line
 openEntry line d t = lineWith line lastSlot (set (set (line .numbers) entrySlot d) entryTravelSlot t) (line .entries) (line .nominal) (line .wide)

@@ -125,12 +125,12 @@ pub record Opens (read : ℕ) (part : List ℕ) (from : ℕ) (line : Line) (mark
   pub placed : Placed read part from line
   pub open-mark : takes mark ≡ true
 
--- plain bytes from a place on: to the first that is not plain, to a fault, or to the part's end
+-- plain bytes and whole ids in quotes from a place on, to a fault or to the part's end: where none are passed, a byte that is not plain stands there
 pub record Ran (H : ℕ) (line : Line) (number : Number) (mark : Mark) (read : ℕ) (part : List ℕ) (from : ℕ) (r : Run) (now now′ : Tables) : Type 0 where
   pub onward : from ≤ r .next
   pub inside : r .next ≤ length part
   pub clear : r .next < length part → r .line .fault ≡ 0
-  pub halts : r .next < length part → plainUnder mark (getD part (r .next) 0) ≡ false
+  pub halts : r .next < length part → r .next ≡ from → plainUnder mark (getD part (r .next) 0) ≡ false
   pub runs : Leads H read part from mark number line now (r .next) mark (r .number) (r .line) now′
 
 -- the rest of a part from a place on, in its rows

@@ -126,7 +126,7 @@ fn run_plain(
     }
 }
 
-// The rows of a part up to a byte that is not plain.
+// The rows of a part up to a byte that is not plain, and past the whole ids in quotes that begin with it.
 pub fn run_rows(
     before: Line,
     unclosed: Number,
@@ -142,7 +142,7 @@ pub fn run_rows(
     ensures { λ r. ⌜ Ran h before unclosed mark gone (now (part .entry)) from r (tables (now (legs .entry)) (now (configurations .entry))) (tables (now (legs .exit)) (now (configurations .exit))) ⌝ }
 {
     if csv_marks::contents(mark) {
-        return run_plain(
+        let ran = run_plain(
             before,
             unclosed,
             mark,
@@ -153,6 +153,19 @@ pub fn run_rows(
             legs,
             configurations,
         );
+        let next = ran.next;
+        let number = ran.number;
+        let line = ran.line;
+        if part.len() <= next {
+            return Run { next, number, line };
+        }
+        let quoted = entries::run_quoted(line, number, mark, part, next);
+        let line = quoted.line;
+        return Run {
+            next: quoted.next,
+            number,
+            line,
+        };
     }
     Run {
         next: from,

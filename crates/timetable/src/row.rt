@@ -1,7 +1,9 @@
 // A byte of a row, or a whole entry of its list: a number is closed, an entry is held and stored, and a row that is over is judged.
+ghost use mathlib.Core.Path.{_≡_};
 ghost use Prim.Native.Nat.{_<_};
 ghost use Rattle.rules.specs.Limits.{mostText};
-ghost use Rattle.timetable.specs.Held.{openEntry, Entered, Closed, tables};
+ghost use Rattle.timetable_row.specs.Slots.{lastSlot};
+ghost use Rattle.timetable.specs.Held.{openEntry, keptIn, Entered, Closed, tables};
 ghost use Rattle.timetable.specs.Ended.{Ended};
 ghost use Rattle.timetable.specs.Text.{Signed};
 use rules::answers::Refusal;
@@ -50,6 +52,20 @@ pub fn listed(line: Line, d: u32, t: u32, p: u32, h: u32, configurations: &mut [
     entry(out, p, h, configurations)
 }
 
+// A number before the list, or one of the first two of an entry, is kept.
+pub fn kept(line: Line, n: u32) -> Line
+    requires { ⌜ line .slot < lastSlot ⌝ }
+    ensures { λ r. ⌜ r ≡ keptIn line n ⌝ }
+{
+    let slot = line.slot;
+    let mut numbers = line.numbers;
+    numbers[slot] = n;
+    let mut out = line;
+    out.numbers = numbers;
+    out.slot = slot + 1;
+    out
+}
+
 // A number is closed by a byte that is no LF.
 fn close(line: Line, n: u32, b: u8, h: u32, configurations: &mut [u32]) -> Line
     ensures { λ r. ⌜ Closed h line n b r (now (configurations .entry)) (now (configurations .exit)) ⌝ }
@@ -61,12 +77,7 @@ fn close(line: Line, n: u32, b: u8, h: u32, configurations: &mut [u32]) -> Line
     if line::LAST <= slot {
         return entry(line, n, h, configurations);
     }
-    let mut numbers = line.numbers;
-    numbers[slot] = n;
-    let mut out = line;
-    out.numbers = numbers;
-    out.slot = slot + 1;
-    out
+    kept(line, n)
 }
 
 // The LF at `at` ends the row.

@@ -1,10 +1,10 @@
--- What a look at several bytes finds: a number and its byte, an entry and its space.
+-- What a look at several bytes finds: a number and its byte, an entry and its space, a number in quotes and its comma.
 use Prim.Native.Nat.{ℕ, _+_, _<_, _≤_}
 use mathlib.Core.Path.{_≡_}
 use mathlib.Core.Bool.{false}
 use mathlib.Core.List.{List}
 use lib.ListN.{length, getD, drop}
-use Rattle.rules.specs.Bytes.{space, underscore}
+use Rattle.rules.specs.Bytes.{space, underscore, comma, quote}
 use Rattle.timetable_row.specs.declared.number.Number.the-variants.{Empty}
 use Rattle.timetable_row.specs.declared.number.Taken.{Taken}
 use Rattle.timetable_row.specs.Digits.{takenFrom, isEmpty, valueOf}
@@ -47,3 +47,16 @@ pub record EntryAt (part : List ℕ) (from d t p next : ℕ) : Type 0 where
 pub data Spots (part : List ℕ) (from : ℕ) : Spotted → Type 0 where
   unspotted : Spots part from NoEntry
   spotted : {d t p next : ℕ} → EntryAt part from d t p next → Spots part from (Entry d t p next)
+
+-- a number in quotes, the comma behind them, and the place behind that
+pub record QuotedAt (part : List ℕ) (from v next : ℕ) : Type 0 where
+  pub shut : ℕ
+  pub opens : getD part from 0 ≡ quote
+  pub number : NumberAt part (from + 1) quote v shut
+  pub comma-there : getD part shut 0 ≡ comma
+  pub behind : next ≡ shut + 1
+  pub within : next ≤ length part
+
+pub data Quotes (part : List ℕ) (from : ℕ) : Cut → Type 0 where
+  unquoted : Quotes part from Miss
+  quoted : {v next : ℕ} → QuotedAt part from v next → Quotes part from (At v next)

@@ -1,10 +1,10 @@
-// A whole entry of a list, where one stands: three numbers, each with the byte that closes it. It is the fast way of `timetable`; what is no whole entry is a miss, and goes byte by byte.
+// A whole entry of a list, where one stands: three numbers, each with the byte that closes it; and a whole number in quotes. They are the fast ways of `timetable`; what is neither is a miss, and goes byte by byte.
 ghost use mathlib.Core.Path.{_≡_};
 ghost use mathlib.Core.Bool.{cond};
 ghost use Prim.Native.Nat.{_+_, _^_, _≤_, _<_};
 ghost use lib.Dec.{eqb};
 ghost use lib.ListN.{length};
-ghost use Rattle.timetable_entry.specs.Spots.{numberBytes, Cuts, Spots};
+ghost use Rattle.timetable_entry.specs.Spots.{numberBytes, Cuts, Spots, Quotes};
 
 // A number and the place behind the byte that closes it.
 pub enum Cut {
@@ -18,6 +18,9 @@ impl Cut {
 
     // The digits and the byte that closes them, at most.
     const BYTES: usize = Cut::MOST_DIGITS + 1;
+
+    // Such a number in quotes and the comma behind it, at most.
+    const QUOTED_BYTES: usize = Cut::BYTES + 2;
 }
 
 // A number whose digits end before place i: the byte there closes it, or it is a miss.
@@ -61,6 +64,25 @@ fn number_at(part: &[u8], from: usize, closes: u8) -> Cut
         i += 1;
     }
     Cut::Miss
+}
+
+// The number in quotes that begins at a place, and the place behind its comma.
+pub fn quoted_at(part: &[u8], from: usize) -> Cut
+    ensures { λ r. ⌜ Quotes (now (part .entry)) from r ⌝ }
+{
+    if part.len() < Cut::QUOTED_BYTES {
+        return Cut::Miss;
+    }
+    if part.len() - Cut::QUOTED_BYTES < from {
+        return Cut::Miss;
+    }
+    if part[from] != b'"' {
+        return Cut::Miss;
+    }
+    let Cut::At(v, next) = number_at(part, from + 1, b'"') else {
+        return Cut::Miss;
+    };
+    closed(part[next], b',', v, next)
 }
 
 // An entry's three numbers, and the place behind its space.

@@ -4,7 +4,7 @@ use mathlib.Core.List.{[]}
 use lib.ListN.{length}
 use borrow.Author.Needs.{needs}
 use Rattle.csv_marks.proofs.Late.{late}
-use Rattle.profiles.proofs.Feed.{Fed, turn-count, pass-step, turned-plain, turned-passed, turned-less, fed-next, feeding}
+use Rattle.profiles.proofs.Feed.{Fed, turn-count, turned-plain, turned-less, fed-next, not-plain, feeding}
 use Rattle.profiles.proofs.reader.run_rows.Statement.{statement}
 use Rattle.profiles.proofs.reader.run_rows.Tie as tie
 
@@ -55,31 +55,20 @@ loop-again c =
     let turned = turned-plain {gone = gone} inside (c .before .before .before .before .before .before .step .ensures) (asked .plain .result) (asked .plain .ensures) (c .before .before .before .before .before .before .before .before .before .if1 .taken) (c .before .quicken .ensures) in
     fed-next (c .before .before .before .before .before .before .before .before .before .before .before .before .before .loop .inv) turned (search needs) (search needs)
 
-pass-requires : tie.Need-pass-requires Inv-loop μ-loop
-pass-requires c κs = search (feeding, needs)
-
-add-skip : tie.Need-add-skip Inv-loop μ-loop
-add-skip c = let one = pass-step (c .before .pass .ensures) in search needs
-
-skip-requires : tie.Need-skip-requires Inv-loop μ-loop
-skip-requires c κs = let one = pass-step (c .before .pass .ensures) in search needs
+cross-requires : tie.Need-cross-requires Inv-loop μ-loop
+cross-requires c κs = search (not-plain, feeding, needs)
 
 loop-less-2 : tie.Need-loop-less-2 Inv-loop μ-loop
-loop-less-2 c =
-    let inside = c .before .before .before .before .before .before .loop-test .taken in
-    let asked = c .before .before .before .before in
-    turned-less
-    (turned-passed {gone = 0} {profiles = []} {samples = []} inside (asked .plain .result) (asked .plain .ensures) (c .before .before .before .if1 .left) (c .before .before .pass .ensures) (c .skip .ensures))
-    inside
+loop-less-2 c = turned-less (c .cross .ensures 0 [] []) (search needs)
 
 loop-again-2 : tie.Need-loop-again-2 Inv-loop μ-loop
-loop-again-2 c = search (feeding, needs)
+loop-again-2 c = fed-next (c .before .before .before .before .before .loop .inv) (c .cross .ensures _ _ _) (search needs) (search needs)
 
-cast-t33 : tie.Need-cast-t33 Inv-loop μ-loop
-cast-t33 c = search (feeding, needs)
+cast-t30 : tie.Need-cast-t30 Inv-loop μ-loop
+cast-t30 c = search (feeding, needs)
 
-add-t34 : tie.Need-add-t34 Inv-loop μ-loop
-add-t34 c = search (feeding, needs)
+add-t31 : tie.Need-add-t31 Inv-loop μ-loop
+add-t31 c = search (feeding, needs)
 
 same-length : tie.Need-same-length Inv-loop μ-loop
 same-length c = search (feeding, needs)
@@ -106,13 +95,11 @@ run-rows-spec =
     quicken-requires
     loop-less
     loop-again
-    pass-requires
-    add-skip
-    skip-requires
+    cross-requires
     loop-less-2
     loop-again-2
-    cast-t33
-    add-t34
+    cast-t30
+    add-t31
     same-length
     same-length-2
     returns)

@@ -1,6 +1,6 @@
 -- A number is closed: by another byte than its separator, by its separator, or by a space after an entry. Assumes nothing.
 use borrow.Author.Needs.{needs}
-use Rattle.timetable.proofs.Close.{close-stop, close-slot, close-entry}
+use Rattle.timetable.proofs.Close.{close-stop, close-kept, close-entry}
 use Rattle.timetable.proofs.row.close.Statement.{statement}
 use Rattle.timetable.proofs.row.close.Tie as tie
 
@@ -22,17 +22,11 @@ same-length c = search needs
 returns-2 : tie.Need-returns-2
 returns-2 c = search (close-entry, needs)
 
-mul-numbers : tie.Need-mul-numbers
-mul-numbers c = search needs
-
-array-write-numbers : tie.Need-array-write-numbers
-array-write-numbers c = search needs
-
-add-out : tie.Need-add-out
-add-out c = search needs
+kept-requires : tie.Need-kept-requires
+kept-requires c κs = search needs
 
 returns-3 : tie.Need-returns-3
-returns-3 c = search (close-slot, needs)
+returns-3 c = search (close-kept, needs)
 
 pub close-spec : {M : Type 1} → statement M
 close-spec =
@@ -44,7 +38,5 @@ close-spec =
     entry-requires
     same-length
     returns-2
-    mul-numbers
-    array-write-numbers
-    add-out
+    kept-requires
     returns-3)

@@ -35,8 +35,8 @@
 extern "C" {
 #endif
 
-/* An answer is a code and its values; the unused ones are 0. */
-#define WAGONTULIP_NUMBERS 16
+/* An answer is a code and its values, then how much was tested; the unused ones are 0. */
+#define WAGONTULIP_NUMBERS 24
 
 enum {
     WAGONTULIP_ACCEPTED = 0, /* then what the function says */
@@ -52,6 +52,21 @@ enum {
     WAGONTULIP_INEQUALITY = 3, /* 1 or 2; 0 for kind 0 */
     WAGONTULIP_SHORTFALL = 4,  /* left side minus right, in seconds, at least 1; 0 for kind 0 */
     WAGONTULIP_VIOLATED_FILE = 5 /* 4 solution, 5 second solution */
+};
+
+/*
+ * How much was tested for a verdict: one for each row's choice and one for each inequality, in document 01's order, up to and with the first that fails. The
+ * total, at most the legs and twice the constraints, and a count for each kind, which add up to it. A verdict is an accepted or violated answer of
+ * wagontulip_check and wagontulip_energy, and a violated one of a merge, which counts the tests of the solution that fails. Every other answer has 0s here.
+ */
+enum {
+    WAGONTULIP_TESTED = 16,
+    WAGONTULIP_TESTED_CHOICES = 17, /* kind 0; this and the next five in the order of the kinds */
+    WAGONTULIP_TESTED_HEADWAYS = 18,
+    WAGONTULIP_TESTED_SINGLE_TRACK = 19,
+    WAGONTULIP_TESTED_DWELLS = 20,
+    WAGONTULIP_TESTED_TURNAROUNDS = 21,
+    WAGONTULIP_TESTED_CONNECTIONS = 22
 };
 
 /* The places of a refusal's values. */

@@ -3,7 +3,7 @@
  *
  *     energy H EDITION TIMETABLE PROFILES CONSTRAINTS SOLUTION
  *
- * prints the label and the answer's sixteen numbers. Exit status: the answer's code, or 3 where there is none.
+ * prints the label and the answer's numbers. Exit status: the answer's code, or 3 where there is none.
  */
 #include "wagontulip.h"
 

@@ -17,7 +17,7 @@ static int refused(const char *timetable, size_t length, uint64_t number, uint64
     wagontulip_check(100, WAGONTULIP_EXAMPLE_EDITION, (const uint8_t *)timetable, length, NULL, 0, NULL, 0, NULL, 0, NULL, 0, NULL, 0, NULL, 0, NULL, 0,
                      NULL, 0, NULL, 0, NULL, 0, answer);
     return answer[0] == WAGONTULIP_REFUSED && answer[WAGONTULIP_NUMBER] == number && answer[WAGONTULIP_REFUSED_FILE] == TIMETABLE &&
-           answer[WAGONTULIP_PLACE] == place;
+           answer[WAGONTULIP_PLACE] == place && answer[WAGONTULIP_TESTED] == 0;
 }
 
 /* No row starts in no text. */

@@ -33,16 +33,17 @@ module _ (S : Stated) (x : Texts) (s : List ℕ) (t : Tables) (c : List ℕ) {j 
   kept-choices b = cond b (filled unsignedFill c′) c′
 
   pub check-ends : SameLengths t′ t → length c′ ≡ length c → {t″ : Tables} → t″ ≡ tablesAfter (j .answer) t′ → {c″ : List ℕ} → c″ ≡ choicesAfter (j .answer) c′
-      → Checks S x s t c (record { answer = j .answer }) t″ c″
+      → Checks S x s t c (record { answer = j .answer; tally = j .tally }) t″ c″
   unfolding checked
   check-ends same many {t″} tables {c″} choices = go all refl
     where
-      go : (o : Reading Whole) → all ≡ o → Checks S x s t c (record { answer = j .answer }) t″ c″
+      go : (o : Reading Whole) → all ≡ o → Checks S x s t c (record { answer = j .answer; tally = j .tally }) t″ c″
       go (refused r) e =
           let says : isRefusal (j .answer) ≡ true = ap isRefusal (read .answers) ∙ rw e in
           record {
             answer = read .answers;
             values = ap valuesOf (read .answers);
+            tally = read .tallies;
             tables = tables ∙ ap kept says ∙ tables-filled-alike t′ t same ∙ rw e;
             choices = choices ∙ ap kept-choices says ∙ filled-alike unsignedFill c′ c many ∙ rw e;
           }
@@ -51,6 +52,7 @@ module _ (S : Stated) (x : Texts) (s : List ℕ) (t : Tables) (c : List ℕ) {j 
           record {
             answer = read .answers;
             values = ap valuesOf (read .answers);
+            tally = read .tallies;
             tables = tables ∙ ap kept says ∙ read .writes w e .0 ∙ rw e;
             choices = choices ∙ ap kept-choices says ∙ read .writes w e .1 ∙ rw e;
           }

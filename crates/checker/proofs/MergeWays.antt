@@ -46,6 +46,7 @@ module _ (direction : Direction) (S : Stated) (x : Texts) (first second : List �
       record {
         answer = read .solved .made .answer;
         values = ap valuesOf (read .solved .made .answer);
+        tally = read .solved .made .tally;
         length = read .solved .made .length;
         tables = tables-after (r .answer) t same tables (λ h. sym (emptied h .tables)) (read .writes);
         choices = choices-after (r .answer) c many choices (λ h. sym (emptied h .choices)) (λ h. read .solved .chooses h .0);

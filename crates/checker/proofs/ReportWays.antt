@@ -14,6 +14,7 @@ use Rattle.rules.specs.Verdict.{Finding, accepted, violated}
 use Rattle.rules.specs.Entries.{Tables, Whole, roomsOf, filled, verdictOf, allRead, reportAccepted, reportJudged, reportFrom, reported}
 use Rattle.rules.specs.Promises.{Reports}
 use Rattle.rules.specs.declared.stated.Stated.{Stated}
+use Rattle.rules.specs.declared.answers.Tally.{Tally}
 use Rattle.rules.specs.declared.outcomes.Report.{Report}
 use Rattle.rules_theorems.specs.Demands.{EmptiedReport}
 use Rattle.rules_theorems.proofs.DemandOne.{report-demand-one}
@@ -28,17 +29,17 @@ curves-filled : (S : Stated) (x : Texts) (s : List ℕ) (t : Tables) (c : List �
 unfolding reported
 curves-filled S x s t c p = go (allRead S x s (roomsOf t) (length c))
   where
-    fitted : (fits : Bool) (w : Whole) → isAccepted (reportAccepted fits (S .horizon) w t c p .answer) ≡ false → reportAccepted fits (S .horizon) w t c p .curves ≡ filled signedFill p
-    fitted true w h = let z : _≡_ {A = ℕ} 0 1 = cc in absurd (omega arith)
-    fitted false w h = refl
+    fitted : (fits : Bool) (n : Tally) (w : Whole) → isAccepted (reportAccepted fits (S .horizon) n w t c p .answer) ≡ false → reportAccepted fits (S .horizon) n w t c p .curves ≡ filled signedFill p
+    fitted true tally w h = let z : _≡_ {A = ℕ} 0 1 = cc in absurd (omega arith)
+    fitted false tally w h = refl
 
-    judged : (v : Finding) (w : Whole) → isAccepted (reportJudged v (S .horizon) w t c p .answer) ≡ false → reportJudged v (S .horizon) w t c p .curves ≡ filled signedFill p
-    judged accepted w h = fitted (leb (w .files .document .opened * S .horizon) (length p)) w h
-    judged (violated v) w h = refl
+    judged : (v : Finding) (n : Tally) (w : Whole) → isAccepted (reportJudged v (S .horizon) n w t c p .answer) ≡ false → reportJudged v (S .horizon) n w t c p .curves ≡ filled signedFill p
+    judged accepted tally w h = fitted (leb (w .files .document .opened * S .horizon) (length p)) tally w h
+    judged (violated v) tally w h = refl
 
     go : (m : Reading Whole) → isAccepted (reportFrom m (S .horizon) t c p .answer) ≡ false → reportFrom m (S .horizon) t c p .curves ≡ filled signedFill p
     go (refused r) h = refl
-    go (good w) h = judged (verdictOf (w .files) (w .choices) .finding) w h
+    go (good w) h = judged (verdictOf (w .files) (w .choices) .finding) (verdictOf (w .files) (w .choices) .tally) w h
 
 -- t, c, p: as they were lent; t′, c′, p′: as the reading left them; t″, c″, p″: as the answer leaves them
 module _ {S : Stated} {x : Texts} {s : List ℕ} {t : Tables} {c : List ℕ} {p : List ℤ} {r : Report} {t′ : Tables} {c′ : List ℕ} {p′ : List ℤ}
@@ -53,6 +54,7 @@ module _ {S : Stated} {x : Texts} {s : List ℕ} {t : Tables} {c : List ℕ} {p 
       record {
         answer = read .answers;
         values = ap valuesOf (read .answers);
+        tally = read .tallies;
         figures = read .figures-are;
         desk = read .desk-is;
         tables = tables-after (r .answer) t same tables (λ h. sym (emptied h .tables)) (λ h. read .writes h .0);

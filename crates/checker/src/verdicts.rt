@@ -38,6 +38,7 @@ pub fn check(
         choices,
     );
     let answer = judged.answer;
+    let tally = judged.tally;
     refusals::empty_tables(
         answer,
         legs,
@@ -48,5 +49,5 @@ pub fn check(
         tracks,
     );
     refusals::empty_choices(answer, choices);
-    Checked { answer }
+    Checked { answer, tally }
 }

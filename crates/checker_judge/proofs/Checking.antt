@@ -9,8 +9,7 @@ use Rattle.rules.specs.Entries.{Tables, Whole, roomsOf, writtenTables, writtenC
 use Rattle.rules.specs.declared.stated.Stated.{Stated}
 use Rattle.rules.specs.declared.sizes.Configuration.{Configuration}
 use Rattle.rules.specs.declared.answers.Refusal.{Refusal}
-use Rattle.rules.specs.declared.answers.Answer.{Answer}
-use Rattle.rules.specs.declared.answers.Answer.the-variants.{Refused}
+use Rattle.rules.specs.declared.answers.Ruling.{Ruling}
 use Rattle.rules_theorems.proofs.GoodText.{never-good}
 use Rattle.rules_theorems.proofs.GoodFiles.{good-all}
 use Rattle.tables_lent.specs.declared.Counts.{Counts}
@@ -23,18 +22,18 @@ use Rattle.solution_verdict.specs.declared.Chosen.the-variants as Choosings
 use Rattle.solution_verdict.specs.Left.{Left, Choosable, Ready, Chooses, Judges}
 use Rattle.solution_verdict.proofs.Choosing.{was-chosen, not-chosen}
 use Rattle.checker_judge.specs.declared.Judged.{Judged}
-use Rattle.checker_judge.specs.Promise.{ReadAndJudged}
+use Rattle.checker_judge.specs.Promise.{Stopped, judgedAs, ReadAndJudged}
 
 module _ (S : Stated) (x : Texts) (s : List ℕ) (t : Tables) (c : List ℕ) where
   abbrev all : Reading Whole
   all = allRead S x s (roomsOf t) (length c)
 
-  stopped : {j : Judged} {t′ : Tables} {c′ : List ℕ} (r : Refusal) → all ≡ refused r → j .answer ≡ Refused r → ReadAndJudged S x s t c j t′ c′
+  stopped : {j : Judged} {t′ : Tables} {c′ : List ℕ} (r : Refusal) → all ≡ refused r → Stopped r j → ReadAndJudged S x s t c j t′ c′
   unfolding checked
-  stopped r e a = record { answers = a ∙ rw e; writes = λ w g. never-good r w (sym e ∙ g) }
+  stopped r e a = record { answers = a .answer ∙ rw e; tallies = a .tally ∙ rw e; writes = λ w g. never-good r w (sym e ∙ g) }
 
   module _ {a : Filed} {t′ : Tables} (f : FilesRead S x t a t′) where
-    pub files-stop : {j : Judged} {t″ : Tables} {c′ : List ℕ} {r : Refusal} → a ≡ Filings.Refused r → j .answer ≡ Refused r → ReadAndJudged S x s t c j t″ c′
+    pub files-stop : {j : Judged} {t″ : Tables} {c′ : List ℕ} {r : Refusal} → a ≡ Filings.Refused r → Stopped r j → ReadAndJudged S x s t c j t″ c′
     unfolding allRead
     files-stop {r = r} e b = stopped r (rw (not-filed (filesOf S x (roomsOf t)) r (sym e ∙ f .answers))) b
 
@@ -58,7 +57,7 @@ module _ (S : Stated) (x : Texts) (s : List ℕ) (t : Tables) (c : List ℕ) whe
         abbrev choice : Reading (List Configuration)
         choice = choicesRead (S .horizon) (filed .files) solutionFile (length c) s
 
-        pub choice-stop : {j : Judged} {t″ : Tables} {c″ : List ℕ} {r : Refusal} → b ≡ Choosings.Refused r → j .answer ≡ Refused r → ReadAndJudged S x s t c j t″ c″
+        pub choice-stop : {j : Judged} {t″ : Tables} {c″ : List ℕ} {r : Refusal} → b ≡ Choosings.Refused r → Stopped r j → ReadAndJudged S x s t c j t″ c″
         unfolding allRead
         choice-stop {r = r} q d = stopped r (rw (filed .was, not-chosen choice r (sym q ∙ h .answers choosable))) d
 
@@ -95,11 +94,13 @@ module _ (S : Stated) (x : Texts) (s : List ℕ) (t : Tables) (c : List ℕ) whe
           whole : all ≡ good (record { files = filed .files; choices = picked .0 })
           whole = good-all S x s (roomsOf t) (length c) (filed .files) (picked .0) (filed .was) (picked .1)
 
-          pub choice-judged : {answer : Answer} → Judges k (t′ .legs) (t′ .configurations) (t′ .constraints) c′ solutionFile answer
-              → ReadAndJudged S x s t c (record { answer = answer; counts = k }) t′ c′
+          pub choice-judged : {r : Ruling} → Judges k (t′ .legs) (t′ .configurations) (t′ .constraints) c′ solutionFile r
+              → {j : Judged} → j ≡ judgedAs r k → ReadAndJudged S x s t c j t′ c′
           unfolding checked
-          choice-judged v =
-              record {
-                answers = rw whole (v ready);
+          choice-judged v e =
+              rw e
+              (record {
+                answers = rw whole (ap (λ (r : Ruling). r .answer) (v ready));
+                tallies = rw whole (ap (λ (r : Ruling). r .tally) (v ready));
                 writes = λ w g. let same : record { files = filed .files; choices = picked .0 } ≡ w = cc (whole, g) in rw (← same) (tables-are, choices-are, filed .counted);
-              }
+              })

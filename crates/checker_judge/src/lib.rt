@@ -1,26 +1,31 @@
 // What `check` and `energy` share: the files are read, then a solution, and it is judged. It promises its answer always, and the tables where nothing is refused.
 ghost use mathlib.Core.Path.{_≡_};
 ghost use Rattle.rules.specs.Lent.{given, before, after};
-ghost use Rattle.checker_judge.specs.Promise.{ReadAndJudged};
+ghost use Rattle.checker_judge.specs.Promise.{Stopped, judgedAs, ReadAndJudged};
 use rules::answers::Answer;
 use rules::answers::File;
 use rules::answers::Refusal;
+use rules::answers::Ruling;
+use rules::answers::Tally;
 use rules::stated::Stated;
 use solution_verdict::Chosen;
 use tables_lent::Counts;
 use tables_lent::Filed;
 
-// The answer, and the counts where nothing is refused.
+// The answer with its tally, and the counts where nothing is refused.
 pub struct Judged {
     pub answer: Answer,
+    pub tally: Tally,
     pub counts: Counts,
 }
 
 fn refused(refusal: Refusal) -> Judged
-    ensures { λ r. ⌜ r .answer ≡ Answer.Refused refusal ⌝ }
+    ensures { λ r. ⌜ Stopped refusal r ⌝ }
 {
+    let tally = Tally::none();
     Judged {
         answer: Answer::Refused(refusal),
+        tally,
         counts: Counts {
             legs: 0,
             configurations: 0,
@@ -30,6 +35,18 @@ fn refused(refusal: Refusal) -> Judged
             tracks: 0,
             subnets: 0,
         },
+    }
+}
+
+fn ruled(ruling: Ruling, counts: Counts) -> Judged
+    ensures { λ r. ⌜ r ≡ judgedAs ruling counts ⌝ }
+{
+    let answer = ruling.answer;
+    let tally = ruling.tally;
+    Judged {
+        answer,
+        tally,
+        counts,
     }
 }
 
@@ -75,17 +92,17 @@ pub fn read_and_judge(
             choices,
         ) {
             Chosen::Refused(refusal) => refused(refusal),
-            Chosen::Whole => Judged {
-                answer: solution_verdict::judge_choices(
+            Chosen::Whole => {
+                let ruling = solution_verdict::judge_choices(
                     counts,
                     legs,
                     configurations,
                     constraint_table,
                     choices,
                     File::SOLUTION,
-                ),
-                counts,
-            },
+                );
+                ruled(ruling, counts)
+            }
         },
     }
 }

@@ -40,6 +40,7 @@ module _ {S : Stated} {x : Texts} where
   check-ends {solution} k =
       record {
         one-of-three = one-outcome (k .result .answer);
+        no-tests = λ h. k .keeps .tally ∙ emptied h .tally;
         tables-emptied = λ h. k .keeps .tables ∙ emptied h .tables;
         choices-emptied = λ h. k .keeps .choices ∙ emptied h .choices;
         otherwise = stands;
@@ -65,6 +66,7 @@ module _ {S : Stated} {x : Texts} where
   energy-ends {solution} k =
       record {
         one-of-three = one-outcome (k .result .answer);
+        no-tests = λ h. k .keeps .tally ∙ emptied h .tally;
         tables-emptied = λ h. k .keeps .tables ∙ emptied h .tables;
         choices-emptied = λ h. k .keeps .choices ∙ emptied h .choices;
         curves-emptied = λ n. k .keeps .curves ∙ short n .0;
@@ -105,6 +107,7 @@ module _ {S : Stated} {x : Texts} where
   merge-ends {direction} {a} {b} k =
       record {
         one-of-three = one-outcome (k .result .answer);
+        no-tests = λ h. k .keeps .tally ∙ emptied h .tally;
         tables-emptied = λ h. k .keeps .tables ∙ emptied h .tables;
         choices-emptied = λ h. k .keeps .choices ∙ emptied h .choices;
         second-emptied = λ h. k .keeps .second ∙ emptied h .second;
@@ -143,18 +146,20 @@ module _ {S : Stated} {x : Texts} where
 
   check-same : {solution : List ℕ} (k l : CheckOutcome S x solution) → SameRoom (k .lent) (l .lent) (k .lentChoices) (l .lentChoices) → k .result ≡ l .result
   check-same {solution} k l room =
-      let answer : k .result .answer ≡ l .result .answer =
-      k .keeps .answer ∙ check-own-input S x solution (k .lent) (l .lent) (k .lentChoices) (l .lentChoices) room ∙ sym (l .keeps .answer) in
-      λ i. record { answer = answer i }
+      let one = check-own-input S x solution (k .lent) (l .lent) (k .lentChoices) (l .lentChoices) room in
+      let answer : k .result .answer ≡ l .result .answer = k .keeps .answer ∙ one .answer ∙ sym (l .keeps .answer) in
+      let tally : k .result .tally ≡ l .result .tally = k .keeps .tally ∙ one .tally ∙ sym (l .keeps .tally) in
+      λ i. record { answer = answer i; tally = tally i }
 
   energy-same : {solution : List ℕ} (k l : EnergyOutcome S x solution) → SameRoom (k .lent) (l .lent) (k .lentChoices) (l .lentChoices)
       → length (k .lentCurves) ≡ length (l .lentCurves) → k .result ≡ l .result
   energy-same {solution} k l room curves =
       let one = report-own-input S x solution (k .lent) (l .lent) (k .lentChoices) (l .lentChoices) (k .lentCurves) (l .lentCurves) room curves in
       let answer : k .result .answer ≡ l .result .answer = k .keeps .answer ∙ one .answer ∙ sym (l .keeps .answer) in
+      let tally : k .result .tally ≡ l .result .tally = k .keeps .tally ∙ one .tally ∙ sym (l .keeps .tally) in
       let figures : k .result .figures ≡ l .result .figures = k .keeps .figures ∙ one .figures ∙ sym (l .keeps .figures) in
       let desk : k .result .desk ≡ l .result .desk = k .keeps .desk ∙ one .desk ∙ sym (l .keeps .desk) in
-      λ i. record { answer = answer i; figures = figures i; desk = desk i }
+      λ i. record { answer = answer i; tally = tally i; figures = figures i; desk = desk i }
 
   merge-same : {direction : Direction} {a b : List ℕ} (k l : MergeOutcome direction S x a b) → SameRoom (k .lent) (l .lent) (k .lentChoices) (l .lentChoices)
       → length (k .lentSecond) ≡ length (l .lentSecond) → length (k .lentText) ≡ length (l .lentText) → k .result ≡ l .result
@@ -163,8 +168,9 @@ module _ {S : Stated} {x : Texts} where
       merge-own-input S x a (mergeOf direction) b (k .lent) (l .lent) (k .lentChoices) (l .lentChoices) (k .lentSecond) (l .lentSecond) (k .lentText) (l .lentText)
       room second text in
       let answer : k .result .answer ≡ l .result .answer = k .keeps .answer ∙ one .answer ∙ sym (l .keeps .answer) in
+      let tally : k .result .tally ≡ l .result .tally = k .keeps .tally ∙ one .tally ∙ sym (l .keeps .tally) in
       let size : k .result .length ≡ l .result .length = k .keeps .length ∙ one .length ∙ sym (l .keeps .length) in
-      λ i. record { answer = answer i; length = size i }
+      λ i. record { answer = answer i; tally = tally i; length = size i }
 
 -- THE DEMAND
 pub demand-one : (S : Stated) (x : Texts) → DemandOne S x

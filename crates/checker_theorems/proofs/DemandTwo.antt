@@ -28,7 +28,7 @@ use Rattle.rules.specs.declared.answers.Answer.the-variants.{Accepted, Violated
 use Rattle.rules.specs.declared.outcomes.Direction.{Direction}
 use Rattle.rules.specs.declared.outcomes.Direction.the-variants.{Earlier, Later}
 use Rattle.rules.proofs.Truth.{and-first}
-use Rattle.rules_theorems.specs.Demands.{HasRoom}
+use Rattle.rules_theorems.specs.Demands.{CountsTests, HasRoom}
 use Rattle.rules_theorems.proofs.Tabulate.{tabulate-length, tabulate-at}
 use Rattle.rules_theorems.proofs.Chosen.{offered-length, chosen-lawful}
 use Rattle.rules_theorems.proofs.GoodFiles.{files-good, all-good, good-all, both-good}
@@ -38,10 +38,10 @@ use Rattle.rules_theorems.proofs.Tests.{names-the-first, shortfalls}
 use Rattle.rules_theorems.proofs.Merges.{merge-verdicts, unequal-none}
 use Rattle.rules_theorems.proofs.DemandOne.{verdict-not-refused}
 use Rattle.rules_theorems.proofs.Ordered.{OfKind, ordered-keeps}
-use Rattle.rules_theorems.proofs.DemandTwo.{answer-accepted, answer-violated, acceptable-in-order, files-kinds, checked-answer}
+use Rattle.rules_theorems.proofs.DemandTwo.{answer-accepted, answer-violated, acceptable-in-order, files-kinds, counts-tests, checked-answer, checked-tally}
 use Rattle.rules_theorems.proofs.DemandThree.{over-front}
 use Rattle.checker_theorems.specs.Demands.{CheckOutcome, EnergyOutcome, MergeOutcome, Reads, BothRead, AcceptableIn, FirstFailure, Room, writtenBy, CheckJudges, EnergyJudges, ReadsBack, MergeJudges, DemandTwo}
-use Rattle.checker_theorems.proofs.Answers.{check-choices, report-accepted, report-laid, report-violated, report-decided, merge-accepted, merge-written, merge-violated, merge-decided}
+use Rattle.checker_theorems.proofs.Answers.{check-choices, report-accepted, report-laid, report-violated, report-decided, report-stands, merge-accepted, merge-written, merge-violated, merge-counted, merge-decided}
 use Rattle.checker_theorems.proofs.DemandOne.{refused-as}
 
 -- ---- the verdict over the files
@@ -117,6 +117,9 @@ module _ {S : Stated} {x : Texts} {f : Files} where
         accepted = (λ h. good-for .0 (judged .0 (sym says ∙ h)), λ h. says ∙ judged .1 (good-for .1 h));
         violated = λ v. (λ h. verdict-names f cs kinds solutionFile v .0 (sym says ∙ h), λ h. says ∙ verdict-names f cs kinds solutionFile v .1 h);
         not-refused = λ h. verdict-not-refused solutionFile (verdictOf f cs .finding) (refused-as says h);
+        counted =
+            rw (k .keeps .tally ∙ checked-tally S x solution (k .lent) (k .lentChoices) w e)
+            (counts-tests S x (roomsOf (k .lent)) f read solutionFile (length (k .lentChoices)) solution cs (all-good S x solution (roomsOf (k .lent)) (length (k .lentChoices)) w e .1));
       }
 
   energy-judges : {solution : List ℕ} {cs : List Configuration} (k : EnergyOutcome S x solution) → Reads S x solution (k .lent) (k .lentChoices) f cs → EnergyJudges k f cs
@@ -139,6 +142,9 @@ module _ {S : Stated} {x : Texts} {f : Files} where
           λ h. says ∙ named v .1 (verdict-names f cs kinds solutionFile v .1 h),
         );
         not-refused = λ fits h. report-decided S x solution (k .lent) (k .lentChoices) (k .lentCurves) w e (le-leb _ _ fits) (refused-as says h);
+        counted = λ n.
+            rw (k .keeps .tally ∙ report-stands S x solution (k .lent) (k .lentChoices) (k .lentCurves) w e (λ h. n (refused-as (sym says) h)) .2)
+            (counts-tests S x (roomsOf (k .lent)) f read solutionFile (length (k .lentChoices)) solution cs (all-good S x solution (roomsOf (k .lent)) (length (k .lentChoices)) w e .1));
         energies = λ h. k .keeps .figures ∙ ap (λ (q : Reported). q .figures) (laid (sym says ∙ h));
         powers = λ h subnet second g u.
             ap (λ curves. getD curves (subnet * S .horizon + second) (pos 0)) (k .keeps .curves ∙ ap (λ (q : Reported). q .curves) (laid (sym says ∙ h)))
@@ -232,6 +238,10 @@ module _ {S : Stated} {x : Texts} {f : Files} where
           );
           not-refused = λ same room h.
               merge-decided (mergeOf direction) S x a b (k .lent) (k .lentChoices) (k .lentSecond) (k .lentText) both e (λ v w. fits v w same room) (refused-as says h);
+          counted = λ v h. counts v (merge-counted (mergeOf direction) S x a b (k .lent) (k .lentChoices) (k .lentSecond) (k .lentText) both e v (sym says ∙ h));
+          uncounted = λ h.
+              k .keeps .tally
+              ∙ ap (λ (q : Merged). q .tally) (merge-written (mergeOf direction) S x a b (k .lent) (k .lentChoices) (k .lentSecond) (k .lentText) both e (sym says ∙ h));
           written = λ h. wrote (sym says ∙ h);
           reads-back = λ h.
               let q = right .0 (sym says ∙ h) in
@@ -243,6 +253,22 @@ module _ {S : Stated} {x : Texts} {f : Files} where
             → FirstFailure f s solutionFile v ⊎ (AcceptableIn f s × FirstFailure f r secondFile v)
         there v (inl h) = inl (verdict-names f s kinds solutionFile v .0 h)
         there v (inr h) = inr (fair f s S x (roomsOf (k .lent)) files .0 (h .0), verdict-names f r kinds secondFile v .0 (h .1))
+
+        counts : (v : Violation)
+            → ((answerOf solutionFile (verdictOf f s .finding) ≡ Violated v) × (said .tally ≡ verdictOf f s .tally))
+            ⊎ ((verdictOf f s .finding ≡ accepted) × (answerOf secondFile (verdictOf f r .finding) ≡ Violated v) × (said .tally ≡ verdictOf f r .tally))
+            → (FirstFailure f s solutionFile v × CountsTests f s (k .result .tally)) ⊎ (AcceptableIn f s × FirstFailure f r secondFile v × CountsTests f r (k .result .tally))
+        counts v (inl h) =
+            inl (
+              verdict-names f s kinds solutionFile v .0 (h .0),
+              rw (k .keeps .tally ∙ h .1) (counts-tests S x (roomsOf (k .lent)) f files solutionFile (length (k .lentChoices)) a s (both-good S x a b (roomsOf (k .lent)) (length (k .lentChoices)) (length (k .lentSecond)) both e .1)),
+            )
+        counts v (inr h) =
+            inr (
+              fair f s S x (roomsOf (k .lent)) files .0 (h .0),
+              verdict-names f r kinds secondFile v .0 (h .1),
+              rw (k .keeps .tally ∙ h .2) (counts-tests S x (roomsOf (k .lent)) f files secondFile (length (k .lentSecond)) b r (both-good S x a b (roomsOf (k .lent)) (length (k .lentChoices)) (length (k .lentSecond)) both e .2)),
+            )
 
         back : (v : Violation) → FirstFailure f s solutionFile v ⊎ (AcceptableIn f s × FirstFailure f r secondFile v)
             → (answerOf solutionFile (verdictOf f s .finding) ≡ Violated v) ⊎ ((verdictOf f s .finding ≡ accepted) × (answerOf secondFile (verdictOf f r .finding) ≡ Violated v))

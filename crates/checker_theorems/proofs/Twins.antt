@@ -17,8 +17,9 @@ module _ (S R : Stated) (x y : Texts) where
   check-twins s o p lent choices t =
       let e : checked R y s (p .lent) (p .lentChoices) ≡ checked S x s (o .lent) (o .lentChoices) =
       rw (lent, choices) (check-twin S R x y (o .lent) (t .files) (t .twins) (t .read) s (o .lentChoices)) in
-      let answer = p .keeps .answer ∙ ap (λ (k : Checked). k .answer) e ∙ sym (o .keeps .answer) in (
-        λ j. record { answer = answer j },
+      let answer = p .keeps .answer ∙ ap (λ (k : Checked). k .answer) e ∙ sym (o .keeps .answer) in
+      let tally = p .keeps .tally ∙ ap (λ (k : Checked). k .tally) e ∙ sym (o .keeps .tally) in (
+        λ j. record { answer = answer j; tally = tally j },
         p .keeps .tables ∙ ap (λ (k : Checked). k .tables) e ∙ sym (o .keeps .tables),
         p .keeps .choices ∙ ap (λ (k : Checked). k .choices) e ∙ sym (o .keeps .choices),
       )
@@ -29,9 +30,10 @@ module _ (S R : Stated) (x y : Texts) where
       let e : reported R y s (p .lent) (p .lentChoices) (p .lentCurves) ≡ reported S x s (o .lent) (o .lentChoices) (o .lentCurves) =
       rw (lent, choices, curves) (report-twin S R x y (o .lent) (t .files) (t .twins) (t .read) s (o .lentChoices) (o .lentCurves)) in
       let answer = p .keeps .answer ∙ ap (λ (k : Reported). k .answer) e ∙ sym (o .keeps .answer) in
+      let tally = p .keeps .tally ∙ ap (λ (k : Reported). k .tally) e ∙ sym (o .keeps .tally) in
       let figures = p .keeps .figures ∙ ap (λ (k : Reported). k .figures) e ∙ sym (o .keeps .figures) in
       let desk = p .keeps .desk ∙ ap (λ (k : Reported). k .desk) e ∙ sym (o .keeps .desk) in (
-        λ j. record { answer = answer j; figures = figures j; desk = desk j },
+        λ j. record { answer = answer j; tally = tally j; figures = figures j; desk = desk j },
         p .keeps .tables ∙ ap (λ (k : Reported). k .tables) e ∙ sym (o .keeps .tables),
         p .keeps .choices ∙ ap (λ (k : Reported). k .choices) e ∙ sym (o .keeps .choices),
         p .keeps .curves ∙ ap (λ (k : Reported). k .curves) e ∙ sym (o .keeps .curves),
@@ -45,8 +47,9 @@ module _ (S R : Stated) (x y : Texts) where
       rw (lent, choices, second, text)
       (merge-twin S R x y (o .lent) (t .files) (t .twins) (t .read) (mergeOf direction) a b (o .lentChoices) (o .lentSecond) (o .lentText)) in
       let answer = p .keeps .answer ∙ ap (λ (k : Merged). k .answer) e ∙ sym (o .keeps .answer) in
+      let tally = p .keeps .tally ∙ ap (λ (k : Merged). k .tally) e ∙ sym (o .keeps .tally) in
       let length = p .keeps .length ∙ ap (λ (k : Merged). k .length) e ∙ sym (o .keeps .length) in (
-        λ j. record { answer = answer j; length = length j },
+        λ j. record { answer = answer j; tally = tally j; length = length j },
         p .keeps .tables ∙ ap (λ (k : Merged). k .tables) e ∙ sym (o .keeps .tables),
         p .keeps .choices ∙ ap (λ (k : Merged). k .choices) e ∙ sym (o .keeps .choices),
         p .keeps .second ∙ ap (λ (k : Merged). k .second) e ∙ sym (o .keeps .second),

@@ -11,6 +11,7 @@ use Rattle.rules.specs.Answers.{good, solutionFile, secondFile}
 use Rattle.rules.specs.Timetable.{configurationNumbers}
 use Rattle.rules.specs.Constraints.{ordered}
 use Rattle.rules.specs.Reading.{Texts, Files, filesOf}
+use Rattle.rules.specs.Tally.{noTests}
 use Rattle.rules.specs.Verdict.{offered, Acceptable, Test, tests, shownIn}
 use Rattle.rules.specs.Energy.{samplesIn, homesOf, power, figuresOf, curvesOf}
 use Rattle.rules.specs.Merge.{mergeOf, SameTravel, chosen, textOf}
@@ -27,7 +28,7 @@ use Rattle.rules.specs.declared.outcomes.Direction.{Direction}
 use Rattle.rules.specs.declared.outcomes.Direction.the-variants.{Earlier, Later}
 use Rattle.rules_theorems.specs.Tests.{FirstFailing, Numbered}
 use Rattle.rules_theorems.specs.Outcomes.{Outcome, SameRoom}
-use Rattle.rules_theorems.specs.Demands.{IsRefused, NoFieldIsFill, NoChoiceIsFill, NoPowerIsFill, HasRoom}
+use Rattle.rules_theorems.specs.Demands.{IsRefused, CountsTests, NoFieldIsFill, NoChoiceIsFill, NoPowerIsFill, HasRoom}
 
 -- ---- an outcome of a call: what was lent, what it gave back, and what was lent, as it is left
 
@@ -86,6 +87,7 @@ CurvesStand H f cs lent left = (left ≡ over (curvesOf H f cs) lent) × NoPower
 module _ {S : Stated} {x : Texts} where
   pub record CheckEnds {solution : List ℕ} (k : CheckOutcome S x solution) : Type 0 where
     pub one-of-three : Outcome (k .result .answer)
+    pub no-tests : IsRefused (k .result .answer) → k .result .tally ≡ noTests
     pub tables-emptied : IsRefused (k .result .answer) → k .tables ≡ filledTables (k .lent)
     pub choices-emptied : IsRefused (k .result .answer) → k .choices ≡ filled unsignedFill (k .lentChoices)
     pub otherwise : (IsRefused (k .result .answer) → ⊥) → (f : Files) × (cs : List Configuration)
@@ -94,6 +96,7 @@ module _ {S : Stated} {x : Texts} where
   -- short of acceptance there are no figures, and the curve table holds only such a number
   pub record EnergyEnds {solution : List ℕ} (k : EnergyOutcome S x solution) : Type 0 where
     pub one-of-three : Outcome (k .result .answer)
+    pub no-tests : IsRefused (k .result .answer) → k .result .tally ≡ noTests
     pub tables-emptied : IsRefused (k .result .answer) → k .tables ≡ filledTables (k .lent)
     pub choices-emptied : IsRefused (k .result .answer) → k .choices ≡ filled unsignedFill (k .lentChoices)
     pub curves-emptied : (k .result .answer ≡ Accepted → ⊥) → k .curves ≡ filled signedFill (k .lentCurves)
@@ -105,6 +108,7 @@ module _ {S : Stated} {x : Texts} where
   -- short of acceptance no text is left
   pub record MergeEnds {direction : Direction} {a b : List ℕ} (k : MergeOutcome direction S x a b) : Type 0 where
     pub one-of-three : Outcome (k .result .answer)
+    pub no-tests : IsRefused (k .result .answer) → k .result .tally ≡ noTests
     pub tables-emptied : IsRefused (k .result .answer) → k .tables ≡ filledTables (k .lent)
     pub choices-emptied : IsRefused (k .result .answer) → k .choices ≡ filled unsignedFill (k .lentChoices)
     pub second-emptied : IsRefused (k .result .answer) → k .second ≡ filled unsignedFill (k .lentSecond)
@@ -168,12 +172,14 @@ module _ {S : Stated} {x : Texts} where
     pub accepted : (k .result .answer ≡ Accepted) ↔ AcceptableIn f cs
     pub violated : (v : Violation) → (k .result .answer ≡ Violated v) ↔ FirstFailure f cs solutionFile v
     pub not-refused : IsRefused (k .result .answer) → ⊥
+    pub counted : CountsTests f cs (k .result .tally)
 
   -- "Energies are exact whole kilojoules by document 01"
   pub record EnergyJudges {solution : List ℕ} (k : EnergyOutcome S x solution) (f : Files) (cs : List Configuration) : Type 0 where
     pub accepted : (k .result .answer ≡ Accepted) ↔ (AcceptableIn f cs × CurvesFit (S .horizon) f (k .lentCurves))
     pub violated : (v : Violation) → (k .result .answer ≡ Violated v) ↔ FirstFailure f cs solutionFile v
     pub not-refused : CurvesFit (S .horizon) f (k .lentCurves) → IsRefused (k .result .answer) → ⊥
+    pub counted : (IsRefused (k .result .answer) → ⊥) → CountsTests f cs (k .result .tally)
     pub energies : k .result .answer ≡ Accepted → k .result .figures ≡ figuresOf (S .horizon) f cs
     pub powers : k .result .answer ≡ Accepted → (subnet second : ℕ) → subnet < f .document .opened → second < S .horizon
         → powerAt k subnet second ≡ power (samplesIn (f .curves)) (homesOf (f .document .tracks) (f .rows)) cs subnet second
@@ -183,6 +189,10 @@ module _ {S : Stated} {x : Texts} where
     pub accepted : (k .result .answer ≡ Accepted) ↔ (AcceptableIn f s × AcceptableIn f r × SameTravel s r × HasRoom f (mergeOf direction s r) (k .lentText))
     pub violated : (v : Violation) → (k .result .answer ≡ Violated v) ↔ (FirstFailure f s solutionFile v ⊎ (AcceptableIn f s × FirstFailure f r secondFile v))
     pub not-refused : SameTravel s r → HasRoom f (mergeOf direction s r) (k .lentText) → IsRefused (k .result .answer) → ⊥
+    -- the tests of the solution that it lies in; a text that is written counts none
+    pub counted : (v : Violation) → k .result .answer ≡ Violated v
+        → (FirstFailure f s solutionFile v × CountsTests f s (k .result .tally)) ⊎ (AcceptableIn f s × FirstFailure f r secondFile v × CountsTests f r (k .result .tally))
+    pub uncounted : k .result .answer ≡ Accepted → k .result .tally ≡ noTests
     pub written : k .result .answer ≡ Accepted → writtenBy k ≡ textOf (chosen (f .rows) (mergeOf direction s r))
     pub reads-back : k .result .answer ≡ Accepted → ReadsBack S x f (mergeOf direction s r) (writtenBy k)
 

@@ -15,9 +15,11 @@ use Rattle.rules.specs.Lists.{over}
 use Rattle.rules.specs.Profiles.{profilesFrom, profileNumbers}
 use Rattle.rules.specs.Constraints.{trackNumbers}
 use Rattle.rules.specs.Reading.{legIds, filesOf}
+use Rattle.rules.specs.Tally.{noTests}
 use Rattle.rules.specs.Energy.{figuresOf, curvesOf, deskOf}
 use Rattle.rules.specs.Entries.{roomsOf, Whole}
 use Rattle.rules.specs.declared.answers.Refusal.{Refusal}
+use Rattle.rules.specs.declared.answers.Tally.{Tally}
 use Rattle.rules.specs.declared.answers.Answer.{Answer}
 use Rattle.rules.specs.declared.answers.Answer.the-variants.{Accepted, Refused}
 use Rattle.rules.specs.declared.figures.Figures.{Figures}
@@ -106,8 +108,8 @@ module _ {H : ℕ} {counts : filed.Counts.Counts} {choices legs profiles : List 
       pub worked-exact : Exact r
       worked-exact = subst Exact (sym (worked .figures-are)) (figures-exact H (given k choices legs profiles samples tracks) left-readable)
 
-      pub worked-out : {d : Desk} {a : Answer} → a ≡ Accepted → d ≡ deskOf r → WorkedOut H w p (record { answer = a; figures = r; desk = d }) p′
-      worked-out e q = record { answer = e; figures = worked-figures; desk = q ∙ ap deskOf worked-figures; curves = worked-curves }
+      pub worked-out : {n : Tally} {d : Desk} {a : Answer} → a ≡ Accepted → d ≡ deskOf r → WorkedOut H n w p (record { answer = a; tally = n; figures = r; desk = d }) p′
+      worked-out e q = record { answer = e; tally = refl; figures = worked-figures; desk = q ∙ ap deskOf worked-figures; curves = worked-curves }
 
 -- the curves' room, by either count of the subnets
 pub risen-room : {H : ℕ} {counts : filed.Counts.Counts} {choices legs profiles : List ℕ} {samples : List ℤ} {tracks : List ℕ} {p : List ℤ} {k : Counts}
@@ -131,19 +133,19 @@ module _ {H : ℕ} {counts : filed.Counts.Counts} {choices legs profiles : List 
   needed : counts .subnets * H ≡ l .whole .files .document .opened * H
   needed = ap (λ c. c .subnets * H) (l .counted)
 
-  pub tested-short : {p p′ : List ℤ} {r : Report} {x : Refusal} → length p < counts .subnets * H → x ≡ refusal noRoom noFile 0 → r ≡ noReport (Refused x)
-      → Tested (leb (l .whole .files .document .opened * H) (length p)) H (l .whole) (l .lent) (l .lentChoices) p r p′
-  tested-short {p} {p′} {r} {x} h q e =
-      subst (λ fits. Tested fits H (l .whole) (l .lent) (l .lentChoices) p r p′)
+  pub tested-short : {tally : Tally} {p p′ : List ℤ} {r : Report} {x : Refusal} {n : Tally} → length p < counts .subnets * H → x ≡ refusal noRoom noFile 0 → n ≡ noTests → r ≡ noReport (Refused x) n
+      → Tested (leb (l .whole .files .document .opened * H) (length p)) H tally (l .whole) (l .lent) (l .lentChoices) p r p′
+  tested-short {tally} {p} {p′} {r} h q none e =
+      subst (λ fits. Tested fits H tally (l .whole) (l .lent) (l .lentChoices) p r p′)
       (sym (lt-leb (l .whole .files .document .opened * H) (length p) (omega (arith, needed))))
-      (rw (e, q) (record { answer = refl; figures = refl; desk = refl; curves = λ z. absurd (never z) }))
+      (rw (e, q, none) (record { answer = refl; tally = refl; figures = refl; desk = refl; curves = λ z. absurd (never z) }))
     where
       never : false ≡ true → ⊥
       never z = let q : _≡_ {A = ℕ} 0 1 = cc in omega arith
 
-  pub tested-right : {p p′ : List ℤ} {r : Report} → counts .subnets * H ≤ length p → WorkedOut H (l .whole) p r p′
-      → Tested (leb (l .whole .files .document .opened * H) (length p)) H (l .whole) (l .lent) (l .lentChoices) p r p′
-  tested-right {p} {p′} {r} h k =
-      subst (λ fits. Tested fits H (l .whole) (l .lent) (l .lentChoices) p r p′)
+  pub tested-right : {tally : Tally} {p p′ : List ℤ} {r : Report} → counts .subnets * H ≤ length p → WorkedOut H tally (l .whole) p r p′
+      → Tested (leb (l .whole .files .document .opened * H) (length p)) H tally (l .whole) (l .lent) (l .lentChoices) p r p′
+  tested-right {tally} {p} {p′} {r} h k =
+      subst (λ fits. Tested fits H tally (l .whole) (l .lent) (l .lentChoices) p r p′)
       (sym (le-leb (l .whole .files .document .opened * H) (length p) (omega (arith, needed))))
-      (record { answer = k .answer; figures = k .figures; desk = k .desk; curves = λ z. k .curves })
+      (record { answer = k .answer; tally = k .tally; figures = k .figures; desk = k .desk; curves = λ z. k .curves })

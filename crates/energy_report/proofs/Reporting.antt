@@ -14,8 +14,9 @@ use Rattle.rules.specs.Entries.{Tables, roomsOf, verdictOf, Whole, allRead, che
 use Rattle.rules.specs.declared.stated.Stated.{Stated}
 use Rattle.rules.specs.declared.answers.Answer.{Answer}
 use Rattle.rules.specs.declared.answers.Answer.the-variants.{Accepted, Violated, Refused}
+use Rattle.rules.specs.declared.answers.Tally.{Tally}
 use Rattle.rules.specs.declared.outcomes.Report.{Report}
-use Rattle.rules_theorems.proofs.DemandTwo.{accepted-read}
+use Rattle.rules_theorems.proofs.DemandTwo.{accepted-read, checked-tally}
 use Rattle.checker_judge.specs.declared.Judged.{Judged}
 use Rattle.checker_judge.specs.Promise.{ReadAndJudged}
 use Rattle.energy_report.specs.Promise.{noReport, ReportRead}
@@ -43,12 +44,13 @@ module _ {S : Stated} {x : Texts} {s : List ℕ} {t : Tables} {c : List ℕ} {j 
       go (good w) e z = (read .writes w e .0, read .writes w e .1)
 
   -- short of acceptance
-  pub reported-short : {p p′ : List ℤ} {r : Report} {b : Bool} → b ≡ isAccepted a → b ≡ false → r ≡ noReport a → ReportRead S x s t c p r t′ c′ p′
+  pub reported-short : {p p′ : List ℤ} {r : Report} {b : Bool} → b ≡ isAccepted a → b ≡ false → r ≡ noReport a (j .tally) → ReportRead S x s t c p r t′ c′ p′
   reported-short {p} {p′} {r} q g e =
       let h : isAccepted a ≡ false = sym q ∙ g in
       let k : Short (checked S x s t c) (reported S x s t c p) = report-short S x s t c p (ap isAccepted (sym (read .answers)) ∙ h) in
       record {
         answers = ap (λ (q : Report). q .answer) e ∙ read .answers ∙ sym (k .answer);
+        tallies = ap (λ (q : Report). q .tally) e ∙ read .tallies ∙ sym (k .tally);
         figures-are = ap (λ (q : Report). q .figures) e ∙ sym (k .figures);
         desk-is = ap (λ (q : Report). q .desk) e ∙ sym (k .desk);
         writes = λ z.
@@ -66,6 +68,9 @@ module _ {S : Stated} {x : Texts} {s : List ℕ} {t : Tables} {c : List ℕ} {j 
 
     found : (w : Whole) × (allRead S x s (roomsOf t) (length c) ≡ good w) × (verdictOf (w .files) (w .choices) .finding ≡ accepted)
     found = accepted-read S x s t c (sym (read .answers) ∙ is-accepted a h)
+
+    tallied : j .tally ≡ verdictOf (found .0 .files) (found .0 .choices) .tally
+    tallied = read .tallies ∙ checked-tally S x s t c (found .0) (found .1)
 
     -- accepted: the tables are what the energies are worked out of
     pub accepted-left : Left (S .horizon) (j .counts) c′ (t′ .legs) (t′ .profiles) (t′ .samples) (t′ .tracks)
@@ -91,22 +96,24 @@ module _ {S : Stated} {x : Texts} {s : List ℕ} {t : Tables} {c : List ℕ} {j 
         }
 
     -- and so is the report
-    pub reported-tested : {p p′ : List ℤ} {r : Report} → Tests (S .horizon) (j .counts) c′ (t′ .legs) (t′ .profiles) (t′ .samples) (t′ .tracks) p r p′ → ReportRead S x s t c p r t′ c′ p′
+    pub reported-tested : {p p′ : List ℤ} {r : Report} → Tests (S .horizon) (j .tally) (j .counts) c′ (t′ .legs) (t′ .profiles) (t′ .samples) (t′ .tracks) p r p′ → ReportRead S x s t c p r t′ c′ p′
     unfolding found accepted-left
     reported-tested {p} {p′} {r} tests =
         let w = found .0 in
         let fits = leb (w .files .document .opened * S .horizon) (length p) in
-        let same : reported S x s t c p ≡ reportAccepted fits (S .horizon) w t c p = report-fits S x s t c p w (found .1) (found .2) fits refl in
-        let k : Tested fits (S .horizon) w t c p r p′ = tests accepted-left in
+        let same : reported S x s t c p ≡ reportAccepted fits (S .horizon) (j .tally) w t c p =
+        report-fits S x s t c p w (found .1) (found .2) fits refl ∙ ap (λ (n : Tally). reportAccepted fits (S .horizon) n w t c p) (sym tallied) in
+        let k : Tested fits (S .horizon) (j .tally) w t c p r p′ = tests accepted-left in
         record {
           answers = k .answer ∙ sym (ap (λ (q : Reported). q .answer) same);
+          tallies = k .tally ∙ sym (ap (λ (q : Reported). q .tally) same);
           figures-are = k .figures ∙ sym (ap (λ (q : Reported). q .figures) same);
           desk-is = k .desk ∙ sym (ap (λ (q : Reported). q .desk) same);
           writes = λ z. kept fits same (ap isRefusal (sym (k .answer)) ∙ z);
           lays = λ z. k .curves z ∙ sym (ap (λ (q : Reported). q .curves) same);
         }
       where
-        kept : (fits : Bool) → reported S x s t c p ≡ reportAccepted fits (S .horizon) (found .0) t c p → isRefusal (reportAccepted fits (S .horizon) (found .0) t c p .answer) ≡ false
+        kept : (fits : Bool) → reported S x s t c p ≡ reportAccepted fits (S .horizon) (j .tally) (found .0) t c p → isRefusal (reportAccepted fits (S .horizon) (j .tally) (found .0) t c p .answer) ≡ false
             → (t′ ≡ reported S x s t c p .tables) × (c′ ≡ reported S x s t c p .choices)
         kept true e z =
             let left = read .writes (found .0) (found .1) in

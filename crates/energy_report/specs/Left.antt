@@ -14,6 +14,7 @@ use Rattle.rules.specs.Verdict.{accepted}
 use Rattle.rules.specs.Energy.{figuresOf, curvesOf, deskOf}
 use Rattle.rules.specs.Entries.{Tables, roomsOf, writtenTables, writtenChoices, verdictOf, Whole, allRead, reportAccepted}
 use Rattle.rules.specs.declared.stated.Stated.{Stated}
+use Rattle.rules.specs.declared.answers.Tally.{Tally}
 use Rattle.rules.specs.declared.answers.Answer.the-variants.{Accepted}
 use Rattle.rules.specs.declared.outcomes.Report.{Report}
 use Rattle.tables_ids.specs.Column.{Rising}
@@ -49,8 +50,9 @@ pub record Risen (counts : filed.Counts.Counts) (profiles tracks : List ℕ) (k 
   pub tracks-rise : Rising trackWidth (k .tracks .count) (k .tracks .rising) tracks
 
 -- the figures of the solution, and its curves at the front of their table
-pub record WorkedOut (H : ℕ) (w : Whole) (p : List ℤ) (r : Report) (p′ : List ℤ) : Type 0 where
+pub record WorkedOut (H : ℕ) (n : Tally) (w : Whole) (p : List ℤ) (r : Report) (p′ : List ℤ) : Type 0 where
   pub answer : r .answer ≡ Accepted
+  pub tally : r .tally ≡ n
   pub figures : r .figures ≡ figuresOf H (w .files) (w .choices)
   pub desk : r .desk ≡ deskOf (figuresOf H (w .files) (w .choices))
   pub curves : p′ ≡ over (curvesOf H (w .files) (w .choices)) p
@@ -61,19 +63,20 @@ pub record Roomy (H : ℕ) (counts : filed.Counts.Counts) (choices legs profiles
   pub room : counts .subnets * H ≤ length p
 
 -- whatever solution it is that left them
-abbrev pub Works : (H : ℕ) (counts : filed.Counts.Counts) (choices legs profiles : List ℕ) (samples : List ℤ) (tracks : List ℕ) (p : List ℤ) (r : Report) (p′ : List ℤ) → Type 0
-Works H counts choices legs profiles samples tracks p r p′ =
-    (l : Left H counts choices legs profiles samples tracks) → WorkedOut H (l .whole) p r p′
+abbrev pub Works : (H : ℕ) (tally : Tally) (counts : filed.Counts.Counts) (choices legs profiles : List ℕ) (samples : List ℤ) (tracks : List ℕ) (p : List ℤ) (r : Report) (p′ : List ℤ) → Type 0
+Works H tally counts choices legs profiles samples tracks p r p′ =
+    (l : Left H counts choices legs profiles samples tracks) → WorkedOut H tally (l .whole) p r p′
 
 -- ---- the curves' room is tested after acceptance
 
 -- t, c: the tables and the choices as they were lent
-pub record Tested (fits : Bool) (H : ℕ) (w : Whole) (t : Tables) (c : List ℕ) (p : List ℤ) (r : Report) (p′ : List ℤ) : Type 0 where
-  pub answer : r .answer ≡ reportAccepted fits H w t c p .answer
-  pub figures : r .figures ≡ reportAccepted fits H w t c p .figures
-  pub desk : r .desk ≡ reportAccepted fits H w t c p .desk
-  pub curves : isAccepted (r .answer) ≡ true → p′ ≡ reportAccepted fits H w t c p .curves
+pub record Tested (fits : Bool) (H : ℕ) (n : Tally) (w : Whole) (t : Tables) (c : List ℕ) (p : List ℤ) (r : Report) (p′ : List ℤ) : Type 0 where
+  pub answer : r .answer ≡ reportAccepted fits H n w t c p .answer
+  pub tally : r .tally ≡ reportAccepted fits H n w t c p .tally
+  pub figures : r .figures ≡ reportAccepted fits H n w t c p .figures
+  pub desk : r .desk ≡ reportAccepted fits H n w t c p .desk
+  pub curves : isAccepted (r .answer) ≡ true → p′ ≡ reportAccepted fits H n w t c p .curves
 
-abbrev pub Tests : (H : ℕ) (counts : filed.Counts.Counts) (choices legs profiles : List ℕ) (samples : List ℤ) (tracks : List ℕ) (p : List ℤ) (r : Report) (p′ : List ℤ) → Type 0
-Tests H counts choices legs profiles samples tracks p r p′ =
-    (l : Left H counts choices legs profiles samples tracks) → Tested (leb (l .whole .files .document .opened * H) (length p)) H (l .whole) (l .lent) (l .lentChoices) p r p′
+abbrev pub Tests : (H : ℕ) (tally : Tally) (counts : filed.Counts.Counts) (choices legs profiles : List ℕ) (samples : List ℤ) (tracks : List ℕ) (p : List ℤ) (r : Report) (p′ : List ℤ) → Type 0
+Tests H tally counts choices legs profiles samples tracks p r p′ =
+    (l : Left H counts choices legs profiles samples tracks) → Tested (leb (l .whole .files .document .opened * H) (length p)) H tally (l .whole) (l .lent) (l .lentChoices) p r p′

@@ -4,6 +4,7 @@ ghost use Rattle.rules.specs.Lent.{given, before, after};
 ghost use Rattle.energy_report.specs.Promise.{noReport, ReportRead};
 use energy_parts::desk;
 use rules::answers::Answer;
+use rules::answers::Tally;
 use rules::figures::Figures;
 use rules::figures::Peak;
 use rules::figures::Peaks;
@@ -14,8 +15,8 @@ use tables_lent::acceptance;
 pub mod working; // an accepted solution
 
 // Short of acceptance all figures are 0.
-pub fn no_report(answer: Answer) -> Report
-    ensures { λ r. ⌜ r ≡ noReport answer ⌝ }
+pub fn no_report(answer: Answer, tally: Tally) -> Report
+    ensures { λ r. ⌜ r ≡ noReport answer tally ⌝ }
 {
     let figures = Figures {
         before: 0,
@@ -30,6 +31,7 @@ pub fn no_report(answer: Answer) -> Report
     let desk = desk::for_desk(figures);
     Report {
         answer,
+        tally,
         figures,
         desk,
     }
@@ -70,10 +72,12 @@ pub fn read_and_report(
         choices,
     );
     let answer = judged.answer;
+    let tally = judged.tally;
     let counts = judged.counts;
     if acceptance::is_accepted(answer) {
         return working::report_accepted(
             stated.horizon,
+            tally,
             counts,
             choices,
             legs,
@@ -83,5 +87,5 @@ pub fn read_and_report(
             curves,
         );
     }
-    no_report(answer)
+    no_report(answer, tally)
 }

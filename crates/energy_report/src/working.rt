@@ -9,6 +9,7 @@ use energy_parts::runs::Entries;
 use rules::answers::Answer;
 use rules::answers::File;
 use rules::answers::Refusal;
+use rules::answers::Tally;
 use rules::outcomes::Report;
 use rules::sizes::Profile;
 use rules::sizes::Track;
@@ -34,9 +35,10 @@ fn risen(counts: tables_lent::Counts, profiles: &[u32], tracks: &[u32]) -> Count
     }
 }
 
-// The curve table has room for them.
+// The curve table has room for them. The tally is the verdict's.
 fn work_out(
     h: u32,
+    tally: Tally,
     counts: tables_lent::Counts,
     choices: &[u32],
     legs: &[u32],
@@ -46,7 +48,7 @@ fn work_out(
     curves: &mut [i32],
 ) -> Report
     requires { ⌜ Roomy h counts (now choices) (now legs) (now profiles) (now samples) (now tracks) (now curves) ⌝ }
-    ensures { λ r. ⌜ Works h counts (now (choices .entry)) (now (legs .entry)) (now (profiles .entry)) (now (samples .entry)) (now (tracks .entry)) (now (curves .entry)) r (now (curves .exit)) ⌝ }
+    ensures { λ r. ⌜ Works h tally counts (now (choices .entry)) (now (legs .entry)) (now (profiles .entry)) (now (samples .entry)) (now (tracks .entry)) (now (curves .entry)) r (now (curves .exit)) ⌝ }
 {
     let entries = risen(counts, profiles, tracks);
     let figures = energy_figures::work_out(
@@ -62,6 +64,7 @@ fn work_out(
     let desk = desk::for_desk(figures);
     Report {
         answer: Answer::Accepted,
+        tally,
         figures,
         desk,
     }
@@ -70,6 +73,7 @@ fn work_out(
 // "Less room is 16 (file 0, place 0), after acceptance."
 pub fn report_accepted(
     h: u32,
+    tally: Tally,
     counts: tables_lent::Counts,
     choices: &[u32],
     legs: &[u32],
@@ -79,12 +83,22 @@ pub fn report_accepted(
     curves: &mut [i32],
 ) -> Report
     requires { ⌜ Left h counts (now choices) (now legs) (now profiles) (now samples) (now tracks) ⌝ }
-    ensures { λ r. ⌜ Tests h counts (now (choices .entry)) (now (legs .entry)) (now (profiles .entry)) (now (samples .entry)) (now (tracks .entry)) (now (curves .entry)) r (now (curves .exit)) ⌝ }
+    ensures { λ r. ⌜ Tests h tally counts (now (choices .entry)) (now (legs .entry)) (now (profiles .entry)) (now (samples .entry)) (now (tracks .entry)) (now (curves .entry)) r (now (curves .exit)) ⌝ }
 {
     let subnets = counts.subnets;
     if curves.len() < subnets * (h as usize) {
         let refusal = Refusal::new(Refusal::ROOM, File::NONE, 0);
-        return no_report(Answer::Refused(refusal));
+        return no_report(Answer::Refused(refusal), Tally::none());
     }
-    work_out(h, counts, choices, legs, profiles, samples, tracks, curves)
+    work_out(
+        h,
+        tally,
+        counts,
+        choices,
+        legs,
+        profiles,
+        samples,
+        tracks,
+        curves,
+    )
 }

@@ -14,26 +14,26 @@ use Rattle.exports_numbers.specs.Exported.{Exported}
 
 -- what the definition's outcomes are in numbers
 abbrev pub checkedNumbers : Checked → List ℕ
-checkedNumbers r = checkNumbers (record { answer = r .answer })
+checkedNumbers r = checkNumbers (record { answer = r .answer; tally = r .tally })
 
 abbrev pub reportedNumbers : Reported → List ℕ
-reportedNumbers r = reportNumbers (record { answer = r .answer; figures = r .figures; desk = r .desk })
+reportedNumbers r = reportNumbers (record { answer = r .answer; tally = r .tally; figures = r .figures; desk = r .desk })
 
 abbrev pub mergedNumbers : Merged → List ℕ
-mergedNumbers r = mergeNumbers (record { answer = r .answer; length = r .length })
+mergedNumbers r = mergeNumbers (record { answer = r .answer; tally = r .tally; length = r .length })
 
 module _ (S : Stated) (x : Texts) (s : List ℕ) (t : Tables) (c : List ℕ) where
   pub check-tells : {n : List ℕ} {t′ : Tables} {c′ : List ℕ} → Exported (λ r. Checks S x s t c r t′ c′) checkNumbers n
       → n ≡ checkedNumbers (checked S x s t c)
-  check-tells e = e .tells ∙ (λ j. checkNumbers (record { answer = e .keeps .answer j }))
+  check-tells e = e .tells ∙ (λ j. checkNumbers (record { answer = e .keeps .answer j; tally = e .keeps .tally j }))
 
   pub energy-tells : (p : List ℤ) {n : List ℕ} {t′ : Tables} {c′ : List ℕ} {p′ : List ℤ} → Exported (λ r. Reports S x s t c p r t′ c′ p′) reportNumbers n
       → n ≡ reportedNumbers (reported S x s t c p)
   energy-tells p e =
       e .tells
-      ∙ (λ j. reportNumbers (record { answer = e .keeps .answer j; figures = e .keeps .figures j; desk = e .keeps .desk j }))
+      ∙ (λ j. reportNumbers (record { answer = e .keeps .answer j; tally = e .keeps .tally j; figures = e .keeps .figures j; desk = e .keeps .desk j }))
 
 module _ (direction : Direction) (S : Stated) (x : Texts) (a b : List ℕ) (t : Tables) (c d w : List ℕ) where
   pub merge-tells : {n : List ℕ} {t′ : Tables} {c′ d′ w′ : List ℕ} → Exported (λ r. Merges direction S x a b t c d w r t′ c′ d′ w′) mergeNumbers n
       → n ≡ mergedNumbers (merged (mergeOf direction) S x a b t c d w)
-  merge-tells e = e .tells ∙ (λ j. mergeNumbers (record { answer = e .keeps .answer j; length = e .keeps .length j }))
+  merge-tells e = e .tells ∙ (λ j. mergeNumbers (record { answer = e .keeps .answer j; tally = e .keeps .tally j; length = e .keeps .length j }))

@@ -1,4 +1,4 @@
-pub mod Front
+pub mod Placing
 pub mod Complement
-pub mod Told
+pub mod Energies
 pub mod Places

@@ -1,12 +1,15 @@
--- What is written to the numbers that C lends: a code, then values, then 0s.
-use Prim.Native.Nat.{ℕ, _*_}
-use mathlib.Core.List.{List, [], _∷_}
-use lib.ListN.{replicate}
+-- What is written to the numbers that C lends: a code, then values, then 0s; and how much was tested (document 02, E6).
+use Prim.Native.Nat.{ℕ, _+_, _*_}
+use mathlib.Core.List.{List, [], _∷_, _++_}
+use lib.ListN.{getD, replicate}
 use mir.Syntax.{w64}
 use mir.Val.{ofZ}
 use Rattle.rules.specs.Limits.{mostHorizon, mostText, mostLegs, legWidth, mostConfigurations, configurationWidth, mostProfiles, profileWidth, mostSamples, mostConstraints, constraintWidth, mostSubnets, mostTracks, trackWidth}
+use Rattle.rules.specs.Kinds.{notOffered, headway, singleTrack, dwell, turnaround, connection}
 use Rattle.rules.specs.Answers.{valuesOf}
 use Rattle.rules.specs.Lists.{over}
+use Rattle.rules.specs.Tally.{noTests}
+use Rattle.rules.specs.declared.answers.Tally.{Tally}
 use Rattle.rules.specs.declared.answers.Answer.{Answer}
 use Rattle.rules.specs.declared.answers.Answer.the-variants.{Accepted, Violated, Refused}
 use Rattle.rules.specs.declared.figures.Figures.{Figures}
@@ -29,25 +32,51 @@ refusedCode = 2
 abbrev pub rowCode : ℕ
 rowCode = 3
 
--- what C lends
+-- what C lends: for a code and its values, and for how much was tested
+abbrev pub lentValues : ℕ
+lentValues = 16
+
+abbrev pub lentTests : ℕ
+lentTests = 8
+
 abbrev pub lentNumbers : ℕ
-lentNumbers = 16
+lentNumbers = lentValues + lentTests
 
 -- the first of them are given, and the rest are 0
-abbrev pub padded : List ℕ → List ℕ
-padded numbers = over numbers (replicate lentNumbers 0)
+abbrev pub padded : (lent : ℕ) → List ℕ → List ℕ
+padded lent numbers = over numbers (replicate lent 0)
 
--- what is told of an accepted solution is the entry's own; of a violation and of a refusal, document 01's values
-abbrev pub acceptedNumbers : (values : List ℕ) → List ℕ
-acceptedNumbers values = padded (acceptedCode ∷ values)
+-- the total, then the count of each kind, from 0 to 5
+abbrev pub countOf : Tally → (kind : ℕ) → ℕ
+countOf t kind = getD (t .kinds) kind 0
 
-abbrev pub answerNumbers : (accepted : List ℕ) → Answer → List ℕ
-answerNumbers accepted Accepted = accepted
-answerNumbers accepted (Violated v) = padded (violatedCode ∷ valuesOf (Violated v))
-answerNumbers accepted (Refused r) = padded (refusedCode ∷ valuesOf (Refused r))
+abbrev pub tallyNumbers : Tally → List ℕ
+tallyNumbers t =
+    t .total
+    ∷ countOf t notOffered
+    ∷ countOf t headway
+    ∷ countOf t singleTrack
+    ∷ countOf t dwell
+    ∷ countOf t turnaround
+    ∷ countOf t connection
+    ∷ []
+
+-- a code with its values, and what was tested for it
+abbrev pub told : (values : List ℕ) → Tally → List ℕ
+told values t = padded lentValues values ++ padded lentTests (tallyNumbers t)
+
+-- what is no verdict has no tests
+abbrev pub untested : (values : List ℕ) → List ℕ
+untested values = told values noTests
+
+-- what is told of an accepted solution is the entry's own; of a violation and of a refusal, document 01's values; a refusal has no tests
+abbrev pub answerNumbers : (accepted : List ℕ) → Tally → Answer → List ℕ
+answerNumbers accepted t Accepted = told accepted t
+answerNumbers accepted t (Violated v) = told (violatedCode ∷ valuesOf (Violated v)) t
+answerNumbers accepted t (Refused r) = untested (refusedCode ∷ valuesOf (Refused r))
 
 abbrev pub checkNumbers : Checked → List ℕ
-checkNumbers r = answerNumbers (acceptedNumbers []) (r .answer)
+checkNumbers r = answerNumbers (acceptedCode ∷ []) (r .tally) (r .answer)
 
 -- kilojoules, with the fluctuation and the desk tool's four doubles as patterns; then the quarters of the two peaks
 abbrev pub energyNumbers : Figures → (fluctuation : ℕ) → Bits → List ℕ
@@ -68,18 +97,18 @@ energyNumbers g fluctuation bits =
 
 -- the fluctuation is in two's complement
 abbrev pub reportNumbers : Report → List ℕ
-reportNumbers r = answerNumbers (acceptedNumbers (energyNumbers (r .figures) (ofZ w64 (r .figures .fluctuation)) (bitsOf (r .desk)))) (r .answer)
+reportNumbers r = answerNumbers (acceptedCode ∷ energyNumbers (r .figures) (ofZ w64 (r .figures .fluctuation)) (bitsOf (r .desk))) (r .tally) (r .answer)
 
 abbrev pub mergeNumbers : Merged → List ℕ
-mergeNumbers r = answerNumbers (acceptedNumbers (r .length ∷ [])) (r .answer)
+mergeNumbers r = answerNumbers (acceptedCode ∷ r .length ∷ []) (r .tally) (r .answer)
 
 abbrev pub rowNumbers : (start length : ℕ) → List ℕ
-rowNumbers start length = padded (rowCode ∷ start ∷ length ∷ [])
+rowNumbers start length = untested (rowCode ∷ start ∷ length ∷ [])
 
 -- the numbers of each lent table at the limits, and the bytes of the lent text
 abbrev pub roomNumbers : List ℕ
 roomNumbers =
-    padded
+    untested
     (mostLegs * legWidth
     ∷ mostConfigurations * configurationWidth
     ∷ mostProfiles * profileWidth

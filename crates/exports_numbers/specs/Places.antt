@@ -1,9 +1,10 @@
 -- What stands at the places that include/wagontulip.h has names for: the values of each answer, read back by name. Place 0 has the code.
 use Prim.Native.Nat.{ℕ}
-use mathlib.Core.List.{List}
+use mathlib.Core.List.{List, [], _∷_}
 use lib.ListN.{getD}
 use mir.Syntax.{w64}
 use mir.Val.{toZ}
+use Rattle.rules.specs.declared.answers.Tally.{Tally}
 use Rattle.rules.specs.declared.answers.Violation.{Violation}
 use Rattle.rules.specs.declared.answers.Refusal.{Refusal}
 use Rattle.rules.specs.declared.figures.Figures.{Figures}
@@ -43,3 +44,7 @@ module _ (numbers : List ℕ) where
 
   abbrev pub rowLengthAt : ℕ
   rowLengthAt = at 2
+
+  -- how much was tested, of every answer
+  abbrev pub tallyAt : Tally
+  tallyAt = record { kinds = at 17 ∷ at 18 ∷ at 19 ∷ at 20 ∷ at 21 ∷ at 22 ∷ []; total = at 16 }

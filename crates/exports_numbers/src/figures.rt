@@ -24,6 +24,7 @@ pub fn of_report(report: Report) -> Numbers
     ensures { λ r. ⌜ r ≡ reportNumbers report ⌝ }
 {
     let answer = report.answer;
+    let tally = report.tally;
     let figures = report.figures;
     let peaks = figures.peaks;
     let before_peak = peaks.before;
@@ -46,5 +47,5 @@ pub fn of_report(report: Report) -> Numbers
         before_peak.quarter as u64,
         drawn_peak.quarter as u64,
     ];
-    answers::of_answer(answer, &accepted)
+    answers::of_answer(answer, tally, &accepted)
 }

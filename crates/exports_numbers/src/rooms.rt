@@ -19,7 +19,7 @@ pub fn at_limits() -> Numbers
 {
     let choices = Leg::MOST * Choice::WIDTH;
     let curves = Subnet::MOST * Horizon::MOST as usize;
-    crate::in_front(
+    crate::untested(
         &[
             (Leg::MOST * Leg::WIDTH) as u64,
             (Configuration::MOST * Configuration::WIDTH) as u64,

@@ -43,7 +43,7 @@ module _ (way : Direction) (S : Stated) (x : Texts) (first second : List ℕ) (t
         solved =
             rw is
             (record {
-              made = rw s (record { answer = refl; length = refl; puts = λ z. never (sym z) });
+              made = rw s (record { answer = refl; tally = refl; length = refl; puts = λ z. never (sym z) });
               chooses = λ z. never (sym refuses ∙ z);
             });
         writes = λ z. never (sym refuses ∙ z);

@@ -29,7 +29,7 @@ module _ {H : ℕ} (way : Direction) {counts : Counts} {legs configurations cons
   Ends o r c′ d′ text′ = Solved (mergeFrom (k .left .lent) c d text second (mergeOf way) o) r c′ d′ text′
 
   refusal-ends : {x : Refusal} {r : Merged} {c′ d′ text′ : List ℕ} → r ≡ notWritten (Refused x) → Ends (refused x) r c′ d′ text′
-  refusal-ends s = rw s (record { made = record { answer = refl; length = refl; puts = λ z. never (sym z) }; chooses = never })
+  refusal-ends s = rw s (record { made = record { answer = refl; tally = refl; length = refl; puts = λ z. never (sym z) }; chooses = never })
 
   abbrev both : Reading Both
   both = solutionsRead H f first second (length c) (length d)
@@ -68,7 +68,7 @@ module _ {H : ℕ} (way : Direction) {counts : Counts} {legs configurations cons
       pub both-merged : {r : Merged} {text′ : List ℕ} → Judges way counts second legs configurations constraints c′ d′ text r text′ → Ends both r c′ d′ text′
       both-merged judged =
           let m = judged disputable in
-          let s = judged-stands (k .left .lent) c d text second (mergeOf way) (verdictOf f (chosen .a) .finding) (record { files = f; first = chosen .a; second = chosen .b }) in
+          let s = judged-stands (k .left .lent) c d text second (mergeOf way) (verdictOf f (chosen .a) .finding) (verdictOf f (chosen .a) .tally) (record { files = f; first = chosen .a; second = chosen .b }) in
           rw (chosen .a-read, chosen .b-read)
           (record {
             made = m;

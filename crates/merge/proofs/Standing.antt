@@ -1,6 +1,6 @@
 -- What a merge leaves: where nothing is refused, the tables as they were read; short of acceptance, a text of zeros. Assumes nothing.
 use Prim.Native.Nat.{ℕ}
-use mathlib.Core.Path.{_≡_, refl}
+use mathlib.Core.Path.{_≡_, refl, ap}
 use mathlib.Core.Bool.{Bool, true, false, _&&_, true≢false}
 use mathlib.Core.List.{List}
 use mathlib.Core.Option.{Option, none, some}
@@ -9,13 +9,21 @@ use lib.ListN.{length}
 use Rattle.rules.specs.Limits.{mostText, byteFill}
 use Rattle.rules.specs.Answers.{isRefusal, isAccepted, Reading, refused, good, _>>=_}
 use Rattle.rules.specs.Reading.{Files}
+use Rattle.rules.specs.Tally.{noTests}
 use Rattle.rules.specs.Verdict.{Finding, accepted, violated}
 use Rattle.rules.specs.Merge.{unequalFrom, chosen, textOf}
 use Rattle.rules.specs.Entries.{Tables, filled, writtenTables, writtenChoices, verdictOf, Both, Merged, mergeFitted, mergeTravel, mergeSecond, mergeFirst, mergeFrom}
 use Rattle.rules.specs.declared.sizes.Configuration.{Configuration}
+use Rattle.rules.specs.declared.answers.Tally.{Tally}
+use Rattle.rules.specs.declared.answers.Answer.{Answer}
+use Rattle.merge.specs.Left.{writtenAs}
 
 pub never : {A : Type 0} → true ≡ false → A
 never z = absurd (true≢false z)
+
+-- what is given back with no tally
+pub counts-none : {n : Tally} {a : Answer} {size : ℕ} → n ≡ noTests → record { answer = a; tally = n; length = size } ≡ writtenAs a size
+counts-none {a = a} {size = size} e = ap (λ (n : Tally). record { answer = a; tally = n; length = size }) e
 
 module _ (t : Tables) (c d text second : List ℕ) (merge : List Configuration → List Configuration → List Configuration) where
   -- what was read stands in the tables where nothing is refused, and the text is zeroed short of acceptance
@@ -35,13 +43,13 @@ module _ (t : Tables) (c d text second : List ℕ) (merge : List Configuration �
       let written = textOf (chosen (b .files .rows) (merge (b .first) (b .second))) in
       fitted (leb (length written) (length text) && leb (length written) mostText) written b
 
-  judged-second : (v : Finding) (b : Both) → Stands b (mergeSecond t c d text second merge v b)
-  judged-second accepted b = travelled (unequalFrom 0 (b .first) (b .second)) b
-  judged-second (violated v) b = record { tables = λ z. refl; choices = λ z. refl; second-choices = λ z. refl; zeroed = λ z. refl }
+  judged-second : (v : Finding) (n : Tally) (b : Both) → Stands b (mergeSecond t c d text second merge v n b)
+  judged-second accepted tally b = travelled (unequalFrom 0 (b .first) (b .second)) b
+  judged-second (violated v) tally b = record { tables = λ z. refl; choices = λ z. refl; second-choices = λ z. refl; zeroed = λ z. refl }
 
-  pub judged-stands : (v : Finding) (b : Both) → Stands b (mergeFirst t c d text second merge v b)
-  judged-stands accepted b = judged-second (verdictOf (b .files) (b .second) .finding) b
-  judged-stands (violated v) b = record { tables = λ z. refl; choices = λ z. refl; second-choices = λ z. refl; zeroed = λ z. refl }
+  pub judged-stands : (v : Finding) (n : Tally) (b : Both) → Stands b (mergeFirst t c d text second merge v n b)
+  judged-stands accepted tally b = judged-second (verdictOf (b .files) (b .second) .finding) (verdictOf (b .files) (b .second) .tally) b
+  judged-stands (violated v) tally b = record { tables = λ z. refl; choices = λ z. refl; second-choices = λ z. refl; zeroed = λ z. refl }
 
   -- the tables of the files stand, whatever two solutions say
   pub files-stand : (f : Files) (p q : Reading (List Configuration))
@@ -49,9 +57,9 @@ module _ (t : Tables) (c d text second : List ℕ) (merge : List Configuration �
       → mergeFrom t c d text second merge (p >>= λ a. q >>= λ b. good (record { files = f; first = a; second = b })) .tables ≡ writtenTables f t
   files-stand f (refused r) q = never
   files-stand f (good a) (refused r) = never
-  files-stand f (good a) (good b) = judged-stands (verdictOf f a .finding) (record { files = f; first = a; second = b }) .tables
+  files-stand f (good a) (good b) = judged-stands (verdictOf f a .finding) (verdictOf f a .tally) (record { files = f; first = a; second = b }) .tables
 
   pub text-zeroed : (m : Reading Both) → isAccepted (mergeFrom t c d text second merge m .answer) ≡ false
       → mergeFrom t c d text second merge m .text ≡ filled byteFill text
   text-zeroed (refused r) z = refl
-  text-zeroed (good b) z = judged-stands (verdictOf (b .files) (b .first) .finding) b .zeroed z
+  text-zeroed (good b) z = judged-stands (verdictOf (b .files) (b .first) .finding) (verdictOf (b .files) (b .first) .tally) b .zeroed z

@@ -32,7 +32,7 @@ use Rattle.merge_choice.specs.declared.Travels.the-variants.{Equal, UnequalAt}
 use Rattle.text_write.proofs.Writing.{written-length}
 use Rattle.merge_text.proofs.Filled.{unequal-seen, merged-fits, merged-whole}
 use Rattle.merge_order.specs.Order.{travelAnswer, roomAnswer, firstOf}
-use Rattle.merge.specs.Left.{notWritten, Made, Mergeable, bothOf, mergedEqual}
+use Rattle.merge.specs.Left.{writtenAs, notWritten, Made, Mergeable, bothOf, mergedEqual}
 use Rattle.merge.proofs.Standing.{never}
 
 -- ---- the answer of the test for travel times
@@ -87,7 +87,7 @@ module _ {counts : Counts} {second legs configurations choices secondChoices : L
     unequal-way {row} {x} {r} {text′} e q s =
         subst (λ o. Made (mergeTravel (k .left .lent) (k .lent) (k .lentSecond) text second (mergeOf d) o (bothOf k)) r text′)
         (sym (was-unequal (unequalFrom 0 (k .both .a) (k .both .b)) row (sym e ∙ told ∙ ap travelsOf travels-seen)))
-        (rw (s, q) (record { answer = refl; length = refl; puts = λ z. never (sym z) }))
+        (rw (s, q) (record { answer = refl; tally = refl; length = refl; puts = λ z. never (sym z) }))
 
     module _ (e : v ≡ Equal) {text′ : List ℕ} {n : ℕ} (small : length text < lastPlace)
         (put : Written text 0 (textOf (mergedIn d (counts .legs) legs configurations choices secondChoices)) text′ n)
@@ -118,26 +118,26 @@ module _ {counts : Counts} {second legs configurations choices secondChoices : L
           (subst (λ b. Made (mergeFitted (k .left .lent) (k .lent) (k .lentSecond) text b (written d) (bothOf k)) r text′) fits-seen m)
 
       -- the text
-      text-way : fits ≡ true → Made (mergedEqual k d text) (record { answer = Accepted; length = n }) text′
+      text-way : fits ≡ true → Made (mergedEqual k d text) (writtenAs Accepted n) text′
       text-way h =
           let room : n ≤ length text = leb-true n (length text) (and-first (leb n (length text)) (leb n mostText) (sym fits-at ∙ h)) in
           let whole = merged-whole (f .rows) (k .left .lent .legs) (k .left .lent .configurations) (k .both .a) (k .both .b) (k .lent) (k .lentSecond) a-many b-many d text text′ n put-left small room in
-          fitted (rw h (record { answer = refl; length = whole .0; puts = λ z. whole .1 }))
+          fitted (rw h (record { answer = refl; tally = refl; length = whole .0; puts = λ z. whole .1 }))
 
       -- 16
       room-way : {x : Refusal} {r : Merged} → fits ≡ false → x ≡ refusal noRoom noFile 0 → r ≡ notWritten (Refused x) → Made (mergedEqual k d text) r text′
-      room-way h q s = fitted (rw (h, s, q) (record { answer = refl; length = refl; puts = λ z. never (sym z) }))
+      room-way h q s = fitted (rw (h, s, q) (record { answer = refl; tally = refl; length = refl; puts = λ z. never (sym z) }))
 
     module _ {text′ : List ℕ} {n : ℕ} (small : length text < lastPlace) (put : Written text 0 (textOf (mergedIn d (counts .legs) legs configurations choices secondChoices)) text′ n)
         {answer : Answer} (first : answer ≡ firstOf (travelAnswer second v) (roomAnswer (leb n (length text′) && leb n mostText))) where
       abbrev Ends : Type 0
       Ends =
-          (isAccepted answer ≡ true → Made (mergedEqual k d text) (record { answer = answer; length = n }) text′)
+          (isAccepted answer ≡ true → Made (mergedEqual k d text) (writtenAs answer n) text′)
           × (isAccepted answer ≡ false → Made (mergedEqual k d text) (notWritten answer) text′)
 
       -- both tests passed, or one of them did not
-      ends-accepted : answer ≡ Accepted → Made (mergedEqual k d text) (record { answer = Accepted; length = n }) text′ → Ends
-      ends-accepted e m = (λ h. subst (λ a. Made (mergedEqual k d text) (record { answer = a; length = n }) text′) (sym e) m, λ h. never (sym (ap isAccepted e) ∙ h))
+      ends-accepted : answer ≡ Accepted → Made (mergedEqual k d text) (writtenAs Accepted n) text′ → Ends
+      ends-accepted e m = (λ h. subst (λ a. Made (mergedEqual k d text) (writtenAs a n) text′) (sym e) m, λ h. never (sym (ap isAccepted e) ∙ h))
 
       ends-refused : {x : Refusal} → answer ≡ Refused x → Made (mergedEqual k d text) (notWritten (Refused x)) text′ → Ends
       ends-refused e m = (λ h. never (sym h ∙ ap isAccepted e), λ h. subst (λ a. Made (mergedEqual k d text) (notWritten a) text′) (sym e) m)
@@ -155,8 +155,8 @@ module _ {counts : Counts} {second legs configurations choices secondChoices : L
           go (UnequalAt row) e = ends-refused (first ∙ (λ j. firstOf (travelAnswer second (e j)) (roomAnswer (leb n (length text′) && leb n mostText)))) (unequal-way e refl refl)
           go Equal e = room e (leb n (length text′) && leb n mostText) refl
 
-      pub text-ends : isAccepted answer ≡ true → Made (mergedEqual k d text) (record { answer = answer; length = n }) text′
-      text-ends = ends .0
+      pub text-ends : isAccepted answer ≡ true → {r : Merged} → r ≡ writtenAs answer n → Made (mergedEqual k d text) r text′
+      text-ends h {r} e = subst (λ q. Made (mergedEqual k d text) q text′) (sym e) (ends .0 h)
 
       pub refusal-ends : isAccepted answer ≡ false → {r : Merged} → r ≡ notWritten answer → Made (mergedEqual k d text) r text′
       refusal-ends h {r} e = subst (λ q. Made (mergedEqual k d text) q text′) (sym e) (ends .1 h)

@@ -5,18 +5,18 @@ use mathlib.Core.Bool.{true, false}
 use mathlib.Core.List.{List}
 use lib.ListN.{length}
 use Rattle.rules.specs.Answers.{solutionFile, secondFile, isAccepted}
-use Rattle.rules.specs.Verdict.{Finding, accepted, violated, answerOf}
+use Rattle.rules.specs.Verdict.{Finding, accepted, violated, found, ruling}
 use Rattle.rules.specs.Merge.{mergeOf}
 use Rattle.rules.specs.Entries.{verdictOf, mergeViolated, mergeSecond, mergeFirst}
 use Rattle.rules.specs.Entries as entries
-use Rattle.rules.specs.declared.answers.Answer.{Answer}
+use Rattle.rules.specs.declared.answers.Ruling.{Ruling}
 use Rattle.rules.specs.declared.outcomes.Merged.{Merged}
 use Rattle.rules.specs.declared.outcomes.Direction.{Direction}
 use Rattle.tables_lent.specs.declared.Counts.{Counts}
 use Rattle.solution_verdict.specs.Left.{Judgeable, Ready}
-use Rattle.merge_order.specs.Order.{firstOf}
+use Rattle.merge_order.specs.Order.{firstRuling}
 use Rattle.merge_order.specs.Both.{BothReady, JudgesBoth}
-use Rattle.merge.specs.Left.{notWritten, Made, Mergeable, Disputable, bothOf, mergedEqual, mergedJudged}
+use Rattle.merge.specs.Left.{violatedAs, Made, Mergeable, Disputable, bothOf, mergedEqual, mergedJudged}
 use Rattle.merge.proofs.Standing.{never}
 
 module _ {counts : Counts} {second legs configurations constraints choices secondChoices : List ℕ}
@@ -60,23 +60,30 @@ module _ {counts : Counts} {second legs configurations constraints choices secon
 
   module _ (d : Direction) (text : List ℕ) where
     abbrev onFirst : Finding → entries.Merged
-    onFirst v = mergeFirst (m .left .lent) (m .lent) (m .lentSecond) text second (mergeOf d) v (bothOf m)
+    onFirst v = mergeFirst (m .left .lent) (m .lent) (m .lentSecond) text second (mergeOf d) v (verdictOf (m .left .files) (m .both .a) .tally) (bothOf m)
 
     abbrev onSecond : Finding → entries.Merged
-    onSecond v = mergeSecond (m .left .lent) (m .lent) (m .lentSecond) text second (mergeOf d) v (bothOf m)
+    onSecond v = mergeSecond (m .left .lent) (m .lent) (m .lentSecond) text second (mergeOf d) v (verdictOf (m .left .files) (m .both .b) .tally) (bothOf m)
 
     -- where both are accepted the merge decides, and a violation of either is the answer
-    module _ {a : Answer} (judged : JudgesBoth counts legs configurations constraints choices secondChoices a) {r : Merged} {text′ : List ℕ}
-        (merges : isAccepted a ≡ true → Made (mergedEqual m d text) r text′) (stops : isAccepted a ≡ false → r ≡ notWritten a) where
-      violation : {b : Answer} → a ≡ b → isAccepted b ≡ false → Made (mergeViolated (m .left .lent) (m .lent) (m .lentSecond) text b (bothOf m)) r text′
+    module _ {a : Ruling} (judged : JudgesBoth counts legs configurations constraints choices secondChoices a) {r : Merged} {text′ : List ℕ}
+        (merges : isAccepted (a .answer) ≡ true → Made (mergedEqual m d text) r text′) (stops : isAccepted (a .answer) ≡ false → r ≡ violatedAs a) where
+      violation : {b : Ruling} → a ≡ b → isAccepted (b .answer) ≡ false → Made (mergeViolated (m .left .lent) (m .lent) (m .lentSecond) text (b .answer) (b .tally) (bothOf m)) r text′
       violation {b} e h =
-          let not-fair : isAccepted a ≡ false = ap isAccepted e ∙ h in
-          rw (stops not-fair) (record { answer = e; length = refl; puts = λ z. never (sym z ∙ not-fair) })
+          let not-fair : isAccepted (a .answer) ≡ false = ap (λ (v : Ruling). isAccepted (v .answer)) e ∙ h in
+          rw (stops not-fair)
+          (record { answer = ap (λ (v : Ruling). v .answer) e; tally = ap (λ (v : Ruling). v .tally) e; length = refl; puts = λ z. never (sym z ∙ not-fair) })
 
       pub judged-ends : Made (mergedJudged m d text) r text′
       judged-ends = go (verdictOf (m .left .files) (m .both .a) .finding) (verdictOf (m .left .files) (m .both .b) .finding) refl (judged both-ready)
         where
-          go : (v w : Finding) → verdictOf (m .left .files) (m .both .b) .finding ≡ w → a ≡ firstOf (answerOf solutionFile v) (answerOf secondFile w) → Made (onFirst v) r text′
+          one : Finding → Ruling
+          one v = ruling solutionFile (found v (verdictOf (m .left .files) (m .both .a) .tally))
+
+          two : Finding → Ruling
+          two v = ruling secondFile (found v (verdictOf (m .left .files) (m .both .b) .tally))
+
+          go : (v w : Finding) → verdictOf (m .left .files) (m .both .b) .finding ≡ w → a ≡ firstRuling (one v) (two w) → Made (onFirst v) r text′
           go (violated v) w q e = violation e refl
           go accepted (violated v) q e = subst (λ u. Made (onSecond u) r text′) (sym q) (violation e refl)
-          go accepted accepted q e = subst (λ u. Made (onSecond u) r text′) (sym q) (merges (ap isAccepted e))
+          go accepted accepted q e = subst (λ u. Made (onSecond u) r text′) (sym q) (merges (ap (λ (v : Ruling). isAccepted (v .answer)) e))

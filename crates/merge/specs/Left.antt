@@ -6,22 +6,32 @@ use mathlib.Core.List.{List}
 use lib.ListN.{length}
 use Rattle.rules.specs.Answers.{isRefusal, isAccepted}
 use Rattle.rules.specs.Merge.{unequalFrom, mergeOf}
+use Rattle.rules.specs.Tally.{noTests}
 use Rattle.rules.specs.Entries.{writtenTables, verdictOf, Both, mergeTravel, mergeFirst, mergeFrom}
 use Rattle.rules.specs.Entries as entries
 use Rattle.rules.specs.declared.answers.Answer.{Answer}
+use Rattle.rules.specs.declared.answers.Ruling.{Ruling}
 use Rattle.rules.specs.declared.outcomes.Merged.{Merged}
 use Rattle.rules.specs.declared.outcomes.Direction.{Direction}
 use Rattle.tables_lent.specs.declared.Counts.{Counts}
 use Rattle.solution_verdict.specs.Left.{Left, Judgeable}
 use Rattle.merge_order.specs.Both.{BothChosen, solutionsRead}
 
--- short of acceptance no byte is written
-abbrev pub notWritten : Answer → Merged
-notWritten a = record { answer = a; length = 0 }
+-- what it gives back of a text of n bytes, which counts nothing; short of acceptance no byte is written
+abbrev pub writtenAs : Answer → (n : ℕ) → Merged
+writtenAs a n = record { answer = a; tally = noTests; length = n }
 
--- the answer and the length always, and the text where the merge is accepted
+abbrev pub notWritten : Answer → Merged
+notWritten a = writtenAs a 0
+
+-- and of a verdict that ends it
+abbrev pub violatedAs : Ruling → Merged
+violatedAs r = record { answer = r .answer; tally = r .tally; length = 0 }
+
+-- the answer, the tally and the length always, and the text where the merge is accepted
 pub record Made (o : entries.Merged) (r : Merged) (text : List ℕ) : Type 0 where
   pub answer : r .answer ≡ o .answer
+  pub tally : r .tally ≡ o .tally
   pub length : r .length ≡ o .length
   pub puts : isAccepted (r .answer) ≡ true → text ≡ o .text
 
@@ -52,7 +62,7 @@ module _ {counts : Counts} {second legs configurations choices secondChoices : L
 
   -- after both verdicts
   abbrev pub mergedJudged : Direction → (text : List ℕ) → entries.Merged
-  mergedJudged d text = mergeFirst (k .left .lent) (k .lent) (k .lentSecond) text second (mergeOf d) (verdictOf (k .left .files) (k .both .a) .finding) bothOf
+  mergedJudged d text = mergeFirst (k .left .lent) (k .lent) (k .lentSecond) text second (mergeOf d) (verdictOf (k .left .files) (k .both .a) .finding) (verdictOf (k .left .files) (k .both .a) .tally) bothOf
 
 abbrev pub Writes : Direction → Counts → (second legs configurations choices secondChoices text : List ℕ) → Merged → (text′ : List ℕ) → Type 0
 Writes d counts second legs configurations choices secondChoices text r text′ =

@@ -1,4 +1,4 @@
--- What is promised of two solutions that are read and merged: the answer and the length always; the tables where nothing is refused, and the text where the
+-- What is promised of two solutions that are read and merged: the answer, the tally and the length always; the tables where nothing is refused, and the text where the
 -- merge is accepted. What stands in a table or in the text otherwise is not promised here: the entry fills it.
 use Prim.Native.Nat.{ℕ}
 use mathlib.Core.Path.{_≡_}

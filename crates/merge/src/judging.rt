@@ -1,14 +1,29 @@
 // Two solutions over files that were read: both verdicts, and then the merge.
+ghost use mathlib.Core.Path.{_≡_};
 ghost use Rattle.solution_verdict.specs.Left.{Judgeable};
-ghost use Rattle.merge.specs.Left.{Disputable, Judges, Solves};
+ghost use Rattle.merge.specs.Left.{violatedAs, Disputable, Judges, Solves};
 use crate::not_written;
 use crate::writing;
 use rules::answers::Answer;
+use rules::answers::Ruling;
 use rules::outcomes::Direction;
 use rules::outcomes::Merged;
 use solution_verdict::Chosen;
 use tables_lent::Counts;
 use tables_lent::acceptance;
+
+// A verdict that ends the merge: its tally is the merge's.
+fn violated(ruling: Ruling) -> Merged
+    ensures { λ r. ⌜ r ≡ violatedAs ruling ⌝ }
+{
+    let answer = ruling.answer;
+    let tally = ruling.tally;
+    Merged {
+        answer,
+        tally,
+        length: 0,
+    }
+}
 
 // Both are read.
 fn merge_chosen(
@@ -26,7 +41,7 @@ fn merge_chosen(
     ensures { λ r. ⌜ Judges direction counts (now (second .entry)) (now (legs .entry)) (now (configurations .entry)) (now (constraints .entry))
         (now (choices .entry)) (now («second_choices» .entry)) (now (text .entry)) r (now (text .exit)) ⌝ }
 {
-    let judged = merge_order::judge_both(
+    let ruling = merge_order::judge_both(
         counts,
         legs,
         configurations,
@@ -34,7 +49,8 @@ fn merge_chosen(
         choices,
         second_choices,
     );
-    if acceptance::is_accepted(judged) {
+    let answer = ruling.answer;
+    if acceptance::is_accepted(answer) {
         return writing::write_merge(
             direction,
             counts,
@@ -46,7 +62,7 @@ fn merge_chosen(
             text,
         );
     }
-    not_written(judged)
+    violated(ruling)
 }
 
 // A second solution's refusals come before both verdicts.

@@ -4,6 +4,7 @@ ghost use Rattle.rules.specs.Lent.{given, before, after};
 ghost use Rattle.merge.specs.Left.{notWritten};
 ghost use Rattle.merge.specs.Promise.{MergeRead};
 use rules::answers::Answer;
+use rules::answers::Tally;
 use rules::outcomes::Direction;
 use rules::outcomes::Merged;
 use rules::stated::Stated;
@@ -12,11 +13,16 @@ use tables_lent::Filed;
 pub mod writing; // the text, 17, 16
 pub mod judging; // the solutions, and their verdicts
 
-// Short of acceptance no byte is written.
+// Short of acceptance no byte is written; a refusal counts nothing.
 pub fn not_written(answer: Answer) -> Merged
     ensures { λ r. ⌜ r ≡ notWritten answer ⌝ }
 {
-    Merged { answer, length: 0 }
+    let tally = Tally::none();
+    Merged {
+        answer,
+        tally,
+        length: 0,
+    }
 }
 
 // The files, both solutions, and the merge. The entry calls this, and then fills what its answer leaves open.

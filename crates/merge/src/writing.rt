@@ -1,10 +1,25 @@
 // Two accepted solutions. The text is written before 17 and 16 are tested: a refusal zeroes it.
-ghost use Rattle.merge.specs.Left.{Mergeable, Writes};
+ghost use mathlib.Core.Path.{_≡_};
+ghost use Rattle.merge.specs.Left.{writtenAs, Mergeable, Writes};
 use crate::not_written;
+use rules::answers::Answer;
+use rules::answers::Tally;
 use rules::outcomes::Direction;
 use rules::outcomes::Merged;
 use tables_lent::Counts;
 use tables_lent::acceptance;
+
+// A text that is written is no verdict: it counts nothing.
+fn written(answer: Answer, length: usize) -> Merged
+    ensures { λ r. ⌜ r ≡ writtenAs answer length ⌝ }
+{
+    let tally = Tally::none();
+    Merged {
+        answer,
+        tally,
+        length,
+    }
+}
 
 pub fn write_merge(
     direction: Direction,
@@ -32,7 +47,7 @@ pub fn write_merge(
     );
     let answer = merge_order::of_merge(travels, second, length, text.len());
     if acceptance::is_accepted(answer) {
-        return Merged { answer, length };
+        return written(answer, length);
     }
     not_written(answer)
 }

@@ -5,16 +5,16 @@ use mathlib.Core.List.{List}
 use lib.ListN.{length}
 use Rattle.rules.specs.Answers.{Reading, refused, good, _>>=_, solutionFile, secondFile}
 use Rattle.rules.specs.Reading.{Files, choicesRead}
-use Rattle.rules.specs.Verdict.{answerOf}
+use Rattle.rules.specs.Verdict.{ruling}
 use Rattle.rules.specs.Entries.{writtenChoices, verdictOf, Both}
 use Rattle.rules.specs.declared.sizes.Configuration.{Configuration}
 use Rattle.rules.specs.declared.answers.Refusal.{Refusal}
-use Rattle.rules.specs.declared.answers.Answer.{Answer}
+use Rattle.rules.specs.declared.answers.Ruling.{Ruling}
 use Rattle.tables_lent.specs.declared.Counts.{Counts}
 use Rattle.solution_verdict.specs.declared.Chosen.{Chosen}
 use Rattle.solution_verdict.specs.declared.Chosen.the-variants.{Whole, Refused}
 use Rattle.solution_verdict.specs.Left.{Choosable, Ready}
-use Rattle.merge_order.specs.Order.{firstOf}
+use Rattle.merge_order.specs.Order.{firstRuling}
 
 -- ---- choosing
 
@@ -43,10 +43,10 @@ pub record BothReady (counts : Counts) (legs configurations constraints choices 
   pub first : Ready counts legs configurations constraints choices
   pub second : Ready counts legs configurations constraints secondChoices
 
--- the verdict of one, as the answer in its file
-abbrev pub verdictIn : {counts : Counts} {legs configurations constraints choices : List ℕ} → (file : ℕ) → Ready counts legs configurations constraints choices → Answer
-verdictIn file k = answerOf file (verdictOf (k .tables .left .files) (k .chosen) .finding)
+-- the verdict of one, in its file
+abbrev pub verdictIn : {counts : Counts} {legs configurations constraints choices : List ℕ} → (file : ℕ) → Ready counts legs configurations constraints choices → Ruling
+verdictIn file k = ruling file (verdictOf (k .tables .left .files) (k .chosen))
 
-abbrev pub JudgesBoth : Counts → (legs configurations constraints choices secondChoices : List ℕ) → Answer → Type 0
-JudgesBoth counts legs configurations constraints choices secondChoices answer =
-    (k : BothReady counts legs configurations constraints choices secondChoices) → answer ≡ firstOf (verdictIn solutionFile (k .first)) (verdictIn secondFile (k .second))
+abbrev pub JudgesBoth : Counts → (legs configurations constraints choices secondChoices : List ℕ) → Ruling → Type 0
+JudgesBoth counts legs configurations constraints choices secondChoices r =
+    (k : BothReady counts legs configurations constraints choices secondChoices) → r ≡ firstRuling (verdictIn solutionFile (k .first)) (verdictIn secondFile (k .second))

@@ -13,6 +13,7 @@ use merge_choice::Travels;
 use rules::answers::Answer;
 use rules::answers::File;
 use rules::answers::Refusal;
+use rules::answers::Ruling;
 use rules::sizes::Text;
 use solution_verdict::Chosen;
 use tables_lent::Counts;
@@ -44,7 +45,7 @@ pub fn choose_both(
     }
 }
 
-// The second is judged where the first is accepted.
+// The second is judged where the first is accepted; what is counted is the tests of the one that decides.
 pub fn judge_both(
     counts: Counts,
     legs: &[u32],
@@ -52,7 +53,7 @@ pub fn judge_both(
     constraints: &[u32],
     choices: &[u32],
     second_choices: &[u32],
-) -> Answer
+) -> Ruling
     requires { ⌜ BothReady counts (now legs) (now configurations) (now constraints) (now choices) (now «second_choices») ⌝ }
     ensures { λ r. ⌜ JudgesBoth counts (now (legs .entry)) (now (configurations .entry)) (now (constraints .entry)) (now (choices .entry)) (now («second_choices» .entry)) r ⌝ }
 {
@@ -64,7 +65,8 @@ pub fn judge_both(
         choices,
         File::SOLUTION,
     );
-    if acceptance::is_accepted(first) {
+    let answer = first.answer;
+    if acceptance::is_accepted(answer) {
         let second = solution_verdict::judge_choices(
             counts,
             legs,

@@ -14,12 +14,14 @@ use Rattle.rules.specs.Timetable.{legsOf, configurationsOf, legNumbers, 
 use Rattle.rules.specs.Profiles.{profilesFrom, sampleTable, profileNumbers}
 use Rattle.rules.specs.Constraints.{ordered, constraintNumbers, trackNumbers}
 use Rattle.rules.specs.Reading.{Rooms, Texts, Files, filesOf, choicesRead}
+use Rattle.rules.specs.Tally.{noTests}
 use Rattle.rules.specs.Verdict.{offered, Finding, accepted, violated, Verdict, verdict, answerOf}
 use Rattle.rules.specs.Energy.{figuresOf, curvesOf, deskOf}
 use Rattle.rules.specs.Merge.{unequalFrom, chosen, textOf}
 use Rattle.rules.specs.declared.stated.Stated.{Stated}
 use Rattle.rules.specs.declared.sizes.Configuration.{Configuration}
 use Rattle.rules.specs.declared.answers.Refusal.{Refusal}
+use Rattle.rules.specs.declared.answers.Tally.{Tally}
 use Rattle.rules.specs.declared.answers.Answer.{Answer}
 use Rattle.rules.specs.declared.answers.Answer.the-variants.{Accepted, Refused}
 use Rattle.rules.specs.declared.figures.Peaks.{Peaks}
@@ -98,16 +100,19 @@ allRead S x solution room choices = do
   cs ← choicesRead (S .horizon) files solutionFile choices solution
   good (record { files = files; choices = cs })
 
+-- on a refusal nothing is counted
 pub record Checked : Type 0 where
   pub answer : Answer
+  pub tally : Tally
   pub tables : Tables
   pub choices : List ℕ
 
 abbrev pub checkedFrom : Reading Whole → Tables → List ℕ → Checked
-checkedFrom (refused r) t c = record { answer = Refused r; tables = filledTables t; choices = filled unsignedFill c }
+checkedFrom (refused r) t c = record { answer = Refused r; tally = noTests; tables = filledTables t; choices = filled unsignedFill c }
 checkedFrom (good w) t c =
     record {
       answer = answerOf solutionFile (verdictOf (w .files) (w .choices) .finding);
+      tally = verdictOf (w .files) (w .choices) .tally;
       tables = writtenTables (w .files) t;
       choices = writtenChoices (w .choices) c;
     }
@@ -125,6 +130,7 @@ noFigures = record { before = 0; drawn = 0; lost = 0; fluctuation = pos 0; peaks
 
 pub record Reported : Type 0 where
   pub answer : Answer
+  pub tally : Tally
   pub figures : Figures
   pub desk : Desk
   pub tables : Tables
@@ -135,6 +141,7 @@ abbrev pub reportRefused : Refusal → Tables → List ℕ → List ℤ → Repo
 reportRefused r t c p =
     record {
       answer = Refused r;
+      tally = noTests;
       figures = noFigures;
       desk = deskOf noFigures;
       tables = filledTables t;
@@ -143,11 +150,12 @@ reportRefused r t c p =
     }
 
 -- the curves need a place for each second of each subnet; that is tested after acceptance
-abbrev pub reportAccepted : (fits : Bool) → (H : ℕ) → Whole → Tables → List ℕ → List ℤ → Reported
-reportAccepted false H w t c p = reportRefused (refusal noRoom noFile 0) t c p
-reportAccepted true H w t c p =
+abbrev pub reportAccepted : (fits : Bool) → (H : ℕ) → Tally → Whole → Tables → List ℕ → List ℤ → Reported
+reportAccepted false H tally w t c p = reportRefused (refusal noRoom noFile 0) t c p
+reportAccepted true H tally w t c p =
     record {
       answer = Accepted;
+      tally = tally;
       figures = figuresOf H (w .files) (w .choices);
       desk = deskOf (figuresOf H (w .files) (w .choices));
       tables = writtenTables (w .files) t;
@@ -155,11 +163,12 @@ reportAccepted true H w t c p =
       curves = over (curvesOf H (w .files) (w .choices)) p;
     }
 
-abbrev pub reportJudged : Finding → (H : ℕ) → Whole → Tables → List ℕ → List ℤ → Reported
-reportJudged accepted H w t c p = reportAccepted (leb (w .files .document .opened * H) (length p)) H w t c p
-reportJudged (violated v) H w t c p =
+abbrev pub reportJudged : Finding → (H : ℕ) → Tally → Whole → Tables → List ℕ → List ℤ → Reported
+reportJudged accepted H tally w t c p = reportAccepted (leb (w .files .document .opened * H) (length p)) H tally w t c p
+reportJudged (violated v) H tally w t c p =
     record {
       answer = answerOf solutionFile (violated v);
+      tally = tally;
       figures = noFigures;
       desk = deskOf noFigures;
       tables = writtenTables (w .files) t;
@@ -169,7 +178,7 @@ reportJudged (violated v) H w t c p =
 
 abbrev pub reportFrom : Reading Whole → (H : ℕ) → Tables → List ℕ → List ℤ → Reported
 reportFrom (refused r) H t c p = reportRefused r t c p
-reportFrom (good w) H t c p = reportJudged (verdictOf (w .files) (w .choices) .finding) H w t c p
+reportFrom (good w) H t c p = reportJudged (verdictOf (w .files) (w .choices) .finding) H (verdictOf (w .files) (w .choices) .tally) w t c p
 
 unfoldable pub reported : Stated → Texts → (solution : List ℕ) → Tables → (choices : List ℕ) → (curves : List ℤ) → Reported
 reported S x solution t c p = reportFrom (allRead S x solution (roomsOf t) (length c)) (S .horizon) t c p
@@ -188,8 +197,10 @@ bothRead S x first second room choices secondChoices = do
   b ← choicesRead (S .horizon) files secondFile secondChoices second
   good (record { files = files; first = a; second = b })
 
+-- a merge that writes is a text and no verdict: it counts nothing
 pub record Merged : Type 0 where
   pub answer : Answer
+  pub tally : Tally
   pub length : ℕ
   pub tables : Tables
   pub choices : List ℕ
@@ -201,6 +212,7 @@ module _ (t : Tables) (c d text : List ℕ) where
   mergeRefused r =
       record {
         answer = Refused r;
+        tally = noTests;
         length = 0;
         tables = filledTables t;
         choices = filled unsignedFill c;
@@ -209,10 +221,11 @@ module _ (t : Tables) (c d text : List ℕ) where
       }
 
   -- a violation leaves the tables as read, and zeroes the text
-  abbrev pub mergeViolated : Answer → Both → Merged
-  mergeViolated a b =
+  abbrev pub mergeViolated : Answer → Tally → Both → Merged
+  mergeViolated a tally b =
       record {
         answer = a;
+        tally = tally;
         length = 0;
         tables = writtenTables (b .files) t;
         choices = writtenChoices (b .first) c;
@@ -225,6 +238,7 @@ module _ (t : Tables) (c d text : List ℕ) where
   mergeFitted true written b =
       record {
         answer = Accepted;
+        tally = noTests;
         length = length written;
         tables = writtenTables (b .files) t;
         choices = writtenChoices (b .first) c;
@@ -240,18 +254,18 @@ module _ (t : Tables) (c d text : List ℕ) where
   mergeTravel secondText merge (some row) b = mergeRefused (refusal unequalTravel secondFile (placeOfRow secondText row))
   mergeTravel secondText merge none b = mergeWritten (textOf (chosen (b .files .rows) (merge (b .first) (b .second)))) b
 
-  -- the verdict of the first, of the second, 17, 16
-  abbrev pub mergeSecond : (secondText : List ℕ) → (merge : List Configuration → List Configuration → List Configuration) → Finding → Both → Merged
-  mergeSecond secondText merge accepted b = mergeTravel secondText merge (unequalFrom 0 (b .first) (b .second)) b
-  mergeSecond secondText merge (violated v) b = mergeViolated (answerOf secondFile (violated v)) b
+  -- the verdict of the first, of the second, 17, 16; a violation has its own verdict's tally
+  abbrev pub mergeSecond : (secondText : List ℕ) → (merge : List Configuration → List Configuration → List Configuration) → Finding → Tally → Both → Merged
+  mergeSecond secondText merge accepted tally b = mergeTravel secondText merge (unequalFrom 0 (b .first) (b .second)) b
+  mergeSecond secondText merge (violated v) tally b = mergeViolated (answerOf secondFile (violated v)) tally b
 
-  abbrev pub mergeFirst : (secondText : List ℕ) → (merge : List Configuration → List Configuration → List Configuration) → Finding → Both → Merged
-  mergeFirst secondText merge accepted b = mergeSecond secondText merge (verdictOf (b .files) (b .second) .finding) b
-  mergeFirst secondText merge (violated v) b = mergeViolated (answerOf solutionFile (violated v)) b
+  abbrev pub mergeFirst : (secondText : List ℕ) → (merge : List Configuration → List Configuration → List Configuration) → Finding → Tally → Both → Merged
+  mergeFirst secondText merge accepted tally b = mergeSecond secondText merge (verdictOf (b .files) (b .second) .finding) (verdictOf (b .files) (b .second) .tally) b
+  mergeFirst secondText merge (violated v) tally b = mergeViolated (answerOf solutionFile (violated v)) tally b
 
   abbrev pub mergeFrom : (secondText : List ℕ) → (merge : List Configuration → List Configuration → List Configuration) → Reading Both → Merged
   mergeFrom secondText merge (refused r) = mergeRefused r
-  mergeFrom secondText merge (good b) = mergeFirst secondText merge (verdictOf (b .files) (b .first) .finding) b
+  mergeFrom secondText merge (good b) = mergeFirst secondText merge (verdictOf (b .files) (b .first) .finding) (verdictOf (b .files) (b .first) .tally) b
 
 unfoldable pub merged :
     (merge : List Configuration → List Configuration → List Configuration) → Stated → Texts → (first second : List ℕ) → Tables → (choices secondChoices text : List ℕ) → Merged

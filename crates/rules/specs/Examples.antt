@@ -8,17 +8,16 @@ use mathlib.Core.List.{List, [], _∷_, _++_}
 use lib.ListN.{replicate, length}
 use lib.IntN.{ℤ, pos}
 use Rattle.rules.specs.Limits.{constraintWidth}
-use Rattle.rules.specs.Answers.{refusal, violation, badHorizon, badHeader, badRow, outOfRange, unknownName, noSubnet, noRoom, unknownEdition, noFile, timetableFile, profilesFile, constraintsFile, solutionFile, Reading, refused, good}
+use Rattle.rules.specs.Answers.{refusal, violation, badHorizon, badHeader, badRow, outOfRange, unknownName, noSubnet, noRoom, unknownEdition, noFile, timetableFile, profilesFile, constraintsFile, solutionFile}
 use Rattle.rules.specs.Bytes.{bytes, joined, comma}
 use Rattle.rules.specs.Timetable.{timetableHeader, configuration, inRange}
 use Rattle.rules.specs.Profiles.{profilesHeader}
 use Rattle.rules.specs.Kinds.{notOffered, headway, dwell, turnaround, connection, tableEdition, exampleEdition}
 use Rattle.rules.specs.Stated.{stated}
 use Rattle.rules.specs.Reading.{Texts}
-use Rattle.rules.specs.Tally.{noTests}
 use Rattle.rules.specs.Verdict.{All}
 use Rattle.rules.specs.Merge.{earlier, later}
-use Rattle.rules.specs.Entries.{Tables, roomsOf, verdictOf, Whole, allRead, checked, reported, merged}
+use Rattle.rules.specs.Entries.{Tables, checked, reported, merged}
 use Rattle.rules.specs.Display.{rowAt}
 use Rattle.rules.specs.Computed.{computed}
 use Rattle.rules.specs.declared.stated.Stated.{Stated}
@@ -133,13 +132,9 @@ figures t c s = reported S (texts t profiles c) s lent lentChoices (replicate 20
 abbrev pub mergedText : (merge : List Configuration → List Configuration → List Configuration) → List ℕ
 mergedText merge = merged merge S (texts draft profiles dwell20) solution15 solution45 lent lentChoices lentChoices (replicate (length draft) 0) .text
 
--- what is counted of files that read, with room for a constraint of each kind; nothing where they are refused
-abbrev pub tallyOf : Reading Whole → Tally
-tallyOf (refused r) = noTests
-tallyOf (good w) = verdictOf (w .files) (w .choices) .tally
-
+-- with room for a constraint of each kind
 abbrev pub tally : (timetable constraints solution : List ℕ) → Tally
-tally t c s = tallyOf (allRead S (texts t profiles c) s (roomsOf (lentFor 5)) (length lentChoices))
+tally t c s = checked S (texts t profiles c) s (lentFor 5) lentChoices .tally
 
 -- ---- THE TABLE
 
@@ -150,6 +145,8 @@ pub data Example : Type 0 where
   ranges : Configuration → Bool → Example
   states : Stated → (timetable constraints : List ℕ) → Answer → Example
   counts : (timetable constraints solution : List ℕ) → (kinds : List ℕ) (total : ℕ) → Example
+  reportCounts : (curves : ℕ) → (kinds : List ℕ) (total : ℕ) → Example
+  mergeCounts : (constraints first second : List ℕ) → (kinds : List ℕ) (total : ℕ) → Example
 
 -- the choices of document 01's A and B
 abbrev pub A : List Configuration
@@ -166,6 +163,10 @@ Right (merges merge departures text) = (merge A B ≡ departures) × (mergedText
 Right (ranges c b) = inRange 4_000 c ≡ b
 Right (states stated t c a) = checked stated (texts t profiles c) draft lent lentChoices .answer ≡ a
 Right (counts t c s kinds total) = tally t c s ≡ record { kinds = kinds; total = total }
+Right (reportCounts n kinds total) =
+    reported S (texts draft profiles dwell20) draft lent lentChoices (replicate n (pos 9)) .tally ≡ record { kinds = kinds; total = total }
+Right (mergeCounts c a b kinds total) =
+    merged earlier S (texts draft profiles c) a b lent lentChoices lentChoices (replicate (length draft) 0) .tally ≡ record { kinds = kinds; total = total }
 
 -- both peaks in the only quarter
 abbrev pub inFirst : (before drawn : ℕ) → Peaks
@@ -395,8 +396,16 @@ countings =
     -- nothing is tested of no legs and no constraints, nor of files that are refused
     ∷ counts (rows "") (document "" oneSubnet) (rows "") (0 ∷ 0 ∷ 0 ∷ 0 ∷ 0 ∷ 0 ∷ []) 0
     ∷ counts [] dwell20 draft (0 ∷ 0 ∷ 0 ∷ 0 ∷ 0 ∷ 0 ∷ []) 0
+    -- a report has its verdict's, unless it is refused after it: a second of the curves finds no room
+    ∷ reportCounts 100 (2 ∷ 0 ∷ 0 ∷ 1 ∷ 0 ∷ 0 ∷ []) 3
+    ∷ reportCounts 99 (0 ∷ 0 ∷ 0 ∷ 0 ∷ 0 ∷ 0 ∷ []) 0
+    -- a merge has that of the verdict which it ends in: the first's, the second's; a text that is written has none
+    ∷ mergeCounts dwell22 solution15 draft (2 ∷ 0 ∷ 0 ∷ 1 ∷ 0 ∷ 0 ∷ []) 3
+    ∷ mergeCounts dwell20 draft solution12 (2 ∷ 0 ∷ 0 ∷ 0 ∷ 0 ∷ 0 ∷ []) 2
+    ∷ mergeCounts dwell22 draft solution15 (2 ∷ 0 ∷ 0 ∷ 1 ∷ 0 ∷ 0 ∷ []) 3
+    ∷ mergeCounts dwell20 solution15 solution45 (0 ∷ 0 ∷ 0 ∷ 0 ∷ 0 ∷ 0 ∷ []) 0
     ∷ []
 
 countings-hold : All Right countings
 unfolding computed
-countings-hold = (refl, (refl, (refl, (refl, (refl, (refl, (refl, (refl, (refl, (refl, (refl, (refl, tt))))))))))))
+countings-hold = (refl, (refl, (refl, (refl, (refl, (refl, (refl, (refl, (refl, (refl, (refl, (refl, (refl, (refl, (refl, (refl, (refl, (refl, tt))))))))))))))))))

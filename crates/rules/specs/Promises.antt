@@ -23,6 +23,7 @@ use Rattle.rules.specs.declared.outcomes.Duties.{Duties}
 pub record Checks (S : Stated) (x : Texts) (solution : List ℕ) (t : Tables) (c : List ℕ) (r : Checked) (t′ : Tables) (c′ : List ℕ) : Type 0 where
   pub answer : r .answer ≡ checked S x solution t c .answer
   pub values : valuesOf (r .answer) ≡ valuesOf (checked S x solution t c .answer)
+  pub tally : r .tally ≡ checked S x solution t c .tally
   pub tables : t′ ≡ checked S x solution t c .tables
   pub choices : c′ ≡ checked S x solution t c .choices
 
@@ -30,6 +31,7 @@ pub record Checks (S : Stated) (x : Texts) (solution : List ℕ) (t : Tables) (c
 pub record Reports (S : Stated) (x : Texts) (solution : List ℕ) (t : Tables) (c : List ℕ) (p : List ℤ) (r : Report) (t′ : Tables) (c′ : List ℕ) (p′ : List ℤ) : Type 0 where
   pub answer : r .answer ≡ reported S x solution t c p .answer
   pub values : valuesOf (r .answer) ≡ valuesOf (reported S x solution t c p .answer)
+  pub tally : r .tally ≡ reported S x solution t c p .tally
   pub figures : r .figures ≡ reported S x solution t c p .figures
   pub desk : r .desk ≡ reported S x solution t c p .desk
   pub tables : t′ ≡ reported S x solution t c p .tables
@@ -40,6 +42,7 @@ pub record Reports (S : Stated) (x : Texts) (solution : List ℕ) (t : Tables) (
 pub record Merges (direction : Direction) (S : Stated) (x : Texts) (a b : List ℕ) (t : Tables) (c d w : List ℕ) (r : Merged) (t′ : Tables) (c′ d′ w′ : List ℕ) : Type 0 where
   pub answer : r .answer ≡ merged (mergeOf direction) S x a b t c d w .answer
   pub values : valuesOf (r .answer) ≡ valuesOf (merged (mergeOf direction) S x a b t c d w .answer)
+  pub tally : r .tally ≡ merged (mergeOf direction) S x a b t c d w .tally
   pub length : r .length ≡ merged (mergeOf direction) S x a b t c d w .length
   pub tables : t′ ≡ merged (mergeOf direction) S x a b t c d w .tables
   pub choices : c′ ≡ merged (mergeOf direction) S x a b t c d w .choices

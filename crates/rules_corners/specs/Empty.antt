@@ -8,6 +8,7 @@ use Rattle.rules.specs.Answers.{badHeader, notThere, differs, noSubnet, noRoom,
 use Rattle.rules.specs.Bytes.{bytes}
 use Rattle.rules.specs.Timetable.{timetableHeader}
 use Rattle.rules.specs.Profiles.{profilesHeader}
+use Rattle.rules.specs.Tally.{noTests}
 use Rattle.rules.specs.Verdict.{All}
 use Rattle.rules.specs.Merge.{earlier, later}
 use Rattle.rules.specs.Energy.{deskOf}
@@ -52,9 +53,9 @@ pub data Corner : Type 0 where
   reports : Input → (seconds : ℕ) → (curves : List ℤ) → Corner
   merges : Merge → Input → (second : List ℕ) → (room : ℕ) → Merged → Corner
 
--- accepted with no number in any table, and every figure 0
+-- accepted with no number in any table, nothing tested, and every figure 0
 abbrev pub allZero : List ℤ → Reported
-allZero p = record { answer = Accepted; figures = noFigures; desk = deskOf noFigures; tables = noRoomAtAll; choices = []; curves = p }
+allZero p = record { answer = Accepted; tally = noTests; figures = noFigures; desk = deskOf noFigures; tables = noRoomAtAll; choices = []; curves = p }
 
 abbrev pub Right : Corner → Type 0
 Right (answers x a) = answerTo x ≡ a
@@ -65,7 +66,7 @@ abbrev headersAlone : List ℕ → Input
 headersAlone c = input 3 timetableHeader profilesHeader c timetableHeader
 
 abbrev emptyMerge : Answer → (length : ℕ) → (text : List ℕ) → Merged
-emptyMerge a n s = record { answer = a; length = n; tables = noRoomAtAll; choices = []; second = []; text = s }
+emptyMerge a n s = record { answer = a; tally = noTests; length = n; tables = noRoomAtAll; choices = []; second = []; text = s }
 
 abbrev pub empties : List Corner
 empties =

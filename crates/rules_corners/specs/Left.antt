@@ -9,6 +9,7 @@ use Rattle.rules.specs.Limits.{legWidth, configurationWidth, profileWidth, cons
 use Rattle.rules.specs.Answers.{violation, badHeader, badRow, noRoom, noFile, timetableFile, solutionFile, secondFile}
 use Rattle.rules.specs.Bytes.{bytes, spelled}
 use Rattle.rules.specs.Kinds.{notOffered, headway}
+use Rattle.rules.specs.Tally.{noTests}
 use Rattle.rules.specs.Verdict.{All}
 use Rattle.rules.specs.Energy.{deskOf}
 use Rattle.rules.specs.Merge.{earlier, later}
@@ -16,6 +17,7 @@ use Rattle.rules.specs.Entries.{Tables, Checked, noFigures, Reported, Merged}
 use Rattle.rules.specs.Computed.{computed}
 use Rattle.rules.specs.Examples.{rows, curves, list, object, inFirst}
 use Rattle.rules.specs.declared.figures.Figures.{Figures}
+use Rattle.rules.specs.declared.answers.Tally.{Tally}
 use Rattle.rules.specs.declared.answers.Answer.{Answer}
 use Rattle.rules.specs.declared.answers.Answer.the-variants.{Accepted, Violated}
 use Rattle.rules_corners.specs.Corner.{Input, input, roomFor, choicesFor, check, report, Merge, merging, refuses, violates}
@@ -106,14 +108,18 @@ Right (checks x r) = check x lent lentChoices ≡ r
 Right (reports x p r) = report x lent lentChoices p ≡ r
 Right (merges merge x second s r) = merging merge x second lent lentChoices lentChoices s ≡ r
 
-abbrev checkedTo : Answer → Tables → List ℕ → Checked
-checkedTo a t c = record { answer = a; tables = t; choices = c }
+abbrev checkedTo : Answer → Tally → Tables → List ℕ → Checked
+checkedTo a n t c = record { answer = a; tally = n; tables = t; choices = c }
 
-abbrev reportedTo : Answer → Figures → Tables → List ℕ → List ℤ → Reported
-reportedTo a g t c p = record { answer = a; figures = g; desk = deskOf g; tables = t; choices = c; curves = p }
+abbrev reportedTo : Answer → Tally → Figures → Tables → List ℕ → List ℤ → Reported
+reportedTo a n g t c p = record { answer = a; tally = n; figures = g; desk = deskOf g; tables = t; choices = c; curves = p }
 
-abbrev mergedTo : Answer → (length : ℕ) → Tables → (choices second text : List ℕ) → Merged
-mergedTo a n t c d s = record { answer = a; length = n; tables = t; choices = c; second = d; text = s }
+abbrev mergedTo : Answer → Tally → (length : ℕ) → Tables → (choices second text : List ℕ) → Merged
+mergedTo a k n t c d s = record { answer = a; tally = k; length = n; tables = t; choices = c; second = d; text = s }
+
+-- so many choices and inequalities of the headway were tested; two inequalities, where it holds
+abbrev tested : (choices headways : ℕ) → Tally
+tested n m = record { kinds = n ∷ m ∷ 0 ∷ 0 ∷ 0 ∷ 0 ∷ []; total = n + m }
 
 -- a buffer of sevens
 abbrev buffer : ℕ → List ℕ
@@ -136,31 +142,31 @@ violatesSecond k n i m = Violated (violation k n i m secondFile)
 abbrev pub lefts : List Corner
 lefts =
     -- a check: accepted, and violated, "the tables stay as read"
-    checks (small 0 draft) (checkedTo Accepted (asRead 0) (choiceRead 1))
-    ∷ checks (small 0 (legIs "0_2_7")) (checkedTo Accepted (asRead 0) (choiceRead 0))
-    ∷ checks (small 1 draft) (checkedTo (violates headway 0 1 1) (asRead 1) (choiceRead 1))
-    ∷ checks (small 0 unlisted) (checkedTo (violates notOffered 0 0 0) (asRead 0) (choiceRead 2))
+    checks (small 0 draft) (checkedTo Accepted (tested 1 2) (asRead 0) (choiceRead 1))
+    ∷ checks (small 0 (legIs "0_2_7")) (checkedTo Accepted (tested 1 2) (asRead 0) (choiceRead 0))
+    ∷ checks (small 1 draft) (checkedTo (violates headway 0 1 1) (tested 1 1) (asRead 1) (choiceRead 1))
+    ∷ checks (small 0 unlisted) (checkedTo (violates notOffered 0 0 0) (tested 1 0) (asRead 0) (choiceRead 2))
     -- refused by the first text or by the last, every table is filled whole
-    ∷ checks (input seconds [] profiles (constraints 0) draft) (checkedTo (refuses badHeader timetableFile 0) full fullChoices)
-    ∷ checks (small 0 (draft ++ bytes "\n")) (checkedTo (refuses badRow solutionFile size) full fullChoices)
+    ∷ checks (input seconds [] profiles (constraints 0) draft) (checkedTo (refuses badHeader timetableFile 0) noTests full fullChoices)
+    ∷ checks (small 0 (draft ++ bytes "\n")) (checkedTo (refuses badRow solutionFile size) noTests full fullChoices)
     -- a report: with one place of curves to spare; violated, it fills the curves and no other table, and its figures are 0
     ∷ reports (small 0 draft) lentCurves
-    (reportedTo Accepted figuresRead (asRead 0) (choiceRead 1) (pos 0 ∷ pos 500 ∷ negℤ (pos 400) ∷ pos 0 ∷ pos 9 ∷ []))
-    ∷ reports (small 1 draft) lentCurves (reportedTo (violates headway 0 1 1) noFigures (asRead 1) (choiceRead 1) fullCurves)
-    ∷ reports (small 0 []) lentCurves (reportedTo (refuses badHeader solutionFile 0) noFigures full fullChoices fullCurves)
+    (reportedTo Accepted (tested 1 2) figuresRead (asRead 0) (choiceRead 1) (pos 0 ∷ pos 500 ∷ negℤ (pos 400) ∷ pos 0 ∷ pos 9 ∷ []))
+    ∷ reports (small 1 draft) lentCurves (reportedTo (violates headway 0 1 1) (tested 1 1) noFigures (asRead 1) (choiceRead 1) fullCurves)
+    ∷ reports (small 0 []) lentCurves (reportedTo (refuses badHeader solutionFile 0) noTests noFigures full fullChoices fullCurves)
     -- curves that do not fit are 16, as any refusal; only after acceptance
-    ∷ reports (small 0 draft) (replicate 3 (pos 9)) (reportedTo (refuses noRoom noFile 0) noFigures full fullChoices (replicate 3 signedFill))
-    ∷ reports (small 0 draft) [] (reportedTo (refuses noRoom noFile 0) noFigures full fullChoices [])
-    ∷ reports (small 1 draft) [] (reportedTo (violates headway 0 1 1) noFigures (asRead 1) (choiceRead 1) [])
+    ∷ reports (small 0 draft) (replicate 3 (pos 9)) (reportedTo (refuses noRoom noFile 0) noTests noFigures full fullChoices (replicate 3 signedFill))
+    ∷ reports (small 0 draft) [] (reportedTo (refuses noRoom noFile 0) noTests noFigures full fullChoices [])
+    ∷ reports (small 1 draft) [] (reportedTo (violates headway 0 1 1) (tested 1 1) noFigures (asRead 1) (choiceRead 1) [])
     -- a merge: the text, and past it what stood there
-    ∷ merges earlier (small 0 draft) (legIs "0_2_7") (buffer (size + 2)) (mergedTo Accepted size (asRead 0) (choiceRead 1) (choiceRead 0) (legIs "0_2_7" ++ buffer 2))
-    ∷ merges later (small 0 draft) (legIs "0_2_7") (buffer size) (mergedTo Accepted size (asRead 0) (choiceRead 1) (choiceRead 0) draft)
+    ∷ merges earlier (small 0 draft) (legIs "0_2_7") (buffer (size + 2)) (mergedTo Accepted noTests size (asRead 0) (choiceRead 1) (choiceRead 0) (legIs "0_2_7" ++ buffer 2))
+    ∷ merges later (small 0 draft) (legIs "0_2_7") (buffer size) (mergedTo Accepted noTests size (asRead 0) (choiceRead 1) (choiceRead 0) draft)
     -- violated by the first solution or by the second: the tables stay as read, the text buffer is zeroed, its size is 0
-    ∷ merges earlier (small 1 draft) (legIs "0_2_7") (buffer 2) (mergedTo (violates headway 0 1 1) 0 (asRead 1) (choiceRead 1) (choiceRead 0) (0 ∷ 0 ∷ []))
-    ∷ merges later (small 0 draft) unlisted (buffer 2) (mergedTo (violatesSecond notOffered 0 0 0) 0 (asRead 0) (choiceRead 1) (choiceRead 2) (0 ∷ 0 ∷ []))
+    ∷ merges earlier (small 1 draft) (legIs "0_2_7") (buffer 2) (mergedTo (violates headway 0 1 1) (tested 1 1) 0 (asRead 1) (choiceRead 1) (choiceRead 0) (0 ∷ 0 ∷ []))
+    ∷ merges later (small 0 draft) unlisted (buffer 2) (mergedTo (violatesSecond notOffered 0 0 0) (tested 1 0) 0 (asRead 0) (choiceRead 1) (choiceRead 2) (0 ∷ 0 ∷ []))
     -- refused: by the second solution, or by a buffer one byte too short
-    ∷ merges later (small 1 draft) [] (buffer 2) (mergedTo (refuses badHeader secondFile 0) 0 full fullChoices fullChoices (0 ∷ 0 ∷ []))
-    ∷ merges earlier (small 0 draft) draft (buffer (size - 1)) (mergedTo (refuses noRoom noFile 0) 0 full fullChoices fullChoices (replicate (size - 1) 0))
+    ∷ merges later (small 1 draft) [] (buffer 2) (mergedTo (refuses badHeader secondFile 0) noTests 0 full fullChoices fullChoices (0 ∷ 0 ∷ []))
+    ∷ merges earlier (small 0 draft) draft (buffer (size - 1)) (mergedTo (refuses noRoom noFile 0) noTests 0 full fullChoices fullChoices (replicate (size - 1) 0))
     ∷ []
 
 lefts-hold : All Right lefts

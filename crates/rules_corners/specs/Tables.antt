@@ -13,6 +13,7 @@ use Rattle.rules.specs.Verdict.{All}
 use Rattle.rules.specs.Entries.{Tables, Checked}
 use Rattle.rules.specs.Computed.{computed}
 use Rattle.rules.specs.Examples.{rows, curves}
+use Rattle.rules.specs.declared.answers.Tally.{Tally}
 use Rattle.rules.specs.declared.answers.Answer.{Answer}
 use Rattle.rules.specs.declared.answers.Answer.the-variants.{Accepted}
 use Rattle.rules_corners.specs.Corner.{Input, input, check, refuses, sixLists}
@@ -125,14 +126,19 @@ read a b c d e f =
 abbrev chosen : List ℕ → List ℕ
 chosen rest = (10 ∷ 4 ∷ 7 ∷ []) ++ (45 ∷ 3 ∷ 8 ∷ []) ++ (99 ∷ 1 ∷ 6 ∷ []) ++ rest
 
+-- three choices, and one inequality of each dwell
+abbrev testsOfThree : Tally
+testsOfThree = record { kinds = 3 ∷ 0 ∷ 0 ∷ 2 ∷ 0 ∷ 0 ∷ []; total = 5 }
+
 abbrev pub tables : List Corner
 tables =
     -- just enough of each, and the fields of every table
-    leaves three (numbers 24 15 9 8 12 6) 9 (record { answer = Accepted; tables = read [] [] [] [] [] []; choices = chosen [] })
+    leaves three (numbers 24 15 9 8 12 6) 9 (record { answer = Accepted; tally = testsOfThree; tables = read [] [] [] [] [] []; choices = chosen [] })
     -- all but one number of one record more, which no record uses
     ∷ leaves three (numbers 31 17 11 8 17 7) 11
     (record {
       answer = Accepted;
+      tally = testsOfThree;
       tables = read (replicate 7 9) (replicate 2 9) (replicate 2 9) [] (replicate 5 9) (replicate 1 9);
       choices = chosen (replicate 2 9);
     })

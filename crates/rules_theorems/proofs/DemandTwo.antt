@@ -1,26 +1,26 @@
 -- DEMAND 2: once every file reads, accepted is exactly acceptable; otherwise the first failure is named; what we write reads back. Assumes nothing.
 use Prim.Native.Nat.{ℕ}
-use mathlib.Core.Path.{_≡_, refl}
+use mathlib.Core.Path.{_≡_, refl, sym, _∙_}
 use mathlib.Core.List.{List}
 use mathlib.Core.Logic.{_↔_}
 use native.Mathlib.Omega.{arith}
-use lib.ListN.{length}
+use lib.ListN.{length, length-map}
 use Rattle.rules.specs.Answers.{Reading, refused, good, solutionFile}
 use Rattle.rules.specs.Constraints.{ordered}
-use Rattle.rules.specs.Reading.{Rooms, Texts, Files, filesOf, legIds}
+use Rattle.rules.specs.Reading.{Rooms, Texts, Files, filesOf, choicesRead, legIds}
 use Rattle.rules.specs.Verdict.{All, offered, Kept, Acceptable, Test, Finding, accepted, violated, shownIn, answerOf}
 use Rattle.rules.specs.Entries.{Tables, roomsOf, verdictOf, Whole, allRead, checkedFrom, checked}
 use Rattle.rules.specs.declared.stated.Stated.{Stated}
 use Rattle.rules.specs.declared.sizes.Configuration.{Configuration}
 use Rattle.rules.specs.declared.answers.Violation.{Violation}
 use Rattle.rules.specs.declared.answers.Answer.the-variants.{Accepted, Violated}
-use Rattle.rules_theorems.specs.Demands.{DemandTwo}
+use Rattle.rules_theorems.specs.Demands.{DemandTwo, CountsTests}
 use Rattle.rules_theorems.proofs.Documents.{good-is-lawful}
-use Rattle.rules_theorems.proofs.Ordered.{OfKind, ordered-keeps, ordered-gives, document-kinds}
-use Rattle.rules_theorems.proofs.GoodFiles.{files-good, all-good}
+use Rattle.rules_theorems.proofs.Ordered.{OfKind, ordered-keeps, ordered-gives, ordered-length, document-kinds}
+use Rattle.rules_theorems.proofs.GoodFiles.{files-good, choices-good, chosen-many, all-good}
 use Rattle.rules_theorems.proofs.TextBound.{files-choices-back}
 use Rattle.rules_theorems.proofs.Verdicts.{verdict-accepted}
-use Rattle.rules_theorems.proofs.Tests.{names-the-first, shortfalls}
+use Rattle.rules_theorems.proofs.Tests.{names-the-first, shortfalls, total-made, kind-made, adds-up, total-bound}
 use Rattle.rules_theorems.proofs.DemandOne.{verdict-not-refused}
 
 -- ---- the verdict and the answer
@@ -50,6 +50,24 @@ files-kinds S x room files e =
     let g = files-good S x room files e in
     document-kinds (legIds (files .rows)) _ _ (files .document) (good-is-lawful (legIds (files .rows)) _ _ _ (x .constraints) (files .document) (g .constraints))
 
+-- ---- how much was tested
+
+module _ (S : Stated) (x : Texts) (room : Rooms) (files : Files) (read : filesOf S x room ≡ good files) where
+  pub counts-tests : (file choiceRoom : ℕ) (text : List ℕ) (s : List Configuration) → choicesRead (S .horizon) files file choiceRoom text ≡ good s → CountsTests files s (verdictOf files s .tally)
+  counts-tests file choiceRoom text s chosen =
+      let draft = offered (files .rows) in
+      let table = ordered (files .document .constraints) in
+      let all = files-kinds S x room files read in
+      let kinds = ordered-keeps OfKind (files .document .constraints) all in
+      let many = chosen-many (S .horizon) files choiceRoom text s (choices-good (S .horizon) files file choiceRoom text s chosen) in
+      let rows : length draft ≡ length s = length-map (files .rows) (λ r. r .list) ∙ sym many in
+      record {
+        total = total-made draft table s;
+        each = kind-made draft table s kinds;
+        adds-up = adds-up draft table s kinds;
+        bound = omega (arith, total-bound draft table s rows, many, ordered-length (files .document .constraints) all);
+      }
+
 -- ---- the demand
 
 module _ (S : Stated) (x : Texts) (s : List ℕ) (t : Tables) (c : List ℕ) where
@@ -57,6 +75,10 @@ module _ (S : Stated) (x : Texts) (s : List ℕ) (t : Tables) (c : List ℕ) whe
   pub checked-answer : (w : Whole) → allRead S x s (roomsOf t) (length c) ≡ good w → checked S x s t c .answer ≡ answerOf solutionFile (verdictOf (w .files) (w .choices) .finding)
   unfolding checked
   checked-answer w e = rw e
+
+  pub checked-tally : (w : Whole) → allRead S x s (roomsOf t) (length c) ≡ good w → checked S x s t c .tally ≡ verdictOf (w .files) (w .choices) .tally
+  unfolding checked
+  checked-tally w e = rw e
 
   -- accepted: then all texts read, and the verdict is accepted
   pub accepted-read : checked S x s t c .answer ≡ Accepted

@@ -267,6 +267,11 @@ choices-good H files file room text s e =
     }
 
 -- and the other way round, whichever file it is
+-- a choice for each row of the draft
+pub chosen-many : (H : ℕ) (files : Files) (room : ℕ) (text : List ℕ) (s : List Configuration) → GoodChoices H files room text s → length s ≡ length (files .rows)
+chosen-many H files room text s g =
+    ap length (sym (g .choices)) ∙ length-map (g .rows) (λ r. r .nominal) ∙ columns-many (files .rows) (g .rows) (g .columns)
+
 pub good-choices : (H : ℕ) (files : Files) (file room : ℕ) (text : List ℕ) (s : List Configuration) → GoodChoices H files room text s
     → choicesRead H files file room text ≡ good s
 unfolding choicesRead

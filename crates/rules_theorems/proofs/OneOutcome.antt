@@ -15,10 +15,11 @@ use Rattle.rules.specs.Verdict.{Finding, accepted, violated}
 use Rattle.rules.specs.Entries.{Tables, roomsOf, verdictOf, Whole, allRead, checked, checkedFrom, reported, reportAccepted, reportJudged, reportFrom, Both, bothRead, merged, mergeFitted, mergeTravel, mergeSecond, mergeFirst, mergeFrom}
 use Rattle.rules.specs.Merge.{unequalFrom, chosen, textOf}
 use Rattle.rules.specs.declared.stated.Stated.{Stated}
+use Rattle.rules.specs.declared.answers.Tally.{Tally}
 use Rattle.rules.specs.declared.sizes.Configuration.{Configuration}
 use Rattle.rules.specs.declared.answers.Answer.{Answer}
 use Rattle.rules.specs.declared.answers.Answer.the-variants.{Accepted, Violated, Refused}
-use Rattle.rules_theorems.specs.Outcomes.{Outcome, SameTables, ChecksOwnInput, SameReport, ReportsOwnInput, SameMerge, MergesOwnInput}
+use Rattle.rules_theorems.specs.Outcomes.{Outcome, SameTables, SameCheck, ChecksOwnInput, SameReport, ReportsOwnInput, SameMerge, MergesOwnInput}
 
 pub one-outcome : (a : Answer) → Outcome a
 one-outcome Accepted = inl refl
@@ -52,49 +53,49 @@ module _ (S : Stated) (x : Texts) (s : List ℕ) (t : Tables) (c : List ℕ) whe
 
 -- ---- an entry judges its own input: the texts, and how much was lent
 
--- what was read decides the answer of a check
-check-from : (r : Reading Whole) (t t′ : Tables) (c c′ : List ℕ) → checkedFrom r t c .answer ≡ checkedFrom r t′ c′ .answer
-check-from (refused r) t t′ c c′ = refl
-check-from (good w) t t′ c c′ = refl
+-- what was read decides the answer of a check, and its tally
+check-from : (r : Reading Whole) (t t′ : Tables) (c c′ : List ℕ) → SameCheck (checkedFrom r t c) (checkedFrom r t′ c′)
+check-from (refused r) t t′ c c′ = record { answer = refl; tally = refl }
+check-from (good w) t t′ c c′ = record { answer = refl; tally = refl }
 
 -- and of a report, with the room for curves
 module _ (H : ℕ) (t t′ : Tables) (c c′ : List ℕ) (p p′ : List ℤ) where
-  report-accepted : (fits : Bool) (w : Whole) → SameReport (reportAccepted fits H w t c p) (reportAccepted fits H w t′ c′ p′)
-  report-accepted true w = record { answer = refl; figures = refl; desk = refl }
-  report-accepted false w = record { answer = refl; figures = refl; desk = refl }
+  report-accepted : (fits : Bool) (n : Tally) (w : Whole) → SameReport (reportAccepted fits H n w t c p) (reportAccepted fits H n w t′ c′ p′)
+  report-accepted true tally w = record { answer = refl; tally = refl; figures = refl; desk = refl }
+  report-accepted false tally w = record { answer = refl; tally = refl; figures = refl; desk = refl }
 
-  report-judged : length p ≡ length p′ → (v : Finding) (w : Whole) → SameReport (reportJudged v H w t c p) (reportJudged v H w t′ c′ p′)
-  report-judged e accepted w = rw e (report-accepted (leb (w .files .document .opened * H) (length p′)) w)
-  report-judged e (violated v) w = record { answer = refl; figures = refl; desk = refl }
+  report-judged : length p ≡ length p′ → (v : Finding) (n : Tally) (w : Whole) → SameReport (reportJudged v H n w t c p) (reportJudged v H n w t′ c′ p′)
+  report-judged e accepted tally w = rw e (report-accepted (leb (w .files .document .opened * H) (length p′)) tally w)
+  report-judged e (violated v) tally w = record { answer = refl; tally = refl; figures = refl; desk = refl }
 
   report-from : length p ≡ length p′ → (r : Reading Whole) → SameReport (reportFrom r H t c p) (reportFrom r H t′ c′ p′)
-  report-from e (refused r) = record { answer = refl; figures = refl; desk = refl }
-  report-from e (good w) = report-judged e (verdictOf (w .files) (w .choices) .finding) w
+  report-from e (refused r) = record { answer = refl; tally = refl; figures = refl; desk = refl }
+  report-from e (good w) = report-judged e (verdictOf (w .files) (w .choices) .finding) (verdictOf (w .files) (w .choices) .tally) w
 
 -- and of a merge, with the room for its text
 module _ (t t′ : Tables) (c c′ d d′ text text′ : List ℕ) where
   merge-fitted : (fits : Bool) (written : List ℕ) (b : Both) → SameMerge (mergeFitted t c d text fits written b) (mergeFitted t′ c′ d′ text′ fits written b)
-  merge-fitted true written b = record { answer = refl; length = refl }
-  merge-fitted false written b = record { answer = refl; length = refl }
+  merge-fitted true written b = record { answer = refl; tally = refl; length = refl }
+  merge-fitted false written b = record { answer = refl; tally = refl; length = refl }
 
   module _ (e : length text ≡ length text′) (s₂ : List ℕ) (merge : List Configuration → List Configuration → List Configuration) where
     merge-travel : (u : Option ℕ) (b : Both) → SameMerge (mergeTravel t c d text s₂ merge u b) (mergeTravel t′ c′ d′ text′ s₂ merge u b)
-    merge-travel (some row) b = record { answer = refl; length = refl }
+    merge-travel (some row) b = record { answer = refl; tally = refl; length = refl }
     merge-travel none b =
         let written : List ℕ = textOf (chosen (b .files .rows) (merge (b .first) (b .second))) in
         rw e (merge-fitted (leb (length written) (length text′) && leb (length written) mostText) written b)
 
-    merge-second : (v : Finding) (b : Both) → SameMerge (mergeSecond t c d text s₂ merge v b) (mergeSecond t′ c′ d′ text′ s₂ merge v b)
-    merge-second accepted b = merge-travel (unequalFrom 0 (b .first) (b .second)) b
-    merge-second (violated v) b = record { answer = refl; length = refl }
+    merge-second : (v : Finding) (n : Tally) (b : Both) → SameMerge (mergeSecond t c d text s₂ merge v n b) (mergeSecond t′ c′ d′ text′ s₂ merge v n b)
+    merge-second accepted tally b = merge-travel (unequalFrom 0 (b .first) (b .second)) b
+    merge-second (violated v) tally b = record { answer = refl; tally = refl; length = refl }
 
-    merge-first : (v : Finding) (b : Both) → SameMerge (mergeFirst t c d text s₂ merge v b) (mergeFirst t′ c′ d′ text′ s₂ merge v b)
-    merge-first accepted b = merge-second (verdictOf (b .files) (b .second) .finding) b
-    merge-first (violated v) b = record { answer = refl; length = refl }
+    merge-first : (v : Finding) (n : Tally) (b : Both) → SameMerge (mergeFirst t c d text s₂ merge v n b) (mergeFirst t′ c′ d′ text′ s₂ merge v n b)
+    merge-first accepted tally b = merge-second (verdictOf (b .files) (b .second) .finding) (verdictOf (b .files) (b .second) .tally) b
+    merge-first (violated v) tally b = record { answer = refl; tally = refl; length = refl }
 
     merge-from : (r : Reading Both) → SameMerge (mergeFrom t c d text s₂ merge r) (mergeFrom t′ c′ d′ text′ s₂ merge r)
-    merge-from (refused r) = record { answer = refl; length = refl }
-    merge-from (good b) = merge-first (verdictOf (b .files) (b .first) .finding) b
+    merge-from (refused r) = record { answer = refl; tally = refl; length = refl }
+    merge-from (good b) = merge-first (verdictOf (b .files) (b .first) .finding) (verdictOf (b .files) (b .first) .tally) b
 
 module _ (S : Stated) (x : Texts) (s : List ℕ) where
   pub check-own-input : ChecksOwnInput S x s

@@ -36,6 +36,7 @@ use Rattle.rules.specs.Entries.{
   merged,
 }
 use Rattle.rules.specs.declared.stated.Stated.{Stated}
+use Rattle.rules.specs.declared.answers.Tally.{Tally}
 use Rattle.rules.specs.declared.sizes.Configuration.{Configuration}
 use Rattle.rules.specs.declared.answers.Refusal.{Refusal}
 use Rattle.rules.specs.declared.answers.Answer.{Answer}
@@ -76,13 +77,13 @@ module _ (P : Refusal → Type 0) (files : AllowsFiles P) (first : Allows P (sol
       go m (reads {a = w}) = verdict-says P solutionFile (verdictOf (w .files) (w .choices) .finding)
 
   module _ (curves : List ℤ) (room : Allows P roomLine) where
-    accepted-says : (fits : Bool) (w : Whole) → Says P (reportAccepted fits (S .horizon) w t c curves .answer)
-    accepted-says true w = tt
-    accepted-says false w = room .atStart noRoom tt
+    accepted-says : (fits : Bool) (n : Tally) (w : Whole) → Says P (reportAccepted fits (S .horizon) n w t c curves .answer)
+    accepted-says true tally w = tt
+    accepted-says false tally w = room .atStart noRoom tt
 
-    judged-says : (v : Finding) (w : Whole) → Says P (reportJudged v (S .horizon) w t c curves .answer)
-    judged-says accepted w = accepted-says (leb (w .files .document .opened * S .horizon) (length curves)) w
-    judged-says (violated v) w = tt
+    judged-says : (v : Finding) (n : Tally) (w : Whole) → Says P (reportJudged v (S .horizon) n w t c curves .answer)
+    judged-says accepted tally w = accepted-says (leb (w .files .document .opened * S .horizon) (length curves)) tally w
+    judged-says (violated v) tally w = tt
 
     report-says : Says P (reported S x s t c curves .answer)
     unfolding reported
@@ -90,7 +91,7 @@ module _ (P : Refusal → Type 0) (files : AllowsFiles P) (first : Allows P (sol
       where
         go : (m : Reading Whole) → Refuses P m → Says P (reportFrom m (S .horizon) t c curves .answer)
         go m (refuses p) = p
-        go m (reads {a = w}) = judged-says (verdictOf (w .files) (w .choices) .finding) w
+        go m (reads {a = w}) = judged-says (verdictOf (w .files) (w .choices) .finding) (verdictOf (w .files) (w .choices) .tally) w
 
   module _ (s₂ d text : List ℕ) (second : Allows P (solutionLine secondFile)) (travel : Allows P travelLine) (room : Allows P roomLine) (merge : List Configuration → List Configuration → List Configuration) where
     both-refuse : Refuses P (bothRead S x s s₂ (roomsOf t) (length c) (length d))
@@ -111,13 +112,13 @@ module _ (P : Refusal → Type 0) (files : AllowsFiles P) (first : Allows P (sol
         fitted-says (leb (length written) (length text) && leb (length written) mostText) written b
     travel-says (some row) b = travel .atPlace unequalTravel (placeOfRow s₂ row) tt
 
-    second-says : (v : Finding) (b : Both) → Says P (mergeSecond t c d text s₂ merge v b .answer)
-    second-says accepted b = travel-says (unequalFrom 0 (b .first) (b .second)) b
-    second-says (violated v) b = tt
+    second-says : (v : Finding) (n : Tally) (b : Both) → Says P (mergeSecond t c d text s₂ merge v n b .answer)
+    second-says accepted tally b = travel-says (unequalFrom 0 (b .first) (b .second)) b
+    second-says (violated v) tally b = tt
 
-    first-says : (v : Finding) (b : Both) → Says P (mergeFirst t c d text s₂ merge v b .answer)
-    first-says accepted b = second-says (verdictOf (b .files) (b .second) .finding) b
-    first-says (violated v) b = tt
+    first-says : (v : Finding) (n : Tally) (b : Both) → Says P (mergeFirst t c d text s₂ merge v n b .answer)
+    first-says accepted tally b = second-says (verdictOf (b .files) (b .second) .finding) (verdictOf (b .files) (b .second) .tally) b
+    first-says (violated v) tally b = tt
 
     merge-says : Says P (merged merge S x s s₂ t c d text .answer)
     unfolding merged
@@ -125,7 +126,7 @@ module _ (P : Refusal → Type 0) (files : AllowsFiles P) (first : Allows P (sol
       where
         go : (m : Reading Both) → Refuses P m → Says P (mergeFrom t c d text s₂ merge m .answer)
         go m (refuses p) = p
-        go m (reads {a = b}) = first-says (verdictOf (b .files) (b .first) .finding) b
+        go m (reads {a = b}) = first-says (verdictOf (b .files) (b .first) .finding) (verdictOf (b .files) (b .first) .tally) b
 
 -- ---- a table allows every refusal of its lines
 

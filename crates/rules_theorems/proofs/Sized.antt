@@ -18,6 +18,7 @@ use Rattle.rules.specs.Verdict.{All, offered, Offered, Finding, accepted, viola
 use Rattle.rules.specs.Energy.{samplesIn, homesOf, power, beforeAt, drawnAt, figuresOf, curvesOf}
 use Rattle.rules.specs.Entries.{Tables, roomsOf, verdictOf, Whole, allRead, noFigures, reportAccepted, reportJudged, reportFrom, reported}
 use Rattle.rules.specs.declared.stated.Stated.{Stated}
+use Rattle.rules.specs.declared.answers.Tally.{Tally}
 use Rattle.rules.specs.declared.sizes.Configuration.{Configuration}
 use Rattle.rules.specs.declared.sizes.Track.{Track}
 use Rattle.rules.proofs.Truth.{all-map}
@@ -153,14 +154,14 @@ pub report-bounded : (S : Stated) (x : Texts) (s : List ℕ) (t : Tables) (c : L
 unfolding reported
 report-bounded S x s t c p = go (allRead S x s (roomsOf t) (length c)) refl
   where
-    fitted : (w : Whole) (fits : Bool) → BoundedFigures (S .horizon) (w .files) (w .choices) → Moderate (reportAccepted fits (S .horizon) w t c p .figures)
-    fitted w true b = b .figures
-    fitted w false b = none-moderate
+    fitted : (w : Whole) (fits : Bool) (n : Tally) → BoundedFigures (S .horizon) (w .files) (w .choices) → Moderate (reportAccepted fits (S .horizon) n w t c p .figures)
+    fitted w true tally b = b .figures
+    fitted w false tally b = none-moderate
 
-    judged : (w : Whole) (v : Finding) → (v ≡ accepted → BoundedFigures (S .horizon) (w .files) (w .choices)) → Moderate (reportJudged v (S .horizon) w t c p .figures)
-    judged w accepted b = fitted w (leb (w .files .document .opened * S .horizon) (length p)) (b refl)
-    judged w (violated v) b = none-moderate
+    judged : (w : Whole) (v : Finding) (n : Tally) → (v ≡ accepted → BoundedFigures (S .horizon) (w .files) (w .choices)) → Moderate (reportJudged v (S .horizon) n w t c p .figures)
+    judged w accepted tally b = fitted w (leb (w .files .document .opened * S .horizon) (length p)) tally (b refl)
+    judged w (violated v) tally b = none-moderate
 
     go : (m : Reading Whole) → allRead S x s (roomsOf t) (length c) ≡ m → Moderate (reportFrom m (S .horizon) t c p .figures)
     go (refused r) e = none-moderate
-    go (good w) e = judged w (verdictOf (w .files) (w .choices) .finding) (figures-bounded S x s (roomsOf t) (length c) w e)
+    go (good w) e = judged w (verdictOf (w .files) (w .choices) .finding) (verdictOf (w .files) (w .choices) .tally) (figures-bounded S x s (roomsOf t) (length c) w e)

@@ -1,9 +1,9 @@
 -- The three demands, each as one statement over the definitions of `rules`. About the entries they stand in `checker_theorems/specs/Demands.antt`.
-use Prim.Native.Nat.{ℕ, _/_, _≤_, _<_}
+use Prim.Native.Nat.{ℕ, _+_, _*_, _/_, _≤_, _<_}
 use mathlib.Core.Path.{_≡_}
 use mathlib.Core.List.{List}
 use mathlib.Core.Logic.{_↔_}
-use lib.ListN.{length, take}
+use lib.ListN.{length, take, getD}
 use lib.IntN.{ℤ, _+ℤ_}
 use Rattle.rules.specs.Limits.{configurationWidth, unsignedFill, signedFill, byteFill}
 use Rattle.rules.specs.Lists.{flat}
@@ -12,6 +12,7 @@ use Rattle.rules.specs.Timetable.{legsOf, configurationsOf, legNumbers, configu
 use Rattle.rules.specs.Profiles.{profilesFrom, profileNumbers, sampleTable}
 use Rattle.rules.specs.Constraints.{ordered, constraintNumbers, trackNumbers}
 use Rattle.rules.specs.Reading.{Texts, Files, choicesRead}
+use Rattle.rules.specs.Tally.{noTests}
 use Rattle.rules.specs.Verdict.{All, offered, Offered, Acceptable, Test, tests, shownIn}
 use Rattle.rules.specs.Energy.{samplesIn, homesOf, power, curvesOf}
 use Rattle.rules.specs.Merge.{zipped, earlier, later, SameTravel, chosen, textOf}
@@ -19,10 +20,11 @@ use Rattle.rules.specs.Entries.{Tables, roomsOf, filled, filledTables, noFigure
 use Rattle.rules.specs.declared.stated.Stated.{Stated}
 use Rattle.rules.specs.declared.sizes.Configuration.{Configuration}
 use Rattle.rules.specs.declared.answers.Refusal.{Refusal}
+use Rattle.rules.specs.declared.answers.Tally.{Tally}
 use Rattle.rules.specs.declared.answers.Violation.{Violation}
 use Rattle.rules.specs.declared.answers.Answer.{Answer}
 use Rattle.rules.specs.declared.answers.Answer.the-variants.{Accepted, Violated, Refused}
-use Rattle.rules_theorems.specs.Tests.{FirstFailing, Numbered}
+use Rattle.rules_theorems.specs.Tests.{made, ofKind, FirstFailing, Numbered, AddsUp}
 use Rattle.rules_theorems.specs.Outcomes.{Outcome}
 
 -- ---- DEMAND 1: "Any bytes in any of the files end in one of three answers", "after a refusal each lent table holds only a number that no field can have"
@@ -30,18 +32,20 @@ use Rattle.rules_theorems.specs.Outcomes.{Outcome}
 abbrev pub IsRefused : Answer → Type 0
 IsRefused a = (r : Refusal) × (a ≡ Refused r)
 
--- the answer of an entry, and what holds of its lent tables and texts after a refusal
+-- the answer of an entry, and what holds of its tally and its lent tables and texts after a refusal
 pub record DemandOne (a : Answer) (Emptied : Type 0) : Type 0 where
   pub outcome : Outcome a
   pub emptied : IsRefused a → Emptied
 
 -- t, c: the tables as they were lent
 pub record EmptiedCheck (t : Tables) (c : List ℕ) (r : Checked) : Type 0 where
+  pub tally : r .tally ≡ noTests
   pub tables : r .tables ≡ filledTables t
   pub choices : r .choices ≡ filled unsignedFill c
 
 -- a report: its curve table p too, and no figures
 pub record EmptiedReport (t : Tables) (c : List ℕ) (p : List ℤ) (r : Reported) : Type 0 where
+  pub tally : r .tally ≡ noTests
   pub tables : r .tables ≡ filledTables t
   pub choices : r .choices ≡ filled unsignedFill c
   pub curves : r .curves ≡ filled signedFill p
@@ -49,6 +53,7 @@ pub record EmptiedReport (t : Tables) (c : List ℕ) (p : List ℤ) (r : Reporte
 
 -- a merge: both choice tables, and the text buffer b
 pub record EmptiedMerge (t : Tables) (c d b : List ℕ) (r : Merged) : Type 0 where
+  pub tally : r .tally ≡ noTests
   pub tables : r .tables ≡ filledTables t
   pub choices : r .choices ≡ filled unsignedFill c
   pub second : r .second ≡ filled unsignedFill d
@@ -96,6 +101,18 @@ pub record DemandTwo (H : ℕ) (a : Answer) (w : Whole) : Type 0 where
   -- what we write reads back as the same choices: any that the draft offers, where the choice table has room
   pub reads-back : (file room : ℕ) (s : List Configuration) → Offered (offered (w .files .rows)) s → length (w .files .rows) ≤ room / configurationWidth
       → choicesRead H (w .files) file room (textOf (chosen (w .files .rows) s)) ≡ good s
+
+-- ---- how much was tested (document 02, E6), once every file reads
+
+abbrev pub testsMade : Files → List Configuration → List Test
+testsMade f cs = made (tests (offered (f .rows)) (ordered (f .document .constraints)) cs)
+
+-- the tests up to and with the first that fails, in all and of each kind
+pub record CountsTests (f : Files) (cs : List Configuration) (t : Tally) : Type 0 where
+  pub total : t .total ≡ length (testsMade f cs)
+  pub each : (k : ℕ) → getD (t .kinds) k 0 ≡ ofKind k (testsMade f cs)
+  pub adds-up : AddsUp t
+  pub bound : t .total ≤ length (f .rows) + 2 * length (f .document .constraints)
 
 -- ---- DEMAND 3
 

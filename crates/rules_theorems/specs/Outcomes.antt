@@ -6,7 +6,7 @@ use mathlib.Core.Logic.{_⊎_}
 use lib.ListN.{length}
 use lib.IntN.{ℤ}
 use Rattle.rules.specs.Reading.{Texts}
-use Rattle.rules.specs.Entries.{Tables, roomsOf, checked, Reported, reported, Merged, merged}
+use Rattle.rules.specs.Entries.{Tables, roomsOf, Checked, checked, Reported, reported, Merged, merged}
 use Rattle.rules.specs.declared.stated.Stated.{Stated}
 use Rattle.rules.specs.declared.sizes.Configuration.{Configuration}
 use Rattle.rules.specs.declared.answers.Refusal.{Refusal}
@@ -34,18 +34,24 @@ pub record SameRoom (t t′ : Tables) (c c′ : List ℕ) : Type 0 where
   pub tables : roomsOf t ≡ roomsOf t′
   pub choices : length c ≡ length c′
 
+pub record SameCheck (a b : Checked) : Type 0 where
+  pub answer : a .answer ≡ b .answer
+  pub tally : a .tally ≡ b .tally
+
 pub record SameReport (a b : Reported) : Type 0 where
   pub answer : a .answer ≡ b .answer
+  pub tally : a .tally ≡ b .tally
   pub figures : a .figures ≡ b .figures
   pub desk : a .desk ≡ b .desk
 
 pub record SameMerge (a b : Merged) : Type 0 where
   pub answer : a .answer ≡ b .answer
+  pub tally : a .tally ≡ b .tally
   pub length : a .length ≡ b .length
 
 module _ (S : Stated) (x : Texts) (s : List ℕ) where
   abbrev pub ChecksOwnInput : Type 0
-  ChecksOwnInput = (t t′ : Tables) (c c′ : List ℕ) → SameRoom t t′ c c′ → checked S x s t c .answer ≡ checked S x s t′ c′ .answer
+  ChecksOwnInput = (t t′ : Tables) (c c′ : List ℕ) → SameRoom t t′ c c′ → SameCheck (checked S x s t c) (checked S x s t′ c′)
 
   abbrev pub ReportsOwnInput : Type 0
   ReportsOwnInput =

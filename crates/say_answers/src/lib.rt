@@ -5,10 +5,12 @@ pub mod refusals; // refused: number and meaning, file, place, row
 pub mod readings; // accepted: how much was read
 pub mod energies; // the energies of an accepted solution
 pub mod violations; // violated: the inequality, both legs, what was needed
+pub mod tallies; // how much was tested for a verdict
 
 use rules::answers::Answer;
+use rules::answers::Tally;
 
-// All of an answer but its last line, by the tables as the checker left them; `row` is the row that a refusal shows.
+// All of an answer but its last lines, by the tables as the checker left them; `row` is the row that a refusal shows.
 pub fn tell(
     answer: Answer,
     row: &[u8],
@@ -28,10 +30,17 @@ pub fn tell(
     }
 }
 
-pub fn close(answer: Answer) {
+// Of a verdict, how much was tested for it; then the last line.
+pub fn close(answer: Answer, tally: Tally) {
     match answer {
-        Answer::Accepted => say::answer(b"accepted"),
-        Answer::Violated(_) => say::answer(b"violated"),
+        Answer::Accepted => {
+            tallies::tell(tally);
+            say::answer(b"accepted")
+        }
+        Answer::Violated(_) => {
+            tallies::tell(tally);
+            say::answer(b"violated")
+        }
         Answer::Refused(_) => say::answer(b"refused"),
     }
 }

@@ -4,6 +4,7 @@ use rules::figures::Peak;
 use say_words::energies;
 use say_words::names;
 use say_words::numbers;
+use say_words::tallies;
 use say_words::times;
 use text_read::pieces;
 
@@ -116,6 +117,12 @@ pub fn peak(h: u32, p: Peak) {
 pub fn formula(kind: u8, inequality: u8) {
     let mut line = [0u8; LINE];
     let end = names::put_formula(&mut line, 0, kind, inequality);
+    front(&line, end);
+}
+
+pub fn tests(kind: u8, count: u32) {
+    let mut line = [0u8; LINE];
+    let end = tallies::put_count(&mut line, 0, kind, count);
     front(&line, end);
 }
 

@@ -1,10 +1,11 @@
--- Times and energies out of their parts: the parts written one after the other are the whole. Assumes nothing.
+-- Times, energies and counts out of their parts: the parts written one after the other are the whole. Assumes nothing.
 use Prim.Native.Nat.{ℕ, _*_, _/_, _%_, _^_, _≤_, _<_}
 use native.Mathlib.Omega.{arith}
 use native.Mathlib.Nat.{mod-lt}
 use mathlib.Core.Path.{_≡_, subst}
-use mathlib.Core.List.{List, [], _∷_, append-assoc}
-use lib.ListN.{length}
+use mathlib.Core.List.{List, [], _∷_, append-assoc, append-nil}
+use lib.ListN.{length, getD}
+use borrow.Author.Tests.{eq-eqb, ne-eqb}
 use Rattle.rules.specs.Limits.{quarterSeconds}
 use Rattle.rules.specs.Bytes.{bytes, spelled, point}
 use Rattle.rules.specs.declared.figures.Peak.{Peak}
@@ -13,6 +14,8 @@ use Rattle.text_write.proofs.Writing.{written-then}
 use Rattle.say_words.specs.Numbers.{twoDigits, threeDigits}
 use Rattle.say_words.specs.Times.{minute, hour, colon, clockOf, timeOf, quarterEnd, quarterOf}
 use Rattle.say_words.specs.Energies.{mostUnit, decimalsOf, mwOf, peakText}
+use Rattle.say_words.specs.Names.{testNames}
+use Rattle.say_words.specs.Tallies.{countText}
 
 -- a thousand times what is short of a unit
 pub thousand-fits : (n unit : ℕ) → 0 < unit → unit ≤ mostUnit → n % unit * 1_000 < 2 ^ 64
@@ -30,7 +33,19 @@ module _ {t : List ℕ} {at : ℕ} {t₁ : List ℕ} {at₁ : ℕ} {t₂ : List 
   quarter-written H k start to is end h =
       simp append-assoc (simp append-assoc at (written-then (written-then start to h) (subst (λ e. Written t₂ at₂ (clockOf e) t₃ at₃) is end) h))
 
+  pub one-written : (kind : ℕ) {n : ℕ} → Written t at (spelled n) t₁ at₁ → Written t₁ at₁ (bytes " ") t₂ at₂ → Written t₂ at₂ (getD testNames kind []) t₃ at₃
+      → n ≡ 1 → length t ≤ lastPlace → Written t at (countText kind n) t₃ at₃
+  unfolding countText
+  one-written kind {n} count space name one h =
+      simp (eq-eqb n 1 one, append-assoc, append-nil) (simp append-assoc at (written-then (written-then count space h) name h))
+
   module _ {t₄ : List ℕ} {at₄ : ℕ} where
+    pub many-written : (kind : ℕ) {n : ℕ} → Written t at (spelled n) t₁ at₁ → Written t₁ at₁ (bytes " ") t₂ at₂ → Written t₂ at₂ (getD testNames kind []) t₃ at₃
+        → (n ≡ 1 → ⊥) → Written t₃ at₃ (bytes "s") t₄ at₄ → length t ≤ lastPlace → Written t at (countText kind n) t₄ at₄
+    unfolding countText
+    many-written kind {n} count space name many end h =
+        simp (ne-eqb n 1 many, append-assoc) (simp append-assoc at (written-then (written-then (written-then count space h) name h) end h))
+
     pub peak-written : (H : ℕ) (p : Peak) {t₅ : List ℕ} {at₅ : ℕ} → Written t at (spelled (p .kj)) t₁ at₁ → Written t₁ at₁ (bytes " kJ, ") t₂ at₂
         → Written t₂ at₂ (mwOf (p .kj)) t₃ at₃ → Written t₃ at₃ (bytes " MW, ") t₄ at₄ → Written t₄ at₄ (quarterOf H (p .quarter)) t₅ at₅
         → length t ≤ lastPlace → Written t at (peakText H p) t₅ at₅

@@ -6,6 +6,7 @@ use Rattle.rules.specs.Limits.{mostHorizon}
 use Rattle.rules.specs.Bytes.{bytes}
 use Rattle.say_words.specs.Times.{hour, clockOf, timeOf, quarterOf}
 use Rattle.say_words.specs.Energies.{decimalsOf, mwhOf, mwOf, peakText}
+use Rattle.say_words.specs.Tallies.{countText}
 use Rattle.say_words.specs.Shown.{shown}
 
 -- past midnight, on the hour, the last second of a day, the first of the next
@@ -41,6 +42,11 @@ peaks = refl
 pub peak-texts : peakText 100 (record { kj = 2_050; quarter = 0 }) ∷ peakText 900 (record { kj = 2_050; quarter = 0 }) ∷ peakText 90_000 (record { kj = 1_234_567; quarter = 29 }) ∷ [] ≡ bytes "2050 kJ, 0.002 MW, 00:00:00 to 00:01:40" ∷ bytes "2050 kJ, 0.002 MW, 00:00:00 to 00:15:00" ∷ bytes "1234567 kJ, 1.371 MW, 07:15:00 to 07:30:00" ∷ []
 unfolding clockOf quarterOf decimalsOf peakText
 peak-texts = refl
+
+-- each kind once, with the numbers around one
+pub counts : countText 0 2 ∷ countText 0 1 ∷ countText 1 2 ∷ countText 2 0 ∷ countText 3 1 ∷ countText 4 10 ∷ countText 5 11 ∷ [] ≡ bytes "2 choices" ∷ bytes "1 choice" ∷ bytes "2 headway times" ∷ bytes "0 single-track headways" ∷ bytes "1 dwell time" ∷ bytes "10 terminal turnarounds" ∷ bytes "11 connections" ∷ []
+unfolding countText
+counts = refl
 
 -- a space, a tilde, the byte past it, an escape, a line feed, the greatest byte
 pub bytes-shown : map shown (32 ∷ 126 ∷ 127 ∷ 27 ∷ 10 ∷ 255 ∷ []) ≡ bytes " " ∷ bytes "~" ∷ bytes "\\x7f" ∷ bytes "\\x1b" ∷ bytes "\\x0a" ∷ bytes "\\xff" ∷ []

@@ -4,6 +4,7 @@ pub mod Times
 pub mod Energies
 pub mod Needs
 pub mod Names
+pub mod Tallies
 pub mod Shown
 -- Computed.
 pub mod Examples

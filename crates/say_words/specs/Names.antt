@@ -1,7 +1,7 @@
 -- Names by number, in document 01's words. What has no name is empty.
 use Prim.Native.Nat.{ℕ, _+_, _*_}
 use mathlib.Core.List.{List, [], _∷_}
-use lib.ListN.{getD, take}
+use lib.ListN.{getD, take, drop}
 use Rattle.rules.specs.Bytes.{bytes}
 use Rattle.rules.specs.Kinds as kinds
 
@@ -15,6 +15,10 @@ kindNames =
     ∷ bytes "terminal turnaround"
     ∷ bytes "connection"
     ∷ []
+
+-- what is tested of each
+abbrev pub testNames : List (List ℕ)
+testNames = bytes "choice" ∷ drop 1 kindNames
 
 -- the lists that hold their records; kind 0 has none
 abbrev pub listNames : List (List ℕ)

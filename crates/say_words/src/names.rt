@@ -4,7 +4,7 @@ ghost use lib.ListN.{getD};
 ghost use mathlib.Core.List.{[]};
 ghost use Rattle.rules.specs.Bytes.{splitOn, lineFeed};
 ghost use Rattle.text_write.specs.Written.{Written};
-ghost use Rattle.say_words.specs.Names.{kindNames, listNames, formulaOf, meanings, fileNames};
+ghost use Rattle.say_words.specs.Names.{kindNames, testNames, listNames, formulaOf, meanings, fileNames};
 use text_read::pieces;
 
 const LINE_FEED: u8 = b'\n';
@@ -44,6 +44,23 @@ pub fn put_kind(buffer: &mut [u8], at: usize, kind: u8) -> usize
         buffer,
         at,
         b"choice not offered\n\
+          headway time\n\
+          single-track headway\n\
+          dwell time\n\
+          terminal turnaround\n\
+          connection",
+        kind as usize,
+    )
+}
+
+// What is tested of a kind: one of these.
+pub fn put_test(buffer: &mut [u8], at: usize, kind: u8) -> usize
+    ensures { λ r. ⌜ Written (now (buffer .entry)) at (getD testNames kind []) (now (buffer .exit)) r ⌝ }
+{
+    put_line(
+        buffer,
+        at,
+        b"choice\n\
           headway time\n\
           single-track headway\n\
           dwell time\n\

@@ -44,6 +44,7 @@ pub fn judge<'a>(
         &mut choices,
     );
     let answer = checked.answer;
+    let tally = checked.tally;
     say_answers::tell(
         answer,
         refused_row(answer, timetable, solution),
@@ -54,5 +55,5 @@ pub fn judge<'a>(
         &tracks,
         &choices,
     );
-    say_answers::close(answer);
+    say_answers::close(answer, tally);
 }

@@ -45,6 +45,7 @@ pub fn report<'a>(
         &mut curves,
     );
     let answer = report.answer;
+    let tally = report.tally;
     say_answers::tell(
         answer,
         checks::refused_row(answer, timetable, solution),
@@ -56,5 +57,5 @@ pub fn report<'a>(
         &choices,
     );
     show_figures(answer, stated.horizon, report.figures);
-    say_answers::close(answer);
+    say_answers::close(answer, tally);
 }

@@ -3,6 +3,7 @@ use checker::display;
 use checker::merges;
 use rules::answers::Answer;
 use rules::answers::File;
+use rules::answers::Tally;
 use rules::outcomes::Direction;
 use rules::stated::Stated;
 use say_answers::say;
@@ -49,11 +50,12 @@ fn hand_over(out: usize, text: &[u8], length: usize) {
     }
 }
 
-fn close(answer: Answer, out: usize, text: &[u8], length: usize) {
+// A merge that is written is a text and no verdict: nothing is said of tests.
+fn close(answer: Answer, tally: Tally, out: usize, text: &[u8], length: usize) {
     match answer {
         Answer::Accepted => hand_over(out, text, length),
-        Answer::Violated(_) => say_answers::close(answer),
-        Answer::Refused(_) => say_answers::close(answer),
+        Answer::Violated(_) => say_answers::close(answer, tally),
+        Answer::Refused(_) => say_answers::close(answer, tally),
     }
 }
 
@@ -97,6 +99,7 @@ pub fn merge<'a>(
         &mut text,
     );
     let answer = merged.answer;
+    let tally = merged.tally;
     say_answers::tell(
         answer,
         refused_row(answer, timetable, first, second),
@@ -107,5 +110,5 @@ pub fn merge<'a>(
         &tracks,
         shown_choices(answer, &choices, &second_choices),
     );
-    close(answer, out, &text, merged.length);
+    close(answer, tally, out, &text, merged.length);
 }

@@ -49,5 +49,5 @@ module _ {counts : Counts} {legs configurations constraints choices : List ℕ} 
 
 pub judge-right : {counts : Counts} {legs configurations constraints choices : List ℕ} (file : ℕ) {r : Ruling}
     → r ≡ ruling file (verdict (offersIn (counts .legs) legs configurations) (constraintsIn (counts .constraints) constraints) (configurationsIn (counts .legs) choices))
-    → Judges counts legs configurations constraints choices file (r .answer)
-judge-right file e k = ap (λ (r : Ruling). r .answer) (e ∙ judged k file)
+    → Judges counts legs configurations constraints choices file r
+judge-right file e k = e ∙ judged k file

@@ -5,11 +5,11 @@ use mathlib.Core.List.{List}
 use lib.ListN.{length}
 use Rattle.rules.specs.Answers.{Reading, refused, good}
 use Rattle.rules.specs.Reading.{Texts, Files, filesOf, choicesRead}
-use Rattle.rules.specs.Verdict.{answerOf}
+use Rattle.rules.specs.Verdict.{ruling}
 use Rattle.rules.specs.Entries.{Tables, roomsOf, writtenTables, writtenChoices, verdictOf}
 use Rattle.rules.specs.declared.stated.Stated.{Stated}
 use Rattle.rules.specs.declared.sizes.Configuration.{Configuration}
-use Rattle.rules.specs.declared.answers.Answer.{Answer}
+use Rattle.rules.specs.declared.answers.Ruling.{Ruling}
 use Rattle.tables_lent.specs.declared.Counts.{Counts}
 use Rattle.tables_lent.specs.Filing.{countsOf}
 use Rattle.solution_verdict.specs.declared.Chosen.{Chosen}
@@ -61,6 +61,6 @@ pub record Ready (counts : Counts) (legs configurations constraints choices : Li
   pub read : choicesRead H (tables .left .files) file room text ≡ good chosen
   pub choices-are : choices ≡ writtenChoices chosen lent
 
-abbrev pub Judges : Counts → (legs configurations constraints choices : List ℕ) → (file : ℕ) → Answer → Type 0
-Judges counts legs configurations constraints choices file answer =
-    (k : Ready counts legs configurations constraints choices) → answer ≡ answerOf file (verdictOf (k .tables .left .files) (k .chosen) .finding)
+abbrev pub Judges : Counts → (legs configurations constraints choices : List ℕ) → (file : ℕ) → Ruling → Type 0
+Judges counts legs configurations constraints choices file r =
+    (k : Ready counts legs configurations constraints choices) → r ≡ ruling file (verdictOf (k .tables .left .files) (k .chosen))

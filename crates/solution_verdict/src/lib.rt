@@ -1,7 +1,7 @@
 // A solution over files that were read: its choices are read, and judged. Check and energy ask it once, a merge twice.
 ghost use Rattle.solution_verdict.specs.Left.{Choosable, Chooses, Ready, Judges};
-use rules::answers::Answer;
 use rules::answers::Refusal;
+use rules::answers::Ruling;
 use solution::reader;
 use solution_row::draft::Choices;
 use tables_lent::Counts;
@@ -38,12 +38,11 @@ pub fn judge_choices(
     constraints: &[u32],
     choices: &[u32],
     file: u8,
-) -> Answer
+) -> Ruling
     requires { ⌜ Ready counts (now legs) (now configurations) (now constraints) (now choices) ⌝ }
     ensures { λ r. ⌜ Judges counts (now (legs .entry)) (now (configurations .entry)) (now (constraints .entry)) (now (choices .entry)) file r ⌝ }
 {
     let n = counts.legs;
     let m = counts.constraints;
-    let ruling = verdict::judge(legs, n, configurations, constraints, m, choices, file);
-    ruling.answer
+    verdict::judge(legs, n, configurations, constraints, m, choices, file)
 }

@@ -20,7 +20,7 @@ use Rattle.rules_theorems.specs.WellFormed.{KeptRow}
 use Rattle.rules_theorems.proofs.All.{all-mapped}
 use Rattle.rules_theorems.proofs.Documents.{good-is-lawful}
 use Rattle.rules_theorems.specs.Files.{GoodChoices}
-use Rattle.rules_theorems.proofs.GoodFiles.{files-good, columns-many, choices-good}
+use Rattle.rules_theorems.proofs.GoodFiles.{files-good, chosen-many, choices-good}
 use Rattle.rules_theorems.proofs.LawfulRows.{rows-kept, legs-most}
 use Rattle.rules_theorems.proofs.Ordered.{ordered-keeps, table-length}
 use Rattle.tables_views.specs.View.{offersIn, constraintsIn, configurationsIn}
@@ -48,7 +48,7 @@ module _ (S : Stated) (x : Texts) (room : Rooms) (files : Files) (read : filesOf
 
     -- a choice for each row of the draft
     pub choices-many : length s ≡ length (files .rows)
-    choices-many = many ∙ columns-many (files .rows) (solution .rows) (solution .columns)
+    choices-many = chosen-many (S .horizon) files choiceRoom text s solution
 
     timely : All Timely (choicesOf (solution .rows))
     timely =

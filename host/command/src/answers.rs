@@ -1,5 +1,6 @@
-//! The answers of document 01, and how the library's sixteen numbers say them.
+//! The answers of document 01, and how the library's numbers say them.
 
+use crate::tally::{Ruling, Tally};
 use std::fmt;
 
 /// "Any bytes in any of the files end in one of three answers". An accepted one carries what its entry gives.
@@ -214,27 +215,37 @@ fn unknown(numbers: Numbers) -> Unknown {
     Unknown(Box::new(numbers))
 }
 
-/// What an export answers: a code, then the values, unused ones 0.
-pub type Numbers = [u64; 16];
+/// How many numbers an export writes.
+pub const NUMBERS: usize = 24;
+
+/// Where the code and its values end, and how much was tested begins.
+const TESTED: usize = 16;
+
+/// What an export answers: a code, then the values, then how much was tested; unused ones are 0.
+pub type Numbers = [u64; NUMBERS];
+
+type Values = [u64; TESTED - 1];
 
 const ACCEPTED: u64 = 0;
 const VIOLATED: u64 = 1;
 const REFUSED: u64 = 2;
 const ROW: u64 = 3;
 
-/// The numbers as an answer; an accepted one gives its values, of which only the first `values` may be other than 0.
-fn answer(numbers: &Numbers, values: usize) -> Option<Answer<[u64; 15]>> {
-    let [code, given @ ..] = *numbers;
-    let (used, said) = match code {
+/// The numbers as an answer and its tests; an accepted one gives its values, of which only the first `values` may be other than 0.
+fn ruling(numbers: &Numbers, values: usize) -> Option<Ruling<Values>> {
+    let (said, tested) = numbers.split_at(TESTED);
+    let [code, given @ ..] = <[u64; TESTED]>::try_from(said).ok()?;
+    let (used, answer) = match code {
         ACCEPTED => (values, Answer::Accepted(given)),
         VIOLATED => (5, Answer::Violated(violation(&given)?)),
         REFUSED => (3, Answer::Refused(refusal(&given)?)),
         _ => return None,
     };
-    given[used..].iter().all(|number| *number == 0).then_some(said)
+    let ruling = Ruling { answer, tally: Tally::read(tested)? };
+    (given[used..].iter().all(|number| *number == 0) && ruling.is_known()).then_some(ruling)
 }
 
-fn violation(given: &[u64; 15]) -> Option<Violation> {
+fn violation(given: &Values) -> Option<Violation> {
     let kind = Kind::of(given[0])?;
     let inequality = u8::try_from(given[2]).ok()?;
     let inequality_is_its = if kind == Kind::NotOffered { inequality == 0 } else { (1..=kind.inequalities()).contains(&inequality) };
@@ -250,17 +261,17 @@ fn violation(given: &[u64; 15]) -> Option<Violation> {
     })
 }
 
-fn refusal(given: &[u64; 15]) -> Option<Refusal> {
+fn refusal(given: &Values) -> Option<Refusal> {
     Some(Refusal { reason: Reason::of(given[0])?, file: File::of(given[1])?, place: u32::try_from(given[2]).ok()? })
 }
 
-pub(crate) fn checked(numbers: Numbers) -> Result<Answer<()>, Unknown> {
-    let said = answer(&numbers, 0).ok_or_else(|| unknown(numbers))?;
+pub(crate) fn checked(numbers: Numbers) -> Result<Ruling<()>, Unknown> {
+    let said = ruling(&numbers, 0).ok_or_else(|| unknown(numbers))?;
     Ok(said.map(|_| ()))
 }
 
-pub(crate) fn reported(numbers: Numbers) -> Result<Answer<Figures>, Unknown> {
-    let said = answer(&numbers, 12).ok_or_else(|| unknown(numbers))?;
+pub(crate) fn reported(numbers: Numbers) -> Result<Ruling<Figures>, Unknown> {
+    let said = ruling(&numbers, 12).ok_or_else(|| unknown(numbers))?;
     let quarter = |place: usize| u32::try_from(numbers[place]).map_err(|_| unknown(numbers));
     let (peak_before_quarter, peak_drawn_quarter) = (quarter(11)?, quarter(12)?);
     Ok(said.map(|given| Figures {
@@ -279,11 +290,11 @@ pub(crate) fn reported(numbers: Numbers) -> Result<Answer<Figures>, Unknown> {
     }))
 }
 
-/// The length of the merged text, which is within the lent buffer.
-pub(crate) fn merged(numbers: Numbers, room: usize) -> Result<Answer<usize>, Unknown> {
-    let said = answer(&numbers, 1).ok_or_else(|| unknown(numbers))?.map(|given| given[0] as usize);
-    match said {
-        Answer::Accepted(length) if length > room => Err(unknown(numbers)),
+/// The length of the merged text, which is within the lent buffer, and has no tests.
+pub(crate) fn merged(numbers: Numbers, room: usize) -> Result<Ruling<usize>, Unknown> {
+    let said = ruling(&numbers, 1).ok_or_else(|| unknown(numbers))?.map(|given| given[0] as usize);
+    match said.answer {
+        Answer::Accepted(length) if length > room || said.tally != Tally::default() => Err(unknown(numbers)),
         _ => Ok(said),
     }
 }
@@ -304,36 +315,50 @@ mod tests {
     use super::*;
 
     fn numbers(first: &[u64]) -> Numbers {
-        let mut all = [0; 16];
+        let mut all = [0; NUMBERS];
         all[..first.len()].copy_from_slice(first);
         all
     }
 
+    /// The same with six counts, and their sum.
+    fn tested(first: &[u64], kinds: [u64; 6]) -> Numbers {
+        let mut all = numbers(first);
+        all[TESTED] = kinds.iter().sum();
+        all[TESTED + 1..][..kinds.len()].copy_from_slice(&kinds);
+        all
+    }
+
+    fn ruled<T>(answer: Answer<T>, kinds: [u32; 6]) -> Result<Ruling<T>, Unknown> {
+        Ok(Ruling { answer, tally: Tally { kinds, total: kinds.iter().sum() } })
+    }
+
     #[test]
     fn each_answer_is_read() {
-        assert_eq!(checked(numbers(&[0])), Ok(Answer::Accepted(())));
+        assert_eq!(checked(numbers(&[0])), ruled(Answer::Accepted(()), [0; 6]));
+        assert_eq!(checked(tested(&[0], [2, 4, 1, 3, 0, 6])), ruled(Answer::Accepted(()), [2, 4, 1, 3, 0, 6]));
         let violation = Violation { kind: Kind::Dwell, position: 7, inequality: 1, shortfall: 3, file: File::SecondSolution };
-        assert_eq!(checked(numbers(&[1, 3, 7, 1, 3, 5])), Ok(Answer::Violated(violation)));
+        assert_eq!(checked(tested(&[1, 3, 7, 1, 3, 5], [2, 0, 0, 8, 0, 0])), ruled(Answer::Violated(violation), [2, 0, 0, 8, 0, 0]));
         let refusal = Refusal { reason: Reason::Travel, file: File::SecondSolution, place: 113 };
-        assert_eq!(checked(numbers(&[2, 17, 5, 113])), Ok(Answer::Refused(refusal)));
+        assert_eq!(checked(numbers(&[2, 17, 5, 113])), ruled(Answer::Refused(refusal), [0; 6]));
         let refusal = Refusal { reason: Reason::Edition, file: File::None, place: 0 };
-        assert_eq!(checked(numbers(&[2, 21, 0, 0])), Ok(Answer::Refused(refusal)));
-        assert_eq!(merged(numbers(&[0, 9]), 9), Ok(Answer::Accepted(9)));
+        assert_eq!(checked(numbers(&[2, 21, 0, 0])), ruled(Answer::Refused(refusal), [0; 6]));
+        assert_eq!(merged(numbers(&[0, 9]), 9), ruled(Answer::Accepted(9), [0; 6]));
         assert_eq!(row(numbers(&[3, 4, 5]), 9), Ok((4, 5)));
     }
 
     /// The old edition took a default here.
     #[test]
     fn what_is_not_known_is_no_answer() {
+        let of_each_kind = |first: &[u64]| tested(first, [1; 6]);
         let others = [
             numbers(&[3]),
             numbers(&[0, 1]),
-            numbers(&[1, 6, 0, 1, 1, 4]),
-            numbers(&[1, 2, 0, 2, 1, 4]),
-            numbers(&[1, 1, 0, 1, 0, 4]),
-            numbers(&[1, 1, 0, 1, 1, 3]),
-            numbers(&[1, 0, 0, 0, 1, 4]),
-            numbers(&[1, 1, 1 << 32, 1, 1, 4]),
+            of_each_kind(&[1, 6, 0, 1, 1, 4]),
+            of_each_kind(&[1, 2, 0, 2, 1, 4]),
+            of_each_kind(&[1, 1, 0, 1, 0, 4]),
+            of_each_kind(&[1, 1, 0, 1, 1, 3]),
+            of_each_kind(&[1, 0, 0, 0, 1, 4]),
+            of_each_kind(&[1, 1, 1 << 32, 1, 1, 4]),
             numbers(&[2, 0, 1, 0]),
             numbers(&[2, 18, 0, 0]),
             numbers(&[2, 20, 1, 0]),
@@ -349,11 +374,36 @@ mod tests {
         assert!(row(numbers(&[0, 4, 5]), 9).is_err());
     }
 
+    /// A refusal and a text that is written have no tests, a violation has the one that failed, and counts add up.
+    #[test]
+    fn tests_that_are_not_the_answers_are_no_answer() {
+        let (refused, violated) = ([2, 4, 4, 145], [1, 3, 0, 1, 1, 4]);
+        let mut unequal = tested(&[0], [2, 0, 0, 1, 0, 0]);
+        unequal[TESTED] = 4;
+        let mut unused = tested(&[0], [2, 0, 0, 1, 0, 0]);
+        unused[NUMBERS - 1] = 1;
+        let others = [
+            tested(&refused, [1, 0, 0, 0, 0, 0]),
+            numbers(&violated),
+            tested(&violated, [2, 0, 0, 0, 1, 0]),
+            unequal,
+            unused,
+            tested(&[0], [163_841, 0, 0, 0, 0, 0]),
+        ];
+        for answer in others {
+            assert_eq!(checked(answer), Err(unknown(answer)));
+        }
+        assert!(checked(tested(&violated, [2, 0, 0, 1, 0, 0])).is_ok());
+        assert!(merged(tested(&violated, [2, 0, 0, 1, 0, 0]), 9).is_ok());
+        assert!(merged(tested(&[0, 9], [2, 0, 0, 1, 0, 0]), 9).is_err());
+        assert!(row(tested(&[3, 4, 5], [1, 0, 0, 0, 0, 0]), 9).is_err());
+    }
+
     #[test]
     fn a_quarter_is_read_after_the_doubles() {
         let mut numbers = numbers(&[0, 0, 0, 0, 0, 6, 7, 0, 0, 0, 0, 29, 195]);
         let quarters = reported(numbers).map(|said| said.map(|figures| (figures.peak_before_quarter, figures.peak_drawn_quarter)));
-        assert_eq!(quarters, Ok(Answer::Accepted((29, 195))));
+        assert_eq!(quarters, ruled(Answer::Accepted((29, 195)), [0; 6]));
         numbers[12] = 1 << 32;
         assert_eq!(reported(numbers), Err(unknown(numbers)));
         numbers[12] = 195;
@@ -364,7 +414,7 @@ mod tests {
     #[test]
     fn a_fluctuation_keeps_its_sign() {
         let said = reported(numbers(&[0, 1, 2, 3, u64::MAX, 5, 6, 0.5f64.to_bits()])).unwrap();
-        let figures = match said {
+        let figures = match said.answer {
             Answer::Accepted(figures) => figures,
             other => panic!("{other:?}"),
         };

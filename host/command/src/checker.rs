@@ -1,9 +1,10 @@
 //! The safe entries.
 
-use crate::answers::{self, Answer, Energies, File, Numbers, Unknown};
+use crate::answers::{self, Energies, File, Numbers, Unknown};
 use crate::exports;
 use crate::room::{NoRoom, Room, Rooms};
 use crate::stated::Stated;
+use crate::tally::Ruling;
 
 /// The texts that every entry takes beside the solution.
 #[derive(Clone, Copy, Debug)]
@@ -32,11 +33,11 @@ impl Checker {
         Ok(Checker { room: Room::new(rooms)? })
     }
 
-    pub fn check(&mut self, stated: Stated, files: &Files, solution: &[u8]) -> Result<Answer<()>, Unknown> {
+    pub fn check(&mut self, stated: Stated, files: &Files, solution: &[u8]) -> Result<Ruling<()>, Unknown> {
         answers::checked(exports::check(stated, files.timetable, files.profiles, files.constraints, solution, &mut self.room))
     }
 
-    pub fn energy(&mut self, stated: Stated, files: &Files, solution: &[u8]) -> Result<Answer<Energies<'_>>, Unknown> {
+    pub fn energy(&mut self, stated: Stated, files: &Files, solution: &[u8]) -> Result<Ruling<Energies<'_>>, Unknown> {
         // The answer does not say how many subnets there are, and the curve table keeps its contents past the last curve: a curve that is written
         // starts with a power.
         self.room.curves.iter_mut().step_by(stated.horizon.max(1) as usize).for_each(|first| *first = NO_POWER);
@@ -46,18 +47,18 @@ impl Checker {
     }
 
     /// The text of the earlier choice at each leg, the first solution's at equal departures.
-    pub fn merge_earlier(&mut self, stated: Stated, files: &Files, first: &[u8], second: &[u8]) -> Result<Answer<&[u8]>, Unknown> {
+    pub fn merge_earlier(&mut self, stated: Stated, files: &Files, first: &[u8], second: &[u8]) -> Result<Ruling<&[u8]>, Unknown> {
         let numbers = exports::merge_earlier(stated, files.timetable, files.profiles, files.constraints, first, second, &mut self.room);
         self.written(numbers)
     }
 
     /// The text of the later choice at each leg, the second solution's at equal departures.
-    pub fn merge_later(&mut self, stated: Stated, files: &Files, first: &[u8], second: &[u8]) -> Result<Answer<&[u8]>, Unknown> {
+    pub fn merge_later(&mut self, stated: Stated, files: &Files, first: &[u8], second: &[u8]) -> Result<Ruling<&[u8]>, Unknown> {
         let numbers = exports::merge_later(stated, files.timetable, files.profiles, files.constraints, first, second, &mut self.room);
         self.written(numbers)
     }
 
-    fn written(&self, numbers: Numbers) -> Result<Answer<&[u8]>, Unknown> {
+    fn written(&self, numbers: Numbers) -> Result<Ruling<&[u8]>, Unknown> {
         let said = answers::merged(numbers, self.room.text.len())?;
         Ok(said.map(|length| &self.room.text[..length]))
     }

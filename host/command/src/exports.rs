@@ -1,12 +1,12 @@
 //! The C exports, as include/wagontulip.h says them, each as a safe function. No text is looked at here, nor what is stated: every export judges its own input.
 //! They are only declared: the program that uses the wrapper links the library.
 
-use crate::answers::Numbers;
+use crate::answers::{Numbers, NUMBERS};
 use crate::room::Room;
 use crate::stated::Stated;
 
 /// No code, so that an export that writes nothing answers nothing.
-const UNWRITTEN: Numbers = [u64::MAX; 16];
+const UNWRITTEN: Numbers = [u64::MAX; NUMBERS];
 
 /// An entry takes what is stated, its texts, the tables it fills, and room for its answer; a slice goes as its pointer and its length.
 macro_rules! entry {
@@ -53,7 +53,7 @@ pub fn rooms() -> Numbers {
         fn wagontulip_rooms(rooms: *mut Numbers);
     }
     let mut rooms = UNWRITTEN;
-    // Safe: the pointer is to sixteen numbers.
+    // Safe: the pointer is to as many numbers as are written.
     unsafe { wagontulip_rooms(&mut rooms) };
     rooms
 }

@@ -8,11 +8,13 @@ mod checker;
 mod exports;
 mod room;
 mod stated;
+mod tally;
 
 pub use answers::{Answer, Energies, Figures, File, Kind, Reason, Refusal, Unknown, Violation};
 pub use checker::{row_at, Checker, Files};
 pub use room::{Counts, NoRoom, Room, Rooms, Table, CONFIGURATION, CONSTRAINT, LEG};
 pub use stated::{Edition, Stated};
+pub use tally::{Ruling, Tally};
 
 /// Printed above every result.
 pub const LABEL: &str = "no violation shown is not no violation";

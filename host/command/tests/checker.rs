@@ -3,7 +3,10 @@
 mod common;
 
 use common::{constraints, draft, dwell, solution, turnaround, H, PROFILES};
-use wagontulip::{row_at, Answer, Checker, Edition, Energies, File, Files, Kind, NoRoom, Reason, Refusal, Rooms, Stated, Table, Violation};
+use wagontulip::{
+    row_at, Answer, Checker, Edition, Energies, File, Files, Kind, NoRoom, Reason, Refusal, Rooms, Ruling, Stated, Table, Tally, Unknown,
+    Violation,
+};
 
 const STATED: Stated = Stated { horizon: H, edition: Edition::EXAMPLE };
 
@@ -21,6 +24,19 @@ impl Texts {
         Files { timetable: self.timetable.as_bytes(), profiles: PROFILES.as_bytes(), constraints: self.constraints.as_bytes() }
     }
 }
+
+/// An answer, and so many tests of each kind.
+fn ruled<T>(answer: Answer<T>, kinds: [u32; 6]) -> Result<Ruling<T>, Unknown> {
+    Ok(Ruling { answer, tally: Tally { kinds, total: kinds.iter().sum() } })
+}
+
+/// A refusal, or a text that is written.
+fn untested<T>(answer: Answer<T>) -> Result<Ruling<T>, Unknown> {
+    ruled(answer, [0; 6])
+}
+
+/// Both choices and the one dwell time of the example.
+const OF_THE_EXAMPLE: [u32; 6] = [2, 0, 0, 1, 0, 0];
 
 const UNSIGNED: u32 = 4_294_967_295;
 const SIGNED: i32 = -2_147_483_648;
@@ -49,7 +65,7 @@ fn small() -> Checker {
 fn an_accepted_solution_leaves_its_tables() {
     let mut checker = small();
     let said = checker.check(STATED, &Texts::new().files(), solution("15_4_7", "40_3_8").as_bytes());
-    assert_eq!(said, Ok(Answer::Accepted(())));
+    assert_eq!(said, ruled(Answer::Accepted(()), OF_THE_EXAMPLE));
     let room = &checker.room;
     assert_eq!(room.legs[..], [1, 1, 1, 1, 2, 0, 2, 0, 2, 1, 2, 2, 3, 2, 2, 0, 7, 7, 7, 7, 7, 7, 7, 7]);
     assert_eq!(room.configurations[..], [10, 4, 7, 15, 4, 7, 40, 3, 8, 45, 3, 8, 7, 7, 7]);
@@ -65,7 +81,7 @@ fn a_violation_is_named() {
     let texts = Texts { constraints: dwell(22), ..Texts::new() };
     let said = Checker::new().unwrap().check(STATED, &texts.files(), solution("15_4_7", "40_3_8").as_bytes());
     let violation = Violation { kind: Kind::Dwell, position: 0, inequality: 1, shortfall: 1, file: File::Solution };
-    assert_eq!(said, Ok(Answer::Violated(violation)));
+    assert_eq!(said, ruled(Answer::Violated(violation), OF_THE_EXAMPLE));
 }
 
 /// Horizon and edition arrive as they are stated, at every entry: each edition has its own key, and any other number is refused after the horizon.
@@ -84,10 +100,10 @@ fn what_is_stated_arrives() {
                 _ => refused(Reason::Edition, File::None, 0),
             };
             let (stated, files, draft) = (Stated { horizon, edition }, texts.files(), draft());
-            assert_eq!(checker.check(stated, &files, draft.as_bytes()), Ok(wanted));
-            assert_eq!(checker.energy(stated, &files, draft.as_bytes()).unwrap().map(|_| ()), wanted);
-            assert_eq!(checker.merge_earlier(stated, &files, draft.as_bytes(), draft.as_bytes()).unwrap().map(|_| ()), wanted);
-            assert_eq!(checker.merge_later(stated, &files, draft.as_bytes(), draft.as_bytes()).unwrap().map(|_| ()), wanted);
+            assert_eq!(checker.check(stated, &files, draft.as_bytes()).unwrap().answer, wanted);
+            assert_eq!(checker.energy(stated, &files, draft.as_bytes()).unwrap().map(|_| ()).answer, wanted);
+            assert_eq!(checker.merge_earlier(stated, &files, draft.as_bytes(), draft.as_bytes()).unwrap().map(|_| ()).answer, wanted);
+            assert_eq!(checker.merge_later(stated, &files, draft.as_bytes(), draft.as_bytes()).unwrap().map(|_| ()).answer, wanted);
         }
     }
 }
@@ -96,8 +112,8 @@ fn what_is_stated_arrives() {
 fn a_refusal_fills_every_table() {
     let mut checker = small();
     let texts = Texts { timetable: draft().replace(",2,3,40", ",2,3,41"), ..Texts::new() };
-    let said = checker.energy(STATED, &texts.files(), draft().as_bytes()).unwrap();
-    assert_eq!(said, Answer::Refused(Refusal { reason: Reason::Nominal, file: File::Timetable, place: 145 }));
+    let said = checker.energy(STATED, &texts.files(), draft().as_bytes());
+    assert_eq!(said, untested(Answer::Refused(Refusal { reason: Reason::Nominal, file: File::Timetable, place: 145 })));
     let room = &checker.room;
     for table in [&room.legs, &room.configurations, &room.profiles, &room.constraints, &room.tracks, &room.choices] {
         assert!(table.iter().all(|number| *number == UNSIGNED));
@@ -109,8 +125,10 @@ fn a_refusal_fills_every_table() {
 fn energies_come_with_a_curve_for_each_subnet() {
     let texts = Texts::new();
     let mut checker = small();
-    let energies = match checker.energy(STATED, &texts.files(), draft().as_bytes()) {
-        Ok(Answer::Accepted(energies)) => energies,
+    let said = checker.energy(STATED, &texts.files(), draft().as_bytes()).unwrap();
+    assert_eq!(said.tally.kinds, OF_THE_EXAMPLE);
+    let energies = match said.answer {
+        Answer::Accepted(energies) => energies,
         other => panic!("{other:?}"),
     };
     let figures = energies.figures;
@@ -131,8 +149,8 @@ fn empty_subnets_count() {
     let mut texts = Texts::new();
     texts.constraints = texts.constraints.replace("[1, 2]}]", "[1, 2]}, {\"subnet_id\": 2, \"track_ids\": []}]");
     let mut checker = Checker::new().unwrap();
-    match checker.energy(STATED, &texts.files(), draft().as_bytes()) {
-        Ok(Answer::Accepted(energies)) => assert_eq!(energies.curves.len(), 2),
+    match checker.energy(STATED, &texts.files(), draft().as_bytes()).unwrap().answer {
+        Answer::Accepted(energies) => assert_eq!(energies.curves.len(), 2),
         other => panic!("{other:?}"),
     }
 }
@@ -143,13 +161,13 @@ fn merged_texts_are_handed_out_whole() {
     let (first, second) = (solution("15_4_7", "40_3_8"), solution("10_4_7", "45_3_8"));
     let mut checker = small();
     let said = checker.merge_earlier(STATED, &texts.files(), first.as_bytes(), second.as_bytes());
-    assert_eq!(said, Ok(Answer::Accepted(draft().as_bytes())));
+    assert_eq!(said, untested(Answer::Accepted(draft().as_bytes())));
     let said = checker.merge_later(STATED, &texts.files(), first.as_bytes(), second.as_bytes());
-    assert_eq!(said, Ok(Answer::Accepted(solution("15_4_7", "45_3_8").as_bytes())));
+    assert_eq!(said, untested(Answer::Accepted(solution("15_4_7", "45_3_8").as_bytes())));
     assert_eq!(checker.room.text[draft().len()..], [7; 300][draft().len()..]);
     checker.room.text.truncate(draft().len() - 1);
     let said = checker.merge_later(STATED, &texts.files(), first.as_bytes(), second.as_bytes());
-    assert_eq!(said, Ok(Answer::Refused(Refusal { reason: Reason::Room, file: File::None, place: 0 })));
+    assert_eq!(said, untested(Answer::Refused(Refusal { reason: Reason::Room, file: File::None, place: 0 })));
     assert!(checker.room.text.iter().all(|byte| *byte == 0));
 }
 
@@ -167,6 +185,25 @@ fn a_row_is_a_part_of_its_text() {
     assert_eq!(row_at(b"\n\"x\"\r\ny\r", b"", 1, 6), Ok(Some(&b"y\r"[..])));
 }
 
+/// Each row's choice and each inequality, up to and with the first that fails; a merge that is violated has the tests of the solution that fails.
+#[test]
+fn tests_are_counted() {
+    let mut checker = Checker::new().unwrap();
+    let headway = |seconds: u32| {
+        let record = format!(r#"{{"first_leg_id": 1, "second_leg_id": 2, "min_headway_time": {seconds}}}"#);
+        Texts { constraints: constraints("headway_time_constraints", &record), ..Texts::new() }
+    };
+    let chosen = solution("15_4_7", "40_3_8");
+    for (texts, kinds) in [(headway(20), [2, 2, 0, 0, 0, 0]), (headway(26), [2, 1, 0, 0, 0, 0]), (headway(25), [2, 2, 0, 0, 0, 0])] {
+        assert_eq!(checker.check(STATED, &texts.files(), chosen.as_bytes()).unwrap().tally.kinds, kinds);
+        assert_eq!(checker.energy(STATED, &texts.files(), chosen.as_bytes()).unwrap().tally.kinds, kinds);
+    }
+    let unlisted = solution("12_4_7", "40_3_8").replace("15_4_7", "12_4_7");
+    assert_eq!(checker.check(STATED, &headway(20).files(), unlisted.as_bytes()).unwrap().tally.kinds, [1, 0, 0, 0, 0, 0]);
+    let said = checker.merge_later(STATED, &headway(26).files(), draft().as_bytes(), chosen.as_bytes()).unwrap();
+    assert_eq!((said.tally.kinds, said.tally.total), ([2, 1, 0, 0, 0, 0], 3));
+}
+
 /// No text, and no room at all.
 #[test]
 fn nothing_can_be_lent() {
@@ -176,7 +213,7 @@ fn nothing_can_be_lent() {
     }
     let files = Files { timetable: b"", profiles: b"", constraints: b"" };
     let said = Checker::with_rooms(&rooms).unwrap().check(STATED, &files, b"");
-    assert_eq!(said, Ok(Answer::Refused(Refusal { reason: Reason::Header, file: File::Timetable, place: 0 })));
+    assert_eq!(said, untested(Answer::Refused(Refusal { reason: Reason::Header, file: File::Timetable, place: 0 })));
 }
 
 /// More than the machine has, and more than a vector can be.
@@ -196,8 +233,8 @@ fn room_that_cannot_be_had_is_an_error() {
 fn a_peak_has_its_quarter() {
     let quarters = |timetable: &str| {
         let texts = Texts { timetable: timetable.to_string(), constraints: constraints("", "") };
-        match Checker::new().unwrap().energy(Stated { horizon: 2_700, ..STATED }, &texts.files(), timetable.as_bytes()) {
-            Ok(Answer::Accepted(Energies { figures: f, .. })) => (f.peak_before_kj, f.peak_before_quarter, f.peak_drawn_quarter),
+        match Checker::new().unwrap().energy(Stated { horizon: 2_700, ..STATED }, &texts.files(), timetable.as_bytes()).unwrap().answer {
+            Answer::Accepted(Energies { figures: f, .. }) => (f.peak_before_kj, f.peak_before_quarter, f.peak_drawn_quarter),
             other => panic!("{other:?}"),
         }
     };

@@ -27,6 +27,7 @@ const LINKED: &str = if option_env!("CARGO_BIN_EXE_wagontulip").is_some() { "pro
 const ACCEPTED: &str = "accepted: every choice is offered in the draft, and every inequality holds
 read: legs 2, configurations 4, profiles 2, samples 7, constraints 1, tracks in subnets 2
 ";
+const TESTED: &str = "tested: 3 (2 choices, 1 dwell time)\n";
 
 /// A folder of its own for each test, with the example's files.
 struct Folder(PathBuf);
@@ -116,7 +117,7 @@ fn the_version_says_what_is_linked() {
 #[test]
 fn accepted() {
     let folder = Folder::new("accepted");
-    assert_eq!(folder.told("check --horizon 100 t p c a", 0), format!("{LABEL}{ACCEPTED}answer: accepted\n"));
+    assert_eq!(folder.told("check --horizon 100 t p c a", 0), format!("{LABEL}{ACCEPTED}{TESTED}answer: accepted\n"));
 }
 
 /// An acceptance of nothing does not look like one of something.
@@ -129,6 +130,7 @@ fn nothing_is_said_to_be_nothing() {
 read: legs none, configurations none, profiles 2, samples 7, constraints none, tracks in subnets 2
 there are no legs: no choice was looked at
 there are no constraints: no inequality was looked at
+tested: nothing
 answer: accepted
 ";
     assert_eq!(folder.told("check --horizon 100 t p c t", 0), format!("{LABEL}{words}"));
@@ -144,11 +146,12 @@ leg 1 (train 1, station 1 to station 2, track 1) departs at 15 s (00:00:15) and 
 leg 2 (train 1, station 2 to station 3, track 2) departs at 40 s (00:00:40) and arrives at 43 s (00:00:43)
 asked: 22 s or more from arrival to departure
 needed: leg 2 departs at 41 s (00:00:41) or later; it falls short by 1 s
+tested: 3 (2 choices, 1 dwell time)
 answer: violated
 ";
     assert_eq!(folder.told("check --horizon 100 t p c a", 1), format!("{LABEL}{words}"));
     let object = folder.told("check --json --horizon 100 t p c a", 1);
-    let start = r#"{"label": "no violation shown is not no violation", "schema": 2, "command": "check", "answer": "violated", "horizon": 100, "edition": 2, "#;
+    let start = r#"{"label": "no violation shown is not no violation", "schema": 3, "command": "check", "answer": "violated", "horizon": 100, "edition": 2, "#;
     assert!(object.starts_with(start), "{object}");
 }
 
@@ -168,6 +171,7 @@ fn every_inequality_in_words() {
             "inequality 1: d1+h <= d2",
             "26 s or more from departure to departure",
             "leg 2 departs at 41 s (00:00:41) or later; it falls short by 1 s",
+            "1 headway time",
         ),
         (
             "headway_time_constraints",
@@ -175,6 +179,7 @@ fn every_inequality_in_words() {
             "inequality 2: d1+t1+h <= d2+t2",
             "25 s or more from arrival to arrival",
             "leg 2 arrives at 44 s (00:00:44) or later; it falls short by 1 s",
+            "2 headway times",
         ),
         (
             "single_track_headway_constraints",
@@ -182,6 +187,7 @@ fn every_inequality_in_words() {
             "inequality 1: d1+t1 <= d2",
             "the first leg arrives before the second departs, or with it",
             "leg 1 departs at 43 s (00:00:43) or later; it falls short by 28 s",
+            "1 single-track headway",
         ),
         (
             "terminal_turnaround_constraints",
@@ -189,6 +195,7 @@ fn every_inequality_in_words() {
             "inequality 1: d1+t1+w <= d2",
             "22 s or more from arrival to departure",
             "leg 2 departs at 41 s (00:00:41) or later; it falls short by 1 s",
+            "1 terminal turnaround",
         ),
         (
             "connection_constraints",
@@ -196,6 +203,7 @@ fn every_inequality_in_words() {
             "inequality 1: x+a <= d2",
             "22 s or more from arrival to departure",
             "leg 2 departs at 41 s (00:00:41) or later; it falls short by 1 s",
+            "1 connection",
         ),
         (
             "connection_constraints",
@@ -203,6 +211,7 @@ fn every_inequality_in_words() {
             "inequality 2: d2 <= x+b",
             "20 s or less from arrival to departure",
             "leg 2 departs at 39 s (00:00:39) or earlier; it falls short by 1 s",
+            "2 connections",
         ),
         (
             "connection_constraints",
@@ -210,6 +219,7 @@ fn every_inequality_in_words() {
             "inequality 1: x+a <= d2",
             "28 s or more from departure to departure",
             "leg 2 departs at 43 s (00:00:43) or later; it falls short by 3 s",
+            "1 connection",
         ),
         (
             "connection_constraints",
@@ -217,13 +227,15 @@ fn every_inequality_in_words() {
             "inequality 2: d2 <= x+b",
             "24 s or less from departure to departure",
             "leg 2 departs at 39 s (00:00:39) or earlier; it falls short by 1 s",
+            "2 connections",
         ),
     ];
-    for (list, record, inequality, asked, needed) in cases {
+    for (list, record, inequality, asked, needed, tested) in cases {
         folder.put("c", &constraints(list, &record));
         let said = folder.told("check --horizon 100 t p c a", 1);
         assert!(said.contains(&format!(", position 0 of {list}, {inequality}\n")), "{list} {record}: {said}");
-        assert!(said.ends_with(&format!("\nasked: {asked}\nneeded: {needed}\nanswer: violated\n")), "{list} {record}: {said}");
+        let tested = format!("tested: {} (2 choices, {tested})\n", if tested.starts_with('2') { 4 } else { 3 });
+        assert!(said.ends_with(&format!("\nasked: {asked}\nneeded: {needed}\n{tested}answer: violated\n")), "{list} {record}: {said}");
     }
 }
 
@@ -236,6 +248,7 @@ file: solution (a)
 leg 2 (train 1, station 2 to station 3, track 2) departs at 12 s (00:00:12) and arrives at 15 s (00:00:15)
 chosen: 12_3_8
 needed: a configuration that the draft lists for this leg: 40_3_8 45_3_8
+tested: 2 (2 choices)
 answer: violated
 ";
     assert_eq!(folder.told("check --horizon 100 t p c a", 1), format!("{LABEL}{words}"));
@@ -290,6 +303,7 @@ fluctuation: 1400 kW
 peak quarter before recuperation: 2050 kJ, 0.002 MW, 00:00:00 to 00:01:40
 peak quarter drawn: 2050 kJ, 0.002 MW, 00:00:00 to 00:01:40
 curves: out, bytes 215
+tested: 3 (2 choices, 1 dwell time)
 answer: accepted
 ";
     assert_eq!(said, format!("{LABEL}{ACCEPTED}{figures}"));
@@ -407,7 +421,7 @@ fn a_pipe_is_read_to_its_end() {
     let mut call = folder.call("check --horizon 100 /dev/stdin p c a").stdin(Stdio::piped()).stdout(Stdio::piped()).spawn().unwrap();
     call.stdin.take().unwrap().write_all(draft().as_bytes()).unwrap();
     let output = call.wait_with_output().unwrap();
-    assert_eq!(String::from_utf8(output.stdout).unwrap(), format!("{LABEL}{ACCEPTED}answer: accepted\n"));
+    assert_eq!(String::from_utf8(output.stdout).unwrap(), format!("{LABEL}{ACCEPTED}{TESTED}answer: accepted\n"));
 }
 
 /// No verdict by the status alone.
@@ -487,7 +501,8 @@ fn an_edition_may_be_stated() {
     folder.put("1", &turnaround("min_dwell_time", 21));
     folder.put("2", &turnaround("min_turnaround_time", 21));
     for words in ["check --horizon 100 --edition 1 t p 1 a", "check --horizon 100 --edition=2 t p 2 a", "check --horizon 100 t p 2 a"] {
-        assert_eq!(folder.told(words, 0), format!("{LABEL}{ACCEPTED}answer: accepted\n"), "{words}");
+        let tested = "tested: 3 (2 choices, 1 terminal turnaround)\n";
+        assert_eq!(folder.told(words, 0), format!("{LABEL}{ACCEPTED}{tested}answer: accepted\n"), "{words}");
     }
     folder.told("energy --horizon 100 --edition 1 t p 1 a", 0);
     folder.told("merge --horizon 100 --edition 1 t p 1 a b --earlier earlier --later later", 0);
@@ -528,7 +543,7 @@ fn any_bytes_are_shown_as_words() {
 #[test]
 fn exported_files_are_read() {
     let folder = Folder::new("exported");
-    let accepted = format!("{LABEL}{ACCEPTED}answer: accepted\n");
+    let accepted = format!("{LABEL}{ACCEPTED}{TESTED}answer: accepted\n");
     folder.put("t", &exported(&draft()));
     assert_eq!(folder.told("check --horizon 100 t p c a", 0), accepted);
     for (name, text) in [("p", PROFILES), ("a", &solution("15_4_7", "40_3_8")), ("b", &solution("10_4_7", "45_3_8"))] {

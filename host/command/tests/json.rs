@@ -1,4 +1,4 @@
-//! What the command prints with `--json`: every object keeps docs/schema/answer-2.json, and carries what the words carry.
+//! What the command prints with `--json`: every object keeps docs/schema/answer-3.json, and carries what the words carry.
 
 mod common;
 
@@ -24,7 +24,7 @@ fn root() -> &'static Path {
 }
 
 fn schema() -> Schema {
-    Schema::read(&fs::read_to_string(root().join("docs/schema/answer-2.json")).unwrap())
+    Schema::read(&fs::read_to_string(root().join("docs/schema/answer-3.json")).unwrap())
 }
 
 /// By their statuses.
@@ -159,6 +159,7 @@ fn a_wrong_object_breaks_the_schema() {
         ("energy --json --horizon 900 t p c a", 0),
         ("check --json --horizon 100 t p 22 a", 1),
         ("check --json --horizon 100 t p c 12", 1),
+        ("merge --json --horizon 100 t p c a b --earlier x --later y", 0),
         ("check --json --horizon 100 t p 22 22", 2),
         ("check --json --horizon 100 t p", 3),
         ("row --json --file 1 --place 114 t a", 0),
@@ -201,13 +202,40 @@ fn an_acceptance_says_how_much_was_tested() {
     is(&object, "horizon", "100");
     is(&object, "edition", "2");
     is(&object, "read", r#"{"legs": 2, "configurations": 4, "profiles": 2, "samples": 7, "constraints": 1, "tracks": 2}"#);
+    is(&object, "tested", "3");
+    is(&object, "tally", "[2, 0, 0, 1, 0, 0]");
     is(&object, "nothing_tested", "false");
     folder.put(b"c", constraints("", ""));
-    is(&folder.object("check --json --horizon 100 t p c a", 0), "nothing_tested", "false");
+    let object = folder.object("energy --json --horizon 100 t p c a", 0);
+    is(&object, "tally", "[2, 0, 0, 0, 0, 0]");
+    is(&object, "nothing_tested", "false");
     folder.put(b"t", HEADER);
     let object = folder.object("check --json --horizon 100 t p c t", 0);
     is(&object, "read", r#"{"legs": 0, "configurations": 0, "profiles": 2, "samples": 7, "constraints": 0, "tracks": 2}"#);
+    is(&object, "tested", "0");
+    is(&object, "tally", "[0, 0, 0, 0, 0, 0]");
     is(&object, "nothing_tested", "true");
+}
+
+/// Up to and with the first that fails, of the solution that fails; a refusal has 0, and a merge that is written, which is no verdict, has no count.
+#[test]
+fn every_verdict_has_its_tests() {
+    let folder = Folder::new("tests");
+    folder.put(b"22", dwell(22));
+    folder.put(b"12", solution("12_4_7", "40_3_8").replace("15_4_7", "12_4_7"));
+    for (words, status, tested, tally) in [
+        ("check --json --horizon 100 t p 22 a", 1, "3", "[2, 0, 0, 1, 0, 0]"),
+        ("energy --json --horizon 100 t p c 12", 1, "1", "[1, 0, 0, 0, 0, 0]"),
+        ("merge --json --horizon 100 t p 22 t a --earlier x --later y", 1, "3", "[2, 0, 0, 1, 0, 0]"),
+        ("merge --json --horizon 100 t p c t a --earlier x --later y", 0, "null", "null"),
+        ("merge --json --horizon 100 t p c t p --earlier x --later y", 2, "0", "[0, 0, 0, 0, 0, 0]"),
+        ("energy --json --horizon 100 t p c t --room curves=99", 2, "0", "[0, 0, 0, 0, 0, 0]"),
+    ] {
+        let object = folder.object(words, status);
+        is(&object, "tested", tested);
+        is(&object, "tally", tally);
+        is(&object, "nothing_tested", if status == 1 { "false" } else { "null" });
+    }
 }
 
 /// `--version` says the same of the program.

@@ -141,9 +141,37 @@ impl Answer {
     }
 }
 
-/// The answer of a check, and the tables as read where nothing is refused.
+/// How many tests were made, and "a tally of six counts, one per kind from 0 to 5, that adds up to
+/// it" (document 02, E6). The default is the one of a refusal: "0 on a refusal".
+#[derive(Clone, Copy, Debug, PartialEq, Eq, Default)]
+pub struct Tally {
+    pub total: usize,
+    pub kinds: [usize; 6],
+}
+
+impl Tally {
+    /// The total, then the six counts.
+    pub fn numbers(&self) -> Vec<usize> {
+        [&[self.total], &self.kinds[..]].concat()
+    }
+
+    /// The same as words behind the line of an answer.
+    pub fn words(&self) -> String {
+        self.numbers().iter().fold(String::from(" #"), |words, count| format!("{words} {count}"))
+    }
+}
+
+/// "A verdict now carries it" (document 02, E6): what was found, and how much was tested for it.
+#[derive(Clone, Copy, Debug, PartialEq, Eq)]
+pub struct Verdict {
+    pub answer: Answer,
+    pub tally: Tally,
+}
+
+/// The answer of a check, and the tally and the tables as read where nothing is refused.
 #[derive(Clone, Debug, PartialEq, Eq)]
 pub struct Checked {
     pub answer: Answer,
+    pub tally: Option<Tally>,
     pub tables: Option<Tables>,
 }

@@ -1,6 +1,6 @@
 //! "Energy, for accepted solutions only".
 
-use crate::answers::{Answer, Rooms};
+use crate::answers::{Answer, Rooms, Tally, Verdict};
 use crate::files::Files;
 use crate::stated::Stated;
 use crate::tables::Tables;
@@ -41,11 +41,12 @@ pub struct Desk {
     pub peak: f64,
 }
 
-/// The answer with the figures, which are all 0 short of acceptance, the tables as read where
-/// nothing is refused, and the curves where the solution is accepted.
+/// The answer with the figures, which are all 0 short of acceptance, the tally and the tables as
+/// read where nothing is refused, and the curves where the solution is accepted.
 #[derive(Clone, Debug, PartialEq)]
 pub struct Report {
     pub answer: Answer,
+    pub tally: Option<Tally>,
     pub tables: Option<Tables>,
     pub figures: Figures,
     pub desk: Desk,
@@ -65,23 +66,25 @@ pub fn energy(
 ) -> Report {
     let h = stated.horizon;
     let (files, solution) = match read_all(stated, timetable, profiles, constraints, solution, rooms) {
-        Err(refusal) => return report_without_figures(refusal.into(), None),
+        Err(refusal) => return report_without_figures(refusal.into(), None, None),
         Ok(read) => read,
     };
-    let answer = verdict(&files, &solution, 4);
+    let Verdict { answer, tally } = verdict(&files, &solution, 4);
     let tables = Tables::of(&files, &solution);
     if answer != Answer::Accepted {
-        return report_without_figures(answer, Some(tables));
+        return report_without_figures(answer, Some(tally), Some(tables));
     }
     // "less room is 16 (file 0, place 0), after acceptance".
     if files.constraints.subnets * h as usize > rooms.curves {
-        return report_without_figures(Answer::Refused { number: 16, file: 0, place: 0 }, None);
+        let refused = Answer::Refused { number: 16, file: 0, place: 0 };
+        return report_without_figures(refused, None, None);
     }
     let runs = runs(&files, &solution);
     let curves = curves(&runs, files.constraints.subnets, h as usize);
     let figures = figures(&runs, &curves, h as usize);
     Report {
         answer,
+        tally: Some(tally),
         tables: Some(tables),
         figures,
         desk: figures.desk(),
@@ -92,9 +95,9 @@ pub fn energy(
 }
 
 /// "Short of acceptance all figures are 0".
-fn report_without_figures(answer: Answer, tables: Option<Tables>) -> Report {
+fn report_without_figures(answer: Answer, tally: Option<Tally>, tables: Option<Tables>) -> Report {
     let (figures, desk) = (Figures::default(), Desk::default());
-    Report { answer, tables, figures, desk, quarters: [0; 2], curves: None }
+    Report { answer, tally, tables, figures, desk, quarters: [0; 2], curves: None }
 }
 
 /// A leg as it runs: its subnet, its departure and the samples of its chosen profile.

@@ -1,6 +1,6 @@
 //! The public entries by one function: what a call answers, and what it leaves in the lent rooms.
 
-use crate::answers::{Answer, Checked, Rooms};
+use crate::answers::{Answer, Checked, Rooms, Tally};
 use crate::display::row_at;
 use crate::energy::{energy, Desk, Figures, Report};
 use crate::lent::Lent;
@@ -72,14 +72,14 @@ pub struct Call {
     pub place: u32,
 }
 
-/// What an entry answers.
+/// What an entry answers. Behind the answer stands the tally, where that is a verdict.
 #[derive(Clone, Copy, Debug, PartialEq)]
 pub enum Said {
-    Checked(Answer),
+    Checked(Answer, Option<Tally>),
     /// The answer, the figures, and the quarters of the two peaks.
-    Reported(Answer, Figures, Desk, [usize; 2]),
+    Reported(Answer, Option<Tally>, Figures, Desk, [usize; 2]),
     /// The answer and the length of the text, which is 0 where none is written.
-    Merged(Answer, usize),
+    Merged(Answer, Option<Tally>, usize),
     /// Start and length of the row.
     Row(usize, usize),
 }
@@ -88,7 +88,15 @@ impl Said {
     /// The answer, where there is one of the three.
     pub fn answer(&self) -> Option<Answer> {
         match self {
-            Said::Checked(answer) | Said::Reported(answer, ..) | Said::Merged(answer, _) => Some(*answer),
+            Said::Checked(answer, _) | Said::Reported(answer, ..) | Said::Merged(answer, ..) => Some(*answer),
+            Said::Row(..) => None,
+        }
+    }
+
+    /// How much was tested, where there is a verdict.
+    pub fn tally(&self) -> Option<Tally> {
+        match self {
+            Said::Checked(_, tally) | Said::Reported(_, tally, ..) | Said::Merged(_, tally, _) => *tally,
             Said::Row(..) => None,
         }
     }
@@ -107,12 +115,12 @@ impl Call {
             Entry::Check => {
                 let checked = self.case.check();
                 lent.leave_checked(&checked);
-                Said::Checked(checked.answer)
+                Said::Checked(checked.answer, checked.tally)
             }
             Entry::Energy => {
                 let report = self.case.energy();
                 lent.leave_reported(&report);
-                Said::Reported(report.answer, report.figures, report.desk, report.quarters)
+                Said::Reported(report.answer, report.tally, report.figures, report.desk, report.quarters)
             }
             Entry::MergeEarlier => self.run_merge(Direction::Earlier, lent),
             Entry::MergeLater => self.run_merge(Direction::Later, lent),
@@ -126,7 +134,7 @@ impl Call {
     fn run_merge(&self, direction: Direction, lent: &mut Lent) -> Said {
         let merged = self.case.merge(direction);
         lent.leave_merged(&merged);
-        Said::Merged(merged.answer, merged.text.map_or(0, |text| text.len()))
+        Said::Merged(merged.answer, merged.tally, merged.text.map_or(0, |text| text.len()))
     }
 
     fn row(&self) -> (usize, usize) {

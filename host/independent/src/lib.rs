@@ -1,4 +1,4 @@
-//! An independent program for document 01, with E1 and E4 of document 02: it reads the four texts of a metro timetable and
+//! An independent program for document 01, with E1, E4 and E6 of document 02: it reads the four texts of a metro timetable and
 //! answers accepted, the first violation, or a numbered refusal.
 //!
 //! It is written from document 01's sentences in their order, and shares no code and no table
@@ -22,7 +22,7 @@ pub mod timetable;
 pub mod tokens;
 pub mod verdict;
 
-pub use answers::{Answer, Checked, Refusal, Rooms};
+pub use answers::{Answer, Checked, Refusal, Rooms, Tally, Verdict};
 pub use display::row_at;
 pub use energy::{energy, Desk, Figures, Report};
 pub use entries::{Call, Case, Entry, Said};

@@ -1,7 +1,7 @@
 //! The command: runs the library on files. The status is 0 for every answer, and 1 where there is none.
 
 use independent::numbers::Whole;
-use independent::{check, energy, merge, Answer, Direction, Rooms, Stated};
+use independent::{check, energy, merge, Answer, Direction, Rooms, Stated, Tally};
 use std::io::Write;
 use std::process::ExitCode;
 
@@ -35,14 +35,14 @@ fn run(words: &[&str]) -> Result<Vec<u8>, String> {
             let stated = stated(h, edition)?;
             let texts = texts(files)?;
             let checked = check(stated, &texts[0], &texts[1], &texts[2], &texts[3], &ample_rooms());
-            Ok(line(&checked.answer))
+            Ok(line(&checked.answer, checked.tally))
         }
         ["energy", h, edition, files @ ..] if files.len() == 4 => {
             let stated = stated(h, edition)?;
             let texts = texts(files)?;
             let report = energy(stated, &texts[0], &texts[1], &texts[2], &texts[3], &ample_rooms());
             let figures = report.figures;
-            let mut output = line(&report.answer);
+            let mut output = line(&report.answer, report.tally);
             output.extend(
                 format!(
                     "before {} drawn {} lost {} fluctuation {} peak_before {} peak_drawn {}\n",
@@ -67,7 +67,7 @@ fn run(words: &[&str]) -> Result<Vec<u8>, String> {
             let t = texts(files)?;
             let merged =
                 merge(direction, stated, &t[0], &t[1], &t[2], &t[3], &t[4], &ample_rooms());
-            let mut output = line(&merged.answer);
+            let mut output = line(&merged.answer, merged.tally);
             output.extend(merged.text.unwrap_or_default());
             Ok(output)
         }
@@ -80,9 +80,10 @@ fn ample_rooms() -> Rooms {
     Rooms::all(67_108_864)
 }
 
-/// The answer as a line.
-fn line(answer: &Answer) -> Vec<u8> {
-    format!("{}\n", answer.line()).into_bytes()
+/// The answer as a line, with the tally of a verdict behind it.
+fn line(answer: &Answer, tally: Option<Tally>) -> Vec<u8> {
+    let counted = tally.map_or(String::new(), |tally| tally.words());
+    format!("{}{counted}\n", answer.line()).into_bytes()
 }
 
 fn stated(h: &str, edition: &str) -> Result<Stated, String> {

@@ -1,6 +1,6 @@
 //! "Merged texts": "Only from two accepted solutions."
 
-use crate::answers::{Answer, Refusal, Rooms};
+use crate::answers::{Answer, Refusal, Rooms, Tally, Verdict};
 use crate::files::{read_files, read_solution, Files};
 use crate::rows::LONGEST_TEXT;
 use crate::stated::Stated;
@@ -15,10 +15,12 @@ pub enum Direction {
     Later,
 }
 
-/// The answer, the tables as read where nothing is refused, and the text where both are accepted.
+/// The answer, the tally of the verdict that fails, the tables as read where nothing is refused, and
+/// the text where both are accepted: a text is no verdict and has no tally.
 #[derive(Clone, Debug, PartialEq, Eq)]
 pub struct Merged {
     pub answer: Answer,
+    pub tally: Option<Tally>,
     pub tables: Option<Tables>,
     pub text: Option<Vec<u8>>,
 }
@@ -37,27 +39,32 @@ pub fn merge(
 ) -> Merged {
     let read = read_both(stated, timetable, profiles, constraints, first, second, rooms);
     let (files, first, second) = match read {
-        Err(refusal) => return Merged { answer: refusal.into(), tables: None, text: None },
+        Err(refusal) => return refused(refusal),
         Ok(read) => read,
     };
     // "Order after both are read: verdict of the first, verdict of the second, 17 (file 5, its
     // row), 16 (file 0, place 0)".
     for (solution, file) in [(&first, 4), (&second, 5)] {
-        let answer = verdict(&files, solution, file);
+        let Verdict { answer, tally } = verdict(&files, solution, file);
         if answer != Answer::Accepted {
             let mut tables = Tables::of(&files, &first);
             tables.second_choices = choices(&second);
-            return Merged { answer, tables: Some(tables), text: None };
+            return Merged { answer, tally: Some(tally), tables: Some(tables), text: None };
         }
     }
     match write(direction, &files, &first, &second, rooms) {
-        Err(refusal) => Merged { answer: refusal.into(), tables: None, text: None },
+        Err(refusal) => refused(refusal),
         Ok(text) => {
             let mut tables = Tables::of(&files, &first);
             tables.second_choices = choices(&second);
-            Merged { answer: Answer::Accepted, tables: Some(tables), text: Some(text) }
+            let answer = Answer::Accepted;
+            Merged { answer, tally: None, tables: Some(tables), text: Some(text) }
         }
     }
+}
+
+fn refused(refusal: Refusal) -> Merged {
+    Merged { answer: refusal.into(), tally: None, tables: None, text: None }
 }
 
 /// The files and both solutions, read without refusal, or the first refusal.

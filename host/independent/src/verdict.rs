@@ -1,6 +1,6 @@
 //! "The verdict".
 
-use crate::answers::{Answer, Checked, Refusal, Rooms};
+use crate::answers::{Answer, Checked, Refusal, Rooms, Tally, Verdict};
 use crate::constraints::Constraint;
 use crate::files::{read_files, read_solution, Files};
 use crate::stated::Stated;
@@ -17,11 +17,11 @@ pub fn check(
     rooms: &Rooms,
 ) -> Checked {
     match read_all(stated, timetable, profiles, constraints, solution, rooms) {
-        Err(refusal) => Checked { answer: refusal.into(), tables: None },
-        Ok((files, solution)) => Checked {
-            answer: verdict(&files, &solution, 4),
-            tables: Some(Tables::of(&files, &solution)),
-        },
+        Err(refusal) => Checked { answer: refusal.into(), tally: None, tables: None },
+        Ok((files, solution)) => {
+            let Verdict { answer, tally } = verdict(&files, &solution, 4);
+            Checked { answer, tally: Some(tally), tables: Some(Tables::of(&files, &solution)) }
+        }
     }
 }
 
@@ -39,28 +39,49 @@ pub fn read_all(
     Ok((files, solution))
 }
 
+/// A row's choice, or an inequality: where it stands, and by how much it falls short if it fails.
+struct Test {
+    kind: u32,
+    position: usize,
+    inequality: u32,
+    shortfall: Option<i64>,
+}
+
 /// "First each row in order: is the choice, all three numbers, in the draft's list? Then the
-/// constraint table in order. The check stops at the first inequality that fails".
-pub fn verdict(files: &Files, solution: &[Leg], file: u32) -> Answer {
-    for (position, (draft, leg)) in files.legs.iter().zip(solution).enumerate() {
-        if !draft.list.contains(&leg.nominal) {
-            return Answer::Violated { kind: 0, position, inequality: 0, shortfall: 0, file };
+/// constraint table in order."
+fn tests<'a>(files: &'a Files, solution: &'a [Leg]) -> impl Iterator<Item = Test> + 'a {
+    let rows = files.legs.iter().zip(solution).enumerate();
+    let choices = rows.map(|(position, (draft, leg))| {
+        let is_offered = draft.list.contains(&leg.nominal);
+        Test { kind: 0, position, inequality: 0, shortfall: if is_offered { None } else { Some(0) } }
+    });
+    let records = files.constraints.in_order();
+    choices.chain(records.flat_map(move |(position, constraint)| {
+        let kind = constraint.kind;
+        let sides = inequalities(constraint, solution).into_iter().zip(1..);
+        sides.map(move |((left, right), inequality)| {
+            let shortfall = if left > right { Some(left - right) } else { None };
+            Test { kind, position, inequality, shortfall }
+        })
+    }))
+}
+
+/// "The check stops at the first inequality that fails". The number of tests made is "one for each
+/// row's choice and one for each inequality, up to and with the first that fails [...] It equals
+/// the position in document 01's order" (document 02, E6): so it is the place of the last test
+/// made, counted from 1.
+pub fn verdict(files: &Files, solution: &[Leg], file: u32) -> Verdict {
+    let mut tally = Tally::default();
+    for (place, test) in (1..).zip(tests(files, solution)) {
+        let Test { kind, position, inequality, shortfall } = test;
+        tally.total = place;
+        tally.kinds[kind as usize] += 1;
+        if let Some(shortfall) = shortfall {
+            let answer = Answer::Violated { kind, position, inequality, shortfall, file };
+            return Verdict { answer, tally };
         }
     }
-    for (position, constraint) in files.constraints.in_order() {
-        for (number, (left, right)) in inequalities(constraint, solution).into_iter().enumerate() {
-            if left > right {
-                return Answer::Violated {
-                    kind: constraint.kind,
-                    position,
-                    inequality: number as u32 + 1,
-                    shortfall: left - right,
-                    file,
-                };
-            }
-        }
-    }
-    Answer::Accepted
+    Verdict { answer: Answer::Accepted, tally }
 }
 
 /// The inequalities of a constraint, in order, each as its left side and its right side.

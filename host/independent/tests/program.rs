@@ -18,8 +18,8 @@ fn check_in(h: &str, edition: &str, constraints: &str, solution: &str) -> Output
 #[test]
 fn an_answer_is_a_line() {
     for (h, constraints, solution, line) in [
-        ("100", "constraints.json", "solution-15-40.csv", "accepted"),
-        ("100", "dwell-22.json", "solution-15-40.csv", "violated 3 0 1 1 4"),
+        ("100", "constraints.json", "solution-15-40.csv", "accepted # 3 2 0 0 1 0 0"),
+        ("100", "dwell-22.json", "solution-15-40.csv", "violated 3 0 1 1 4 # 3 2 0 0 1 0 0"),
         ("100", "constraints.json", "half-edited.csv", "refused 4 4 145"),
         ("0", "constraints.json", "solution-15-40.csv", "refused 1 0 0"),
         ("4294967296", "constraints.json", "solution-15-40.csv", "refused 1 0 0"),
@@ -33,8 +33,8 @@ fn an_answer_is_a_line() {
 #[test]
 fn an_edition_is_stated() {
     for (edition, constraints, line) in [
-        ("1", "turnaround-edition-1.json", "accepted"),
-        ("2", "turnaround-edition-2.json", "accepted"),
+        ("1", "turnaround-edition-1.json", "accepted # 3 2 0 0 0 1 0"),
+        ("2", "turnaround-edition-2.json", "accepted # 3 2 0 0 0 1 0"),
         ("2", "turnaround-edition-1.json", "refused 10 3 193"),
         ("1", "turnaround-edition-2.json", "refused 10 3 193"),
         ("3", "turnaround-edition-2.json", "refused 21 0 0"),
@@ -48,7 +48,7 @@ fn an_edition_is_stated() {
 #[test]
 fn figures_and_texts_follow_the_answer() {
     let energy = run(&["energy", "100", "2", "timetable.csv", "profiles.csv", "constraints.json", "timetable.csv"]);
-    let figures = "accepted\nbefore 2050 drawn 2050 lost 600 fluctuation 1400 peak_before 2050 peak_drawn 2050\n";
+    let figures = "accepted # 3 2 0 0 1 0 0\nbefore 2050 drawn 2050 lost 600 fluctuation 1400 peak_before 2050 peak_drawn 2050\n";
     assert_eq!((energy.status.code(), energy.stdout), (Some(0), figures.as_bytes().to_vec()));
     let solutions = ["solution-15-40.csv", "solution-10-45.csv"];
     let merged = run(&["merge", "later", "100", "2", "timetable.csv", "profiles.csv", "constraints.json", solutions[0], solutions[1]]);

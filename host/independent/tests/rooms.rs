@@ -65,12 +65,12 @@ fn a_violation_keeps_the_tables_and_fills_curves_and_text() {
 #[test]
 fn curves_and_texts_are_written_at_the_front() {
     let (said, lent) = run(&example(), Entry::Energy);
-    assert!(matches!(said, Said::Reported(_, figures, ..) if figures.drawn == 2_050));
+    assert!(matches!(said, Said::Reported(_, _, figures, ..) if figures.drawn == 2_050));
     assert_eq!(lent.curves[9..15], [0, 500, 1_000, 250, -400, 0]);
     assert_eq!(lent.curves[99..102], [0, 9, 9]);
     let (said, lent) = run(&example(), Entry::MergeEarlier);
     let length = example().timetable.len();
-    assert_eq!(said, Said::Merged(Answer::Accepted, length));
+    assert_eq!(said, Said::Merged(Answer::Accepted, None, length));
     assert_eq!(lent.text[..length], example().timetable[..]);
     assert_eq!(lent.text[length..], vec![9; 300 - length]);
 }

@@ -3,36 +3,23 @@
 
 #![allow(non_upper_case_globals)]
 
-use independent::{check, energy, merge, row_at, Answer, Direction, Lent, Rooms, Stated};
+use independent::{check, energy, merge, row_at, Answer, Direction, Lent, Rooms, Stated, Tally};
 
 /// By this name an archive of the stand-in is known, and not linked to what a user runs.
 #[no_mangle]
 pub static wagontulip_is_a_stand_in: u8 = 1;
 
-/// A code, then the values, unused ones 0.
-type Numbers = [u64; 16];
+/// A code, then the values, then from `TESTED` on how much was tested; unused ones 0.
+type Numbers = [u64; NUMBERS];
+
+const NUMBERS: usize = 24;
+const TESTED: usize = 16;
 
 const ROW: u64 = 3;
 
 /// "Leg 8 numbers, configuration 3, profile 3, sample 1, constraint 6, track 2, choice 3", a curve for each of 8 subnets, a text.
-const ROOMS: Numbers = [
-    32_768 * 8,
-    1_048_576 * 3,
-    16_384 * 3,
-    1_048_576,
-    65_536 * 6,
-    4_096 * 2,
-    32_768 * 3,
-    32_768 * 3,
-    8 * 176_400,
-    67_108_864,
-    0,
-    0,
-    0,
-    0,
-    0,
-    0,
-];
+const ROOMS: [u64; 10] =
+    [32_768 * 8, 1_048_576 * 3, 16_384 * 3, 1_048_576, 65_536 * 6, 4_096 * 2, 32_768 * 3, 32_768 * 3, 8 * 176_400, 67_108_864];
 
 /// A lent slice. Null only with length 0.
 unsafe fn bytes<'a>(pointer: *const u8, length: usize) -> &'a [u8] {
@@ -64,15 +51,22 @@ fn rooms(lent: &Lent) -> Rooms {
     }
 }
 
-fn numbers(answer: &Answer, accepted: &[u64]) -> Numbers {
-    let mut numbers = [0; 16];
-    match answer {
-        Answer::Accepted => numbers[1..1 + accepted.len()].copy_from_slice(accepted),
-        other => {
-            for (number, said) in numbers.iter_mut().zip(other.numbers()) {
-                *number = said as u64;
-            }
-        }
+/// The numbers, and 0s behind them.
+fn padded(first: &[u64]) -> Numbers {
+    let mut numbers = [0; NUMBERS];
+    numbers[..first.len()].copy_from_slice(first);
+    numbers
+}
+
+/// What an accepted answer gives stands behind its code.
+fn numbers(answer: &Answer, tally: Option<Tally>, accepted: &[u64]) -> Numbers {
+    let mut said: Vec<u64> = answer.numbers().into_iter().map(|number| number as u64).collect();
+    if *answer == Answer::Accepted {
+        said.extend(accepted);
+    }
+    let mut numbers = padded(&said);
+    for (number, count) in numbers[TESTED..].iter_mut().zip(tally.unwrap_or_default().numbers()) {
+        *number = count as u64;
     }
     numbers
 }
@@ -105,7 +99,7 @@ macro_rules! entry {
 fn checked(stated: Stated, [timetable, profiles, constraints, solution]: [&[u8]; 4], lent: &mut Lent) -> Numbers {
     let checked = check(stated, timetable, profiles, constraints, solution, &rooms(lent));
     lent.leave_checked(&checked);
-    numbers(&checked.answer, &[])
+    numbers(&checked.answer, checked.tally, &[])
 }
 
 fn reported(stated: Stated, [timetable, profiles, constraints, solution]: [&[u8]; 4], lent: &mut Lent) -> Numbers {
@@ -116,13 +110,13 @@ fn reported(stated: Stated, [timetable, profiles, constraints, solution]: [&[u8]
     let doubles = [report.desk.before, report.desk.drawn, report.desk.lost, report.desk.peak];
     let quarters = report.quarters.map(|quarter| quarter as u64);
     let given: Vec<u64> = kj.into_iter().map(|kj| kj as u64).chain(doubles.into_iter().map(f64::to_bits)).chain(quarters).collect();
-    numbers(&report.answer, &given)
+    numbers(&report.answer, report.tally, &given)
 }
 
 fn merged(direction: Direction, stated: Stated, [timetable, profiles, constraints, first, second]: [&[u8]; 5], lent: &mut Lent) -> Numbers {
     let merged = merge(direction, stated, timetable, profiles, constraints, first, second, &rooms(lent));
     lent.leave_merged(&merged);
-    numbers(&merged.answer, &[merged.text.map_or(0, |text| text.len() as u64)])
+    numbers(&merged.answer, merged.tally, &[merged.text.map_or(0, |text| text.len() as u64)])
 }
 
 fn merged_earlier(stated: Stated, texts: [&[u8]; 5], lent: &mut Lent) -> Numbers {
@@ -171,17 +165,15 @@ pub unsafe extern "C" fn wagontulip_row(
     answer: *mut Numbers,
 ) {
     let (start, length) = row_at(bytes(draft, draft_length), bytes(solution, solution_length), u32::from(file), place as usize);
-    let mut numbers = [0; 16];
-    numbers[..3].copy_from_slice(&[ROW, start as u64, length as u64]);
-    *answer = numbers;
+    *answer = padded(&[ROW, start as u64, length as u64]);
 }
 
 /// As include/wagontulip.h says.
 ///
 /// # Safety
 ///
-/// The pointer is to sixteen numbers.
+/// The pointer is to as many numbers as an answer has.
 #[no_mangle]
 pub unsafe extern "C" fn wagontulip_rooms(rooms: *mut Numbers) {
-    *rooms = ROOMS;
+    *rooms = padded(&ROOMS);
 }

@@ -38,6 +38,9 @@ judge-choices-requires c κs =
     let enum-told = c .before .before .before .before .enum-told in
     choice-ready _ _ _ _ _ (read-files .ensures) (filed2 .given .1) (choose .ensures) (enum-told .given .1)
 
+ruled-requires : tie.Need-ruled-requires
+ruled-requires c κs = search needs
+
 same-length : tie.Need-same-length
 same-length c = search needs
 
@@ -66,19 +69,19 @@ same-length-8 : tie.Need-same-length-8
 same-length-8 c = c .before .before .before .before .before .before .before .before .before .before .before .before .before .before .before .before .before .before .before .before .before .before .before .read-files .kept .1 .1 .1 .1 .1 .0
 
 same-length-9 : tie.Need-same-length-9
-same-length-9 c = search needs
+same-length-9 c = c .before .before .before .before .before .before .before .before .before .before .before .before .before .before .before .before .before .before .before .before .before .before .before .read-files .kept .1 .1 .1 .1 .1 .1 .0
 
 same-length-10 : tie.Need-same-length-10
-same-length-10 c = search needs
+same-length-10 c = c .before .before .before .before .before .before .before .before .before .before .before .before .before .before .before .before .before .before .before .before .before .before .before .read-files .kept .1 .1 .1 .1 .1 .1 .1 .0
 
 same-length-11 : tie.Need-same-length-11
-same-length-11 c = search needs
+same-length-11 c = c .before .before .before .before .before .before .before .before .before .before .before .before .before .before .before .before .before .before .before .before .before .before .before .read-files .kept .1 .1 .1 .1 .1 .1 .1 .1 .0
 
 same-length-12 : tie.Need-same-length-12
-same-length-12 c = search needs
+same-length-12 c = c .before .before .before .before .before .before .before .before .before .before .before .before .before .before .before .before .before .before .before .before .before .before .before .read-files .kept .1 .1 .1 .1 .1 .1 .1 .1 .1 .0
 
 same-length-13 : tie.Need-same-length-13
-same-length-13 c = search needs
+same-length-13 c = c .before .before .before .before .before .before .choose .kept .1 .1 .1 .1 .1 .0
 
 returns-2 : tie.Need-returns-2
 returns-2 c =
@@ -88,33 +91,33 @@ returns-2 c =
     choice-stop _ _ _ _ _ (read-files .ensures) (filed2 .given .1) (choose .ensures) (c .before .before .refusal .given .1) (c .refused2 .ensures)
 
 same-length-14 : tie.Need-same-length-14
-same-length-14 c = search needs
+same-length-14 c = c .before .before .before .before .before .before .before .before .before .before .before .before .before .before .before .before .before .before .before .before .before .before .before .before .before .before .before .read-files .kept .1 .1 .1 .1 .0
 
 same-length-15 : tie.Need-same-length-15
-same-length-15 c = search needs
+same-length-15 c = c .before .before .before .before .before .before .before .before .before .before .before .before .before .before .before .before .before .before .before .before .before .before .before .before .before .before .before .read-files .kept .1 .1 .1 .1 .1 .0
 
 same-length-16 : tie.Need-same-length-16
-same-length-16 c = search needs
+same-length-16 c = c .before .before .before .before .before .before .before .before .before .before .before .before .before .before .before .before .before .before .before .before .before .before .before .before .before .before .before .read-files .kept .1 .1 .1 .1 .1 .1 .0
 
 same-length-17 : tie.Need-same-length-17
-same-length-17 c = search needs
+same-length-17 c = c .before .before .before .before .before .before .before .before .before .before .before .before .before .before .before .before .before .before .before .before .before .before .before .before .before .before .before .read-files .kept .1 .1 .1 .1 .1 .1 .1 .0
 
 same-length-18 : tie.Need-same-length-18
-same-length-18 c = search needs
+same-length-18 c = c .before .before .before .before .before .before .before .before .before .before .before .before .before .before .before .before .before .before .before .before .before .before .before .before .before .before .before .read-files .kept .1 .1 .1 .1 .1 .1 .1 .1 .0
 
 same-length-19 : tie.Need-same-length-19
-same-length-19 c = search needs
+same-length-19 c = c .before .before .before .before .before .before .before .before .before .before .before .before .before .before .before .before .before .before .before .before .before .before .before .before .before .before .before .read-files .kept .1 .1 .1 .1 .1 .1 .1 .1 .1 .0
 
 same-length-20 : tie.Need-same-length-20
-same-length-20 c = search needs
+same-length-20 c = c .before .before .before .before .before .before .before .before .before .before .choose .kept .1 .1 .1 .1 .1 .0
 
 returns-3 : tie.Need-returns-3
 returns-3 c =
-    let read-files = c .before .before .before .before .before .before .before .before .before .before .before .before .before .before .before .before .before .before .before .before .before .before .before .before .before .before .read-files in
-    let filed2 = c .before .before .before .before .before .before .before .before .before .before .before .before .before .filed2 in
-    let choose = c .before .before .before .before .before .before .before .before .before .choose in
-    let enum-told = c .before .before .before .before .before .enum-told in
-    choice-judged _ _ _ _ _ (read-files .ensures) (filed2 .given .1) (choose .ensures) (enum-told .given .1) (c .judge-choices .ensures)
+    let read-files = c .before .before .before .before .before .before .before .before .before .before .before .before .before .before .before .before .before .before .before .before .before .before .before .before .before .before .before .read-files in
+    let filed2 = c .before .before .before .before .before .before .before .before .before .before .before .before .before .before .filed2 in
+    let choose = c .before .before .before .before .before .before .before .before .before .before .choose in
+    let enum-told = c .before .before .before .before .before .before .enum-told in
+    choice-judged _ _ _ _ _ (read-files .ensures) (filed2 .given .1) (choose .ensures) (enum-told .given .1) (c .before .judge-choices .ensures) (c .ruled .ensures)
 
 pub read-and-judge-spec : {M : Type 1} → statement M
 read-and-judge-spec =
@@ -129,6 +132,7 @@ read-and-judge-spec =
     refused-requires-2
     enum-told
     judge-choices-requires
+    ruled-requires
     same-length
     same-length-2
     same-length-3

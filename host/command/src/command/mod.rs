@@ -12,6 +12,7 @@ pub mod identity;
 mod json;
 mod refusal;
 mod sha256;
+mod tested;
 mod violation;
 
 use std::ffi::{OsStr, OsString};

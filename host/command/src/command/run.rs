@@ -5,7 +5,7 @@ use super::identity::identity;
 use super::input::Input;
 use super::output::{self, Output};
 use super::place::Waiting;
-use super::told::{row_object, Judged, Told, ACCEPTED};
+use super::told::{row_object, Judged, Told, ACCEPTED, MERGE};
 use super::{energies, escaped, CouldNotRun};
 use std::path::{Path, PathBuf};
 use wagontulip::{row_at, Answer, Checker, File, Files, NoRoom, Rooms, Table, Unknown, LABEL};
@@ -72,8 +72,8 @@ fn texts(inputs: &[Input]) -> Files<'_> {
 fn check(call: &Call, stated: &Stated, files: &[PathBuf]) -> Result<Told, CouldNotRun> {
     let inputs = inputs(&ROLES, files)?;
     let mut checker = checker(call)?;
-    let answer = checker.check(stated.values(), &texts(&inputs), &inputs[3].text)?;
-    let result = Judged { command: "check", stated, answer, inputs: &inputs, outputs: &[], room: &checker.room };
+    let ruling = checker.check(stated.values(), &texts(&inputs), &inputs[3].text)?;
+    let result = Judged { command: "check", stated, ruling, inputs: &inputs, outputs: &[], room: &checker.room };
     result.told(call.json, |()| String::new(), |object, ()| object)
 }
 
@@ -83,11 +83,11 @@ fn energy(call: &Call, stated: &Stated, files: &[PathBuf], curves: Option<&Path>
     output::judge(&curves.into_iter().collect::<Vec<&Path>>(), &inputs)?;
     let mut checker = checker(call)?;
     let mut outputs = Vec::new();
-    let answer = checker.energy(stated.values(), &texts(&inputs), &inputs[3].text)?.map(|energies| {
+    let ruling = checker.energy(stated.values(), &texts(&inputs), &inputs[3].text)?.map(|energies| {
         outputs.extend(curves.map(|path| Output { role: "curves", path, text: energies::curve_lines(&energies.curves, h) }));
         energies.figures
     });
-    let result = Judged { command: "energy", stated, answer, inputs: &inputs, outputs: &outputs, room: &checker.room };
+    let result = Judged { command: "energy", stated, ruling, inputs: &inputs, outputs: &outputs, room: &checker.room };
     let told = result.told(call.json, |figures| energies::lines(&figures, h), |object, figures| energies::values(object, &figures, h))?;
     Ok(Ran { told, outputs: Waiting::written(&outputs)? })
 }
@@ -100,14 +100,14 @@ fn merge(call: &Call, stated: &Stated, files: &[PathBuf], [earlier, later]: [&Pa
     let mut checker = checker(call)?;
     let mut outputs = Vec::new();
     let mut keep = |role, path, text: &[u8]| outputs.push(Output { role, path, text: text.to_vec() });
-    let mut answer = checker.merge_earlier(stated.values(), &files, first, second)?.map(|text| keep("merged, earlier", earlier, text));
-    if answer == Answer::Accepted(()) {
-        answer = checker.merge_later(stated.values(), &files, first, second)?.map(|text| keep("merged, later", later, text));
+    let mut ruling = checker.merge_earlier(stated.values(), &files, first, second)?.map(|text| keep("merged, earlier", earlier, text));
+    if ruling.answer == Answer::Accepted(()) {
+        ruling = checker.merge_later(stated.values(), &files, first, second)?.map(|text| keep("merged, later", later, text));
     }
-    if answer != Answer::Accepted(()) {
+    if ruling.answer != Answer::Accepted(()) {
         outputs.clear();
     }
-    let result = Judged { command: "merge", stated, answer, inputs: &inputs, outputs: &outputs, room: &checker.room };
+    let result = Judged { command: MERGE, stated, ruling, inputs: &inputs, outputs: &outputs, room: &checker.room };
     let told = result.told(call.json, |()| String::new(), |object, ()| object)?;
     Ok(Ran { told, outputs: Waiting::written(&outputs)? })
 }

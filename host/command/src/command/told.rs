@@ -5,18 +5,21 @@ use super::identity::identity;
 use super::input::Input;
 use super::json::{array, Object};
 use super::output::Output;
-use super::{printable, refusal, violation, CouldNotRun};
+use super::{printable, refusal, tested, violation, CouldNotRun};
 use std::ffi::OsStr;
 use std::fmt::Display;
-use wagontulip::{Answer, Counts, File, Room, Violation, LABEL};
+use wagontulip::{Answer, Counts, File, Room, Ruling, Tally, Violation, LABEL};
 
 pub const ACCEPTED: u8 = 0;
 pub const VIOLATED: u8 = 1;
 pub const REFUSED: u8 = 2;
 pub const COULD_NOT_RUN: u8 = 3;
 
-/// The number of docs/schema/answer-2.json, which the tests hold every object to. A member that is added, taken away or changed makes another.
-const SCHEMA: u32 = 2;
+/// The number of docs/schema/answer-3.json, which the tests hold every object to. A member that is added, taken away or changed makes another.
+const SCHEMA: u32 = 3;
+
+/// The command whose acceptance is a text.
+pub const MERGE: &str = "merge";
 
 /// What is printed, and the exit status.
 pub struct Told {
@@ -28,7 +31,7 @@ pub struct Told {
 pub struct Judged<'a, T> {
     pub command: &'static str,
     pub stated: &'a Stated,
-    pub answer: Answer<T>,
+    pub ruling: Ruling<T>,
     pub inputs: &'a [Input],
     pub outputs: &'a [Output<'a>],
     pub room: &'a Room,
@@ -37,7 +40,7 @@ pub struct Judged<'a, T> {
 impl<T: Copy> Judged<'_, T> {
     /// `lines` and `values` say what an accepted answer carries, in words and as keys.
     pub fn told(&self, json: bool, lines: impl Fn(T) -> String, values: impl Fn(Object, T) -> Object) -> Result<Told, CouldNotRun> {
-        let (status, word) = match self.answer {
+        let (status, word) = match self.ruling.answer {
             Answer::Accepted(_) => (ACCEPTED, "accepted"),
             Answer::Violated(_) => (VIOLATED, "violated"),
             Answer::Refused(_) => (REFUSED, "refused"),
@@ -47,7 +50,7 @@ impl<T: Copy> Judged<'_, T> {
     }
 
     fn words(&self, lines: impl Fn(T) -> String) -> Result<String, CouldNotRun> {
-        let mut words = match self.answer {
+        let mut words = match self.ruling.answer {
             Answer::Accepted(given) => accepted(&self.room.counts()) + &lines(given),
             Answer::Violated(violation) => violation::told(self.room, &violation, &self.input_of(&violation).told()),
             Answer::Refused(refusal) => refusal::told(&refusal, self.inputs)?,
@@ -55,7 +58,16 @@ impl<T: Copy> Judged<'_, T> {
         for output in self.outputs {
             words.push_str(&format!("{}: {}, bytes {}\n", output.role, printable(output.path), output.text.len()));
         }
-        Ok(words)
+        Ok(words + &self.tested().map_or(String::new(), |tally| tested::line(&tally)))
+    }
+
+    /// How much was tested for the verdict. A refusal is none, and a merge that is written is a text.
+    fn tested(&self) -> Option<Tally> {
+        match self.ruling.answer {
+            Answer::Accepted(_) if self.command == MERGE => None,
+            Answer::Refused(_) => None,
+            Answer::Accepted(_) | Answer::Violated(_) => Some(self.ruling.tally),
+        }
     }
 
     fn input_of(&self, violation: &Violation) -> &Input {
@@ -64,13 +76,14 @@ impl<T: Copy> Judged<'_, T> {
 
     fn object(&self, word: &str, values: impl Fn(Object, T) -> Object) -> Result<String, CouldNotRun> {
         let object = stated(head(Some(self.command), word), self.stated);
-        let object = match self.answer {
-            Answer::Accepted(given) => values(counted(object, &self.room.counts()), given),
+        let object = match self.ruling.answer {
+            Answer::Accepted(given) => values(counted(object, &self.room.counts(), self.tested()), given),
             Answer::Violated(violation) => {
                 let file = file_object(violation.file.number(), Some(self.input_of(&violation)));
-                counted(object, &self.room.counts()).object("violation", violation::object(self.room, &violation, file))
+                let object = counted(object, &self.room.counts(), self.tested());
+                object.object("violation", violation::object(self.room, &violation, file))
             }
-            Answer::Refused(refusal) => uncounted(object).object("refusal", refusal::object(&refusal, self.inputs)?),
+            Answer::Refused(refusal) => uncounted(object, self.ruling.tally).object("refusal", refusal::object(&refusal, self.inputs)?),
         };
         let outputs = self.outputs.iter().map(|output| evidence_of(output.role, output.name(), output.evidence()));
         Ok(line(evidence(object, self.inputs)?.value("outputs", array(outputs))))
@@ -97,7 +110,7 @@ pub fn row_object(file: Option<&Number<u8>>, place: &Number<u32>, row: Option<&[
 
 /// That there is no answer, and why.
 pub fn none_object(verb: Option<&OsStr>, why: &str) -> String {
-    let command = ["check", "energy", "merge", "row"].into_iter().find(|command| verb == Some(OsStr::new(command)));
+    let command = ["check", "energy", MERGE, "row"].into_iter().find(|command| verb == Some(OsStr::new(command)));
     let object = head(command, "none").text("reason", why);
     line(built(object))
 }
@@ -123,7 +136,8 @@ fn whole(given: &str) -> String {
     }
 }
 
-fn counted(object: Object, counts: &Counts) -> Object {
+/// How much was read, and how much was tested, which the library alone says.
+fn counted(object: Object, counts: &Counts, tally: Option<Tally>) -> Object {
     let read = Object::new()
         .value("legs", counts.legs)
         .value("configurations", counts.configurations)
@@ -131,12 +145,12 @@ fn counted(object: Object, counts: &Counts) -> Object {
         .value("samples", counts.samples)
         .value("constraints", counts.constraints)
         .value("tracks", counts.tracks);
-    object.object("read", read).value("nothing_tested", counts.legs == 0 && counts.constraints == 0)
+    tested::values(object.object("read", read), tally).optional("nothing_tested", tally.map(|tally| tally.total == 0))
 }
 
-/// A refusal leaves nothing to count, and is no verdict over anything.
-fn uncounted(object: Object) -> Object {
-    object.value("read", "null").value("nothing_tested", "null")
+/// A refusal leaves nothing to count, and is no verdict over anything: its counts are the library's 0s.
+fn uncounted(object: Object, tally: Tally) -> Object {
+    tested::values(object.value("read", "null"), Some(tally)).value("nothing_tested", "null")
 }
 
 /// A file by its number, and where it is one of the inputs, what it is and its name.
@@ -199,19 +213,23 @@ mod tests {
         assert_eq!(shown, ["0", "100", "4294967295", "\"4294967296\"", "\"9007199254740993\""]);
     }
 
+    /// What was read has no say in it.
     #[test]
-    fn nothing_tested_is_no_leg_and_no_constraint() {
+    fn nothing_tested_is_what_the_library_counts() {
         let counts = Counts { legs: 1, configurations: 1, profiles: 1, samples: 1, constraints: 0, tracks: 1 };
-        let said = |counts: &Counts| counted(Object::new(), counts).close();
-        assert!(said(&counts).ends_with(r#""nothing_tested": false}"#));
-        assert!(said(&Counts { legs: 0, configurations: 0, ..counts }).ends_with(r#""nothing_tested": true}"#));
+        let nothing = Counts { legs: 0, configurations: 0, ..counts };
+        let said = |counts: &Counts, tally| counted(Object::new(), counts, tally).close();
+        let some = Tally { kinds: [1, 0, 0, 0, 0, 0], total: 1 };
+        assert!(said(&nothing, Some(some)).ends_with(r#""tested": 1, "tally": [1, 0, 0, 0, 0, 0], "nothing_tested": false}"#));
+        assert!(said(&counts, Some(Tally::default())).ends_with(r#""tested": 0, "tally": [0, 0, 0, 0, 0, 0], "nothing_tested": true}"#));
+        assert!(said(&counts, None).ends_with(r#""tested": null, "tally": null, "nothing_tested": null}"#));
     }
 
     #[test]
     fn no_answer_has_a_reason() {
         let said = none_object(Some(OsStr::new("check")), "a: b");
         let start =
-            r#"{"label": "no violation shown is not no violation", "schema": 2, "command": "check", "answer": "none", "reason": "a: b", "#;
+            r#"{"label": "no violation shown is not no violation", "schema": 3, "command": "check", "answer": "none", "reason": "a: b", "#;
         assert!(said.starts_with(start), "{said}");
         assert!(none_object(Some(OsStr::new("judge")), "").contains(r#""command": null, "#));
     }

@@ -75,7 +75,7 @@ fn legs_object<const N: usize>(object: Object, legs: [&Leg; N], kind: Kind) -> O
     object.value("legs", array(legs.iter().map(|leg| leg.object().close()))).text("kind_name", name(kind))
 }
 
-fn name(kind: Kind) -> &'static str {
+pub fn name(kind: Kind) -> &'static str {
     match kind {
         Kind::NotOffered => "choice not offered",
         Kind::Headway => "headway time",

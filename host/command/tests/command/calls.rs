@@ -21,7 +21,7 @@ fn fed(folder: &Folder, words: &str, text: &str) -> Output {
 #[test]
 fn a_value_may_stand_in_its_word() {
     let folder = Folder::new("equals");
-    let accepted = format!("{LABEL}{ACCEPTED}answer: accepted\n");
+    let accepted = format!("{LABEL}{ACCEPTED}{TESTED}answer: accepted\n");
     assert_eq!(folder.told("check --horizon=100 t p c a", 0), accepted);
     let said = folder.told("energy --horizon=100 t p c a --curves=x=y --room=legs=16", 0);
     assert!(said.contains("\ncurves: x=y, bytes 215\n"), "{said}");
@@ -64,7 +64,7 @@ fn a_wrong_word_is_said_in_one_line() {
 fn standard_input_is_any_one_of_the_files() {
     let folder = Folder::new("standard");
     let output = fed(&folder, "check --horizon 100 - p c a", &draft());
-    assert_eq!(String::from_utf8(output.stdout).unwrap(), format!("{LABEL}{ACCEPTED}answer: accepted\n"));
+    assert_eq!(String::from_utf8(output.stdout).unwrap(), format!("{LABEL}{ACCEPTED}{TESTED}answer: accepted\n"));
     let output = fed(&folder, "check --horizon 100 t p c -", "abc");
     let refused = String::from_utf8(output.stdout).unwrap();
     assert!(output.status.code() == Some(2) && refused.contains("\nfile: solution (-), place: 0, line: 1\n"), "{refused}");
@@ -82,7 +82,7 @@ fn a_file_as_standard_input_goes_on_where_it_stands() {
     let mut file = fs::File::open(folder.0.join("s")).unwrap();
     std::io::Seek::seek(&mut file, std::io::SeekFrom::Start(6)).unwrap();
     let output = folder.call("check --horizon 100 t p c -").stdin(file).output().unwrap();
-    assert_eq!(String::from_utf8(output.stdout).unwrap(), format!("{LABEL}{ACCEPTED}answer: accepted\n"));
+    assert_eq!(String::from_utf8(output.stdout).unwrap(), format!("{LABEL}{ACCEPTED}{TESTED}answer: accepted\n"));
 }
 
 /// Of profiles and of a second solution, too: a refusal's place is all that is wanted.

@@ -12,6 +12,7 @@ pub mod random;
 mod rows;
 pub mod spelling;
 mod sweep;
+pub mod tallies;
 pub mod target;
 pub mod twin;
 

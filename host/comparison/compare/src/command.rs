@@ -4,7 +4,7 @@ use crate::coverage::{QUARTER, ROOMS};
 use crate::executor::Executor;
 use crate::expected::line as expected_line;
 use crate::lines::{digest, LABEL};
-use independent::{row_at, Answer, Call, Case, Desk, Direction, Edition, Entry, Figures, Report, Said, Tables};
+use independent::{row_at, Answer, Call, Case, Desk, Direction, Edition, Entry, Figures, Report, Said, Tables, Tally};
 use std::path::{Path, PathBuf};
 use std::process::Command as Process;
 use std::sync::atomic::{AtomicUsize, Ordering};
@@ -128,7 +128,7 @@ fn expected(call: &Call) -> String {
     match call.entry {
         Entry::Check => {
             let checked = call.case.check();
-            object(call, checked.answer, checked.tables.as_ref(), "")
+            object(call, checked.answer, checked.tally, checked.tables.as_ref(), "")
         }
         Entry::Energy => reported(call),
         Entry::MergeEarlier | Entry::MergeLater => merged(call),
@@ -136,7 +136,7 @@ fn expected(call: &Call) -> String {
     }
 }
 
-fn object(call: &Call, answer: Answer, tables: Option<&Tables>, figures: &str) -> String {
+fn object(call: &Call, answer: Answer, tally: Option<Tally>, tables: Option<&Tables>, figures: &str) -> String {
     let (status, word, told) = match answer {
         Answer::Accepted => (0, "accepted", figures.to_string()),
         Answer::Violated { .. } => (1, "violated", violated(call, answer, tables)),
@@ -146,17 +146,25 @@ fn object(call: &Call, answer: Answer, tables: Option<&Tables>, figures: &str) -
         Entry::MergeEarlier | Entry::MergeLater => "merge",
         other => other.name(),
     };
-    let head = format!(r#"{{"label": "{LABEL}", "schema": 2, "command": "{command}", "answer": "{word}""#);
+    let head = format!(r#"{{"label": "{LABEL}", "schema": 3, "command": "{command}", "answer": "{word}""#);
     let stated = format!(r#", "horizon": {}, "edition": {}"#, call.case.h, call.case.edition);
-    line(status, format!("{head}{stated}{}{told}", read(tables)).as_bytes())
+    line(status, format!("{head}{stated}{}{told}", counted(tables, tally)).as_bytes())
 }
 
-/// How much was read, where nothing was refused.
-fn read(tables: Option<&Tables>) -> String {
-    let tables = match tables {
-        Some(tables) => tables,
-        None => return String::from(r#", "read": null, "nothing_tested": null"#),
-    };
+/// How much was read and tested. A refusal has 0, and what is neither refused nor a verdict has none.
+fn counted(tables: Option<&Tables>, tally: Option<Tally>) -> String {
+    match (tables, tally) {
+        (None, _) => format!(r#", "read": null{}, "nothing_tested": null"#, tested(&Tally::default())),
+        (Some(tables), None) => format!(r#"{}, "tested": null, "tally": null, "nothing_tested": null"#, read(tables)),
+        (Some(tables), Some(tally)) => format!(r#"{}{}, "nothing_tested": {}"#, read(tables), tested(&tally), tally.total == 0),
+    }
+}
+
+fn tested(tally: &Tally) -> String {
+    format!(r#", "tested": {}, "tally": {:?}"#, tally.total, tally.kinds)
+}
+
+fn read(tables: &Tables) -> String {
     let counts = [
         ("legs", tables.legs.len() / LEG),
         ("configurations", tables.configurations.len() / THREE),
@@ -166,8 +174,7 @@ fn read(tables: Option<&Tables>) -> String {
         ("tracks", tables.tracks.len() / TRACK),
     ];
     let counts: Vec<String> = counts.iter().map(|(name, count)| format!(r#""{name}": {count}"#)).collect();
-    let nothing = tables.legs.is_empty() && tables.constraints.is_empty();
-    format!(r#", "read": {{{}}}, "nothing_tested": {nothing}"#, counts.join(", "))
+    format!(r#", "read": {{{}}}"#, counts.join(", "))
 }
 
 /// The file that an answer names.
@@ -231,7 +238,7 @@ fn placed(text: &[u8], file: u32, place: usize) -> String {
 
 fn reported(call: &Call) -> String {
     let report = call.case.energy();
-    let told = object(call, report.answer, report.tables.as_ref(), &energies(call, &report));
+    let told = object(call, report.answer, report.tally, report.tables.as_ref(), &energies(call, &report));
     report.curves.map_or(told.clone(), |curves| told + &written(CURVES, &curve_lines(&curves, call.case.h as usize)))
 }
 
@@ -275,7 +282,7 @@ fn curve_lines(curves: &[i32], h: usize) -> Vec<u8> {
 fn merged(call: &Call) -> String {
     let [earlier, later] = [Direction::Earlier, Direction::Later].map(|direction| call.case.merge(direction));
     let last = if earlier.answer == Answer::Accepted { &later } else { &earlier };
-    let mut told = object(call, last.answer, last.tables.as_ref(), "");
+    let mut told = object(call, last.answer, last.tally, last.tables.as_ref(), "");
     if last.answer == Answer::Accepted {
         for (name, merged) in MERGED.iter().zip([earlier, later]) {
             told.push_str(&written(name, &merged.text.unwrap_or_default()));

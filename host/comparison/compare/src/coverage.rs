@@ -1,6 +1,6 @@
 //! How often each answer was met, as tables; a cell that an input can reach must not be empty.
 
-use crate::{editions, marks};
+use crate::{editions, marks, tallies};
 use cases::target::{is_merge, targets, Target, FILES, INEQUALITIES};
 use independent::{Answer, Call, Case, Entry, Said};
 use std::collections::BTreeMap;
@@ -71,6 +71,7 @@ pub struct Coverage {
     peaks: BTreeMap<Peaked, usize>,
     marks: BTreeMap<marks::Cell, usize>,
     editions: BTreeMap<editions::Cell, usize>,
+    tallies: BTreeMap<tallies::Cell, usize>,
 }
 
 impl Coverage {
@@ -81,12 +82,15 @@ impl Coverage {
         if let Some(cell) = editions::met(call, said) {
             *self.editions.entry(cell).or_default() += 1;
         }
+        if let Some(cell) = tallies::met(call, said) {
+            *self.tallies.entry(cell).or_default() += 1;
+        }
         match (said, said.answer()) {
             (_, Some(answer)) => {
                 *self.answers.entry((call.entry, Target::of(answer))).or_default() += 1;
                 self.count_room(call, answer);
                 self.count_connection(&call.case, answer);
-                if let Said::Reported(Answer::Accepted, figures, _, quarters) = said {
+                if let Said::Reported(Answer::Accepted, _, figures, _, quarters) = said {
                     self.count_peaks(&call.case, figures.peak_drawn, *quarters);
                 }
             }
@@ -165,6 +169,7 @@ impl Coverage {
         add_counts(&mut self.peaks, &other.peaks);
         add_counts(&mut self.marks, &other.marks);
         add_counts(&mut self.editions, &other.editions);
+        add_counts(&mut self.tallies, &other.tallies);
         for (room, count) in other.rooms.iter().enumerate() {
             self.rooms[room] += count;
         }
@@ -204,6 +209,7 @@ impl Coverage {
         empty.extend(marks::cells(entries).into_iter().filter(|(cell, _)| !self.marks.contains_key(cell)).map(|(_, name)| name));
         let editions = if judging { editions::cells() } else { Vec::new() };
         empty.extend(editions.into_iter().filter(|(cell, _)| !self.editions.contains_key(cell)).map(|(_, name)| name));
+        empty.extend(tallies::cells(entries).into_iter().filter(|(cell, _)| !self.tallies.contains_key(cell)).map(|(_, name)| name));
         empty
     }
 
@@ -282,6 +288,23 @@ impl Coverage {
         }
         for edition in editions::UNKNOWN {
             writeln!(out, "21 for edition {edition:39}{:>8}", count(editions::Cell::Unknown(edition)))?;
+        }
+        Ok(())
+    }
+
+    /// How much was tested.
+    fn tallies(&self, out: &mut fmt::Formatter) -> fmt::Result {
+        let judging: Vec<Entry> = Entry::ALL.into_iter().filter(|entry| *entry != Entry::Row).collect();
+        let heads: String = judging.iter().map(|entry| format!("{:>15}", entry.name())).collect();
+        writeln!(out, "{:40}{heads}", "tests")?;
+        for (met, name) in tallies::all() {
+            write!(out, "{name:40}")?;
+            for entry in judging.iter().copied() {
+                let count = self.tallies.get(&(entry, met)).copied().unwrap_or_default();
+                let cell = if tallies::is_reached(entry, met) { count.to_string() } else { String::from("-") };
+                write!(out, "{cell:>15}")?;
+            }
+            writeln!(out)?;
         }
         Ok(())
     }
@@ -377,6 +400,7 @@ impl fmt::Display for Coverage {
         }
         writeln!(out, "  * {LARGER}")?;
         self.violations(out)?;
+        self.tallies(out)?;
         self.marks(out)?;
         self.editions(out)?;
         for (room, name) in ROOMS.iter().enumerate() {

@@ -44,22 +44,22 @@ mod tests {
 
     #[test]
     fn the_worked_examples() {
-        assert_eq!(answer_of("nominal"), "accepted");
+        assert_eq!(answer_of("nominal"), "accepted # 3 2 0 0 1 0 0");
         assert!(answer_of("nominal, its energies").starts_with("accepted 2050 2050 600 1400 2050 2050 0 0 "));
-        assert_eq!(answer_of("departures 15, 40 with dwell 21"), "accepted");
-        assert_eq!(answer_of("departures 15, 40 with dwell 22"), "violated 3 0 1 1 4");
-        assert_eq!(answer_of("12 for leg 2, listed in the solution alone"), "violated 0 1 0 0 4");
+        assert_eq!(answer_of("departures 15, 40 with dwell 21"), "accepted # 3 2 0 0 1 0 0");
+        assert_eq!(answer_of("departures 15, 40 with dwell 22"), "violated 3 0 1 1 4 # 3 2 0 0 1 0 0");
+        assert_eq!(answer_of("12 for leg 2, listed in the solution alone"), "violated 0 1 0 0 4 # 2 2 0 0 0 0 0");
         assert_eq!(answer_of("A 15, 40 and B 10, 45, later"), "accepted 176");
         assert!(answer_of("no dwell, leg 2 offered at 13").starts_with("accepted 2050 1750 300 1200 2050 1750 0 0 "));
         assert!(answer_of("the same, tracks in two subnets").starts_with("accepted 2050 2050 600 1200 2050 2050 0 0 "));
-        assert_eq!(answer_of("sample 20.000"), "accepted");
+        assert_eq!(answer_of("sample 20.000"), "accepted # 3 2 0 0 1 0 0");
         assert_eq!(answer_of("sample 20.001"), "refused 5 2 50");
-        assert_eq!(answer_of("travel 3600"), "accepted");
+        assert_eq!(answer_of("travel 3600"), "accepted # 1 1 0 0 0 0 0");
         assert_eq!(answer_of("travel 3601"), "refused 5 1 114");
         assert!(answer_of("type arrival_to_arrival").starts_with("refused 10 3 "));
         assert_eq!(answer_of("an empty timetable"), "refused 3 1 0");
         assert_eq!(answer_of("track 2 in no subnet"), "refused 15 1 145");
         assert!(answer_of("the row of that refusal").starts_with("row 30 "));
-        assert_eq!(answer_of("headers with no rows"), "accepted");
+        assert_eq!(answer_of("headers with no rows"), "accepted # 0 0 0 0 0 0 0");
     }
 }

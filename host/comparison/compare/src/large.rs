@@ -70,6 +70,7 @@ fn edges() -> Vec<Edge> {
         edge("profiles", |past| example(Entry::Check, PROFILE_TEXT, profiles(&[1].repeat(PROFILES - 2 + past)))),
         edge("samples", |past| example(Entry::Check, PROFILE_TEXT, sampled(SAMPLES + past))),
         edge("constraints", |past| constrained(CONSTRAINTS + past)),
+        edge("tests", |past| tested(CONSTRAINTS + past)),
         edge("tracks", |past| tracked(TRACKS + past)),
     ]
 }
@@ -125,7 +126,7 @@ fn solved(entry: Entry, legs: usize, chosen: usize) -> Call {
 
 /// The last solution that the entry takes is `last`; the first of two is the draft.
 fn solved_by(entry: Entry, draft: &str, last: &str) -> Call {
-    let mut call = example(entry, CONSTRAINT_TEXT, constraints("", "1"));
+    let mut call = example(entry, CONSTRAINT_TEXT, constraints("", "", "1"));
     call.case.texts[TIMETABLE] = draft.as_bytes().to_vec();
     call.case.texts[SOLUTION] = draft.as_bytes().to_vec();
     let place = if entry == Entry::Check { SOLUTION } else { SECOND };
@@ -149,7 +150,7 @@ fn longest(more: usize) -> Call {
     let list = vec![configuration.as_str(); CONFIGURATIONS / LEGS].join(" ");
     let row = |leg: usize| format!("{leg},{LONG_ID},{LONG_ID},{LONG_ID},{LONG_ID},{configuration},{list}\n");
     let plain = (LONG_ID..LONG_ID + LEGS + more).map(row).fold(String::from(HEADER), |text, row| text + &row);
-    let mut call = example(Entry::Check, CONSTRAINT_TEXT, constraints("", &LONG_ID.to_string()));
+    let mut call = example(Entry::Check, CONSTRAINT_TEXT, constraints("", "", &LONG_ID.to_string()));
     call.case.h = LONGEST_HORIZON;
     call.case.texts[TIMETABLE] = exported(plain.as_bytes());
     call.case.texts[SOLUTION] = call.case.texts[TIMETABLE].clone();
@@ -175,10 +176,10 @@ fn sampled(samples: usize) -> Vec<u8> {
     profiles(&lengths)
 }
 
-/// Single-track headways, and tracks of one subnet.
-fn constraints(headways: &str, tracks: &str) -> Vec<u8> {
+/// Headways, single-track headways, and tracks of one subnet.
+fn constraints(headways: &str, single_track: &str, tracks: &str) -> Vec<u8> {
     format!(
-        r#"{{"headway_time_constraints": [], "single_track_headway_constraints": [{headways}], "dwell_time_constraints": [],
+        r#"{{"headway_time_constraints": [{headways}], "single_track_headway_constraints": [{single_track}], "dwell_time_constraints": [],
 "terminal_turnaround_constraints": [], "connection_constraints": [], "recuperation_subnets": [{{"subnet_id": 1, "track_ids": [{tracks}]}}]}}
 "#
     )
@@ -187,12 +188,20 @@ fn constraints(headways: &str, tracks: &str) -> Vec<u8> {
 
 fn constrained(records: usize) -> Call {
     let records = vec![r#"{"first_leg_id": 1, "second_leg_id": 2}"#; records].join(",\n");
-    example(Entry::Check, CONSTRAINT_TEXT, constraints(&records, "1, 2"))
+    example(Entry::Check, CONSTRAINT_TEXT, constraints("", &records, "1, 2"))
+}
+
+/// The most legs, and so many records of two inequalities each, all of which hold.
+fn tested(records: usize) -> Call {
+    let records = vec![r#"{"first_leg_id": 1, "second_leg_id": 1, "min_headway_time": 0}"#; records].join(",\n");
+    let mut call = drafted(LEGS, 1);
+    call.case.texts[CONSTRAINT_TEXT] = constraints(&records, "", "1");
+    call
 }
 
 fn tracked(tracks: usize) -> Call {
     let tracks: Vec<String> = (1..=tracks).map(|track| track.to_string()).collect();
-    example(Entry::Check, CONSTRAINT_TEXT, constraints("", &tracks.join(", ")))
+    example(Entry::Check, CONSTRAINT_TEXT, constraints("", "", &tracks.join(", ")))
 }
 
 #[cfg(test)]
@@ -207,6 +216,12 @@ mod tests {
         let call = longest(0);
         assert_eq!(call.case.texts[TIMETABLE].len(), 25_919_617);
         assert_eq!(line(&call).0.answer(), Some(Answer::Accepted));
+    }
+
+    #[test]
+    fn the_most_tests_are_made() {
+        let tally = line(&tested(CONSTRAINTS)).0.tally().unwrap();
+        assert_eq!((tally.total, tally.kinds), (163_840, [LEGS, 2 * CONSTRAINTS, 0, 0, 0, 0]));
     }
 
     /// Each edge is where it is said to be: one more is refused for the limit's own sake, and the most is not.

@@ -14,3 +14,4 @@ pub mod lines;
 pub mod marks;
 pub mod saved;
 pub mod spread;
+pub mod tallies;

@@ -1,4 +1,4 @@
-//! A call's line: what is answered, then a digest of each lent room.
+//! A call's line: what is answered, how much was tested for a verdict, then a digest of each lent room.
 
 use independent::{Answer, Desk, Figures, Lent, Said};
 
@@ -21,13 +21,14 @@ pub fn line(said: &Said, row: &[u8], lent: &Lent) -> String {
 }
 
 fn words(said: &Said, row: &[u8]) -> String {
-    match said {
-        Said::Checked(answer) => answer.line(),
-        Said::Reported(Answer::Accepted, figures, desk, quarters) => format!("accepted {}", reported(figures, desk, quarters)),
-        Said::Merged(Answer::Accepted, length) => format!("accepted {length}"),
-        Said::Reported(answer, ..) | Said::Merged(answer, _) => answer.line(),
+    let answer = match said {
+        Said::Checked(answer, _) => answer.line(),
+        Said::Reported(Answer::Accepted, _, figures, desk, quarters) => format!("accepted {}", reported(figures, desk, quarters)),
+        Said::Merged(Answer::Accepted, _, length) => format!("accepted {length}"),
+        Said::Reported(answer, ..) | Said::Merged(answer, ..) => answer.line(),
         Said::Row(_, length) => format!("row {length} {}", digest(row.iter().map(|byte| u32::from(*byte)))),
-    }
+    };
+    answer + &said.tally().map_or(String::new(), |tally| tally.words())
 }
 
 /// The six figures, the quarters of the two peaks, and the bits of the four doubles.

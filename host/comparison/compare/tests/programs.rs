@@ -116,6 +116,41 @@ fn a_program_that_accepts_everything_differs() {
     assert!(differing(&Wrong(accepting), "accepting") > 300);
 }
 
+/// The line with other counts of tests, where it has any: the total first, then those of the kinds.
+fn recounted(line: String, change: fn(&mut Vec<usize>)) -> String {
+    let (answer, rest) = match line.split_once(" # ") {
+        Some(parts) => parts,
+        None => return line,
+    };
+    let (counts, digests) = rest.split_once(" | ").unwrap();
+    let mut counts: Vec<usize> = counts.split(' ').map(|count| count.parse().unwrap()).collect();
+    change(&mut counts);
+    let counts: Vec<String> = counts.iter().map(usize::to_string).collect();
+    format!("{answer} # {} | {digests}", counts.join(" "))
+}
+
+/// The failing test is not counted; two kinds have each other's count; the choices of the rows are not counted.
+#[test]
+fn a_program_that_counts_otherwise_differs() {
+    let without_the_failing_one = |_: &Call, line: String| match line.starts_with("violated") {
+        true => recounted(line, |counts| {
+            counts[0] -= 1;
+            *counts[1..].iter_mut().rev().find(|count| **count > 0).unwrap() -= 1;
+        }),
+        false => line,
+    };
+    let exchanged = |_: &Call, line: String| recounted(line, |counts| counts.swap(3, 6));
+    let without_choices = |_: &Call, line: String| {
+        recounted(line, |counts| {
+            counts[0] -= counts[1];
+            counts[1] = 0;
+        })
+    };
+    assert!(differing(&Wrong(without_the_failing_one), "failing") > 100);
+    assert!(differing(&Wrong(exchanged), "exchanged") > 100);
+    assert!(differing(&Wrong(without_choices), "choices") > 100);
+}
+
 #[test]
 fn a_program_that_leaves_the_last_room_alone_differs() {
     let leaving = |call: &Call, line: String| {

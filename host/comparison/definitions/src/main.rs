@@ -10,7 +10,7 @@ use cases::quotes;
 use cases::random::Random;
 use cases::spelling::CSV;
 use cases::target::{targets, Target};
-use cases::{editions, Scale};
+use cases::{editions, tallies, Scale};
 use independent::{Call, Case, Edition, Entry, Lent, Said};
 use std::fmt::Write as _;
 use std::path::Path;
@@ -74,7 +74,7 @@ fn write(dir: &str, name: &str, text: &str) -> Result<(), String> {
 }
 
 /// The call of a number: of each ten one is a merge, with its energies too, one an energy, one an energy with H at the edges of quarters, two have quotes
-/// and CR LF at their edges, and one a key or an edition.
+/// and CR LF at their edges, one a key or an edition, and one tests of every kind.
 fn drawn(seed: u64, number: usize) -> Call {
     let mut random = Random::of(seed, number as u64);
     let entry = match number % CASES_A_MODULE {
@@ -83,6 +83,7 @@ fn drawn(seed: u64, number: usize) -> Call {
         6 => return last_quarter(number / CASES_A_MODULE),
         2 | 7 => return random.pick(&quotes::calls()).call.clone(),
         5 => return random.pick(&editions::calls_of(Entry::Check)).call.clone(),
+        8 => return random.pick(&tallies::calls_of(Entry::Check)).call.clone(),
         _ => Entry::Check,
     };
     let targets = targets(entry);
@@ -100,7 +101,7 @@ fn last_quarter(turn: usize) -> Call {
     calls.swap_remove(turn % calls.len())
 }
 
-/// The statements of one call; how many there are. Each says the answer and every lent room, whole, or the row that is shown.
+/// The statements of one call; how many there are. Each says the answer, how much was tested, and every lent room, whole, or the row that is shown.
 fn state(call: &Call, number: usize, text: &mut String) -> usize {
     let Call { entry, case, file, place } = call;
     let mut count = 0;
@@ -152,15 +153,16 @@ fn state_answers(entry: Entry, case: &Case, claim: &mut dyn FnMut(&str, String, 
 /// What the independent program answers, and what it leaves in rooms full of nines.
 fn answered(entry: Entry, case: &Case) -> (Vec<i64>, Lent) {
     let mut lent = Lent::full_of(9, &case.rooms);
-    let said = match Call::of(entry, case.clone()).run(&mut lent) {
-        Said::Checked(answer) | Said::Merged(answer, _) => answer.numbers(),
-        Said::Reported(answer, f, _, quarters) => {
-            let figures = vec![f.before, f.drawn, f.lost, f.fluctuation, f.peak_before, f.peak_drawn];
-            [answer.numbers(), figures, quarters.map(|quarter| quarter as i64).to_vec()].concat()
+    let said = Call::of(entry, case.clone()).run(&mut lent);
+    let answer = said.answer().map_or(Vec::new(), |answer| answer.numbers());
+    let tally = said.tally().unwrap_or_default().numbers().into_iter().map(|count| count as i64).collect();
+    let figures = match said {
+        Said::Reported(_, _, f, _, [of_before, of_drawn]) => {
+            vec![f.before, f.drawn, f.lost, f.fluctuation, f.peak_before, f.peak_drawn, of_before as i64, of_drawn as i64]
         }
-        Said::Row(..) => Vec::new(),
+        Said::Checked(..) | Said::Merged(..) | Said::Row(..) => Vec::new(),
     };
-    (said, lent)
+    ([answer, tally, figures].concat(), lent)
 }
 
 /// The tables and the choices, one behind the other.

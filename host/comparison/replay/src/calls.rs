@@ -1,7 +1,7 @@
 //! A call of an entry: its C function, over its texts and the rooms that it takes.
 
 use crate::block::Block;
-use crate::exports::{Exports, Numbers};
+use crate::exports::{Exports, Numbers, NUMBERS};
 use crate::input::Texts;
 use crate::rooms::Rooms;
 
@@ -25,7 +25,7 @@ impl Entry {
 }
 
 /// No code, so that a function that writes nothing answers nothing.
-const UNWRITTEN: Numbers = [u64::MAX; 16];
+const UNWRITTEN: Numbers = [u64::MAX; NUMBERS];
 
 /// The function with what the block states, each text and each table as its pointer and its length, and room for the answer.
 macro_rules! call {

@@ -1,8 +1,14 @@
 //! The C functions of include/wagontulip.h, each said once: as a declaration for the program, which links the archive, and as a pointer for whoever calls
 //! one.
 
-/// What a function answers: a code, then the values, unused ones 0.
-pub type Numbers = [u64; 16];
+/// How many numbers a function writes.
+pub const NUMBERS: usize = 24;
+
+/// Where the code and its values end, and how much was tested begins.
+pub const TESTED: usize = 16;
+
+/// What a function answers: a code, then the values, then how much was tested; unused ones are 0.
+pub type Numbers = [u64; NUMBERS];
 
 /// A function takes H, the edition, its texts, the tables that it fills, and room for its answer; a text and a table are a pointer and a length each.
 macro_rules! exports {

@@ -1,8 +1,8 @@
-//! A call's line: what is answered, then a digest of each lent room.
+//! A call's line: what is answered, how much was tested for a verdict, then a digest of each lent room.
 
 use crate::block::Block;
 use crate::calls::Entry;
-use crate::exports::Numbers;
+use crate::exports::{Numbers, TESTED};
 use crate::input::Texts;
 use crate::rooms::{digest, Rooms};
 use std::ops::RangeInclusive;
@@ -22,14 +22,20 @@ const VIOLATED: u64 = 1;
 const REFUSED: u64 = 2;
 const ROW: u64 = 3;
 
-/// An answer's numbers after its code.
-type Values = [u64; 15];
+/// An answer's numbers after its code, without those of what was tested.
+type Values = [u64; TESTED - 1];
 
 /// From the least to the greatest that a value may be.
 type Range = RangeInclusive<u64>;
 
 const ANY: Range = 0..=u64::MAX;
 const COUNT: Range = 0..=u32::MAX as u64;
+
+/// No more tests than legs and twice the constraints.
+const TESTS: Range = 0..=32_768 + 2 * 65_536;
+
+/// The kinds of tests: a row's choice and the inequalities of each list.
+const KINDS: usize = 6;
 
 /// Kind, position, inequality, shortfall, file.
 const VIOLATION: [Range; 5] = [0..=5, COUNT, 0..=2, COUNT, 4..=5];
@@ -63,15 +69,28 @@ fn listed<N: ToString>(words: &str, numbers: &[N]) -> String {
 }
 
 fn words(entry: Entry, numbers: &Numbers, text_room: usize) -> Option<String> {
-    let [code, values @ ..] = numbers;
+    let (answer, tested) = numbers.split_at(TESTED);
+    let [code, values @ ..] = <&[u64; TESTED]>::try_from(answer).ok()?;
     match (*code, entry) {
-        (VIOLATED, _) => said("violated", values, &VIOLATION),
-        (REFUSED, _) if is_refusal(values[0]) => said("refused", values, &REFUSAL),
-        (ACCEPTED, Entry::Check) => said("accepted", values, &[]),
-        (ACCEPTED, Entry::Energy) => energies(values),
-        (ACCEPTED, Entry::MergeEarlier | Entry::MergeLater) => said("accepted", values, &[0..=text_room as u64]),
+        (VIOLATED, _) => Some(said("violated", values, &VIOLATION)? + &tally(tested)?),
+        (REFUSED, _) if is_refusal(values[0]) && is_untested(tested) => said("refused", values, &REFUSAL),
+        (ACCEPTED, Entry::Check) => Some(said("accepted", values, &[])? + &tally(tested)?),
+        (ACCEPTED, Entry::Energy) => Some(energies(values)? + &tally(tested)?),
+        (ACCEPTED, Entry::MergeEarlier | Entry::MergeLater) if is_untested(tested) => said("accepted", values, &[0..=text_room as u64]),
         _ => None,
     }
+}
+
+/// Behind a verdict: the total, and the counts that add up to it.
+fn tally(tested: &[u64]) -> Option<String> {
+    let (total, kinds) = tested.get(..=KINDS)?.split_first()?;
+    let adds_up = kinds.iter().try_fold(0, |sum: u64, count| sum.checked_add(*count)) == Some(*total);
+    (adds_up && are_within(tested, &[TESTS; 1 + KINDS])).then(|| listed(" #", &tested[..=KINDS]))
+}
+
+/// As behind a refusal, and behind a text that is written.
+fn is_untested(tested: &[u64]) -> bool {
+    are_within(tested, &[])
 }
 
 /// The word with its values, as they stand, where each is within its range.
@@ -115,9 +134,10 @@ fn row(numbers: &Numbers, text: &[u8]) -> Option<String> {
 #[cfg(test)]
 mod tests {
     use super::*;
+    use crate::exports::NUMBERS;
 
     fn numbers(first: &[u64]) -> Numbers {
-        let mut all = [0; 16];
+        let mut all = [0; NUMBERS];
         all[..first.len()].copy_from_slice(first);
         all
     }
@@ -126,10 +146,18 @@ mod tests {
         words(entry, &numbers(first), 9)
     }
 
+    /// The words of an answer with these numbers from `TESTED` on.
+    fn told_of(entry: Entry, first: &[u64], tested: &[u64]) -> Option<String> {
+        let mut all = numbers(first);
+        all[TESTED..][..tested.len()].copy_from_slice(tested);
+        words(entry, &all, 9)
+    }
+
     #[test]
     fn each_answer_has_its_words() {
-        assert_eq!(told(Entry::Check, &[0]).unwrap(), "accepted");
-        assert_eq!(told(Entry::Check, &[1, 3, 7, 1, 3, 5]).unwrap(), "violated 3 7 1 3 5");
+        assert_eq!(told(Entry::Check, &[0]).unwrap(), "accepted # 0 0 0 0 0 0 0");
+        assert_eq!(told_of(Entry::Check, &[0], &[27, 1, 2, 3, 4, 5, 12]).unwrap(), "accepted # 27 1 2 3 4 5 12");
+        assert_eq!(told_of(Entry::Check, &[1, 3, 7, 1, 3, 5], &[3, 2, 0, 0, 1]).unwrap(), "violated 3 7 1 3 5 # 3 2 0 0 1 0 0");
         assert_eq!(told(Entry::MergeLater, &[2, 17, 5, 113]).unwrap(), "refused 17 5 113");
         assert_eq!(told(Entry::Energy, &[2, 21, 0, 0]).unwrap(), "refused 21 0 0");
         assert_eq!(told(Entry::MergeEarlier, &[0, 9]).unwrap(), "accepted 9");
@@ -140,8 +168,8 @@ mod tests {
     #[test]
     fn energies_by_their_places() {
         let given = [0, 1, 2, 3, u64::MAX, 5, 6, 0.5f64.to_bits(), 0, 1, u64::MAX, 29, 195];
-        let expected = "accepted 1 2 3 -1 5 6 29 195 3fe0000000000000 0000000000000000 0000000000000001 ffffffffffffffff";
-        assert_eq!(told(Entry::Energy, &given).unwrap(), expected);
+        let expected = "accepted 1 2 3 -1 5 6 29 195 3fe0000000000000 0000000000000000 0000000000000001 ffffffffffffffff # 2 2 0 0 0 0 0";
+        assert_eq!(told_of(Entry::Energy, &given, &[2, 2]).unwrap(), expected);
         assert_eq!(told(Entry::Energy, &[&given[..], &[1]].concat()), None);
         assert_eq!(told(Entry::Energy, &[0, 0, 0, 0, 0, 0, 0, 0, 0, 0, 0, 1 << 32]), None);
     }
@@ -151,7 +179,7 @@ mod tests {
         let others: [&[u64]; 13] = [
             &[3],
             &[4],
-            &[u64::MAX; 16],
+            &[u64::MAX; NUMBERS],
             &[0, 1],
             &[1, 6, 0, 1, 1, 4],
             &[1, 1, 0, 3, 1, 4],
@@ -167,6 +195,15 @@ mod tests {
             assert_eq!(told(Entry::Check, other), None, "{other:?}");
         }
         assert_eq!(told(Entry::MergeLater, &[0, 10]), None);
+        let unknown: [&[u64]; 6] =
+            [&[3, 2], &[0, 0, 1], &[3, 2, 0, 0, 1, 0, 0, 1], &[163_841, 163_841], &[1, u64::MAX, 2], &[u64::MAX; NUMBERS - TESTED]];
+        for tested in unknown {
+            assert_eq!(told_of(Entry::Check, &[0], tested), None, "{tested:?}");
+        }
+        // A refusal and a text that is written have no tests.
+        assert_eq!(told_of(Entry::Check, &[2, 4, 1, 0], &[1, 1]), None);
+        assert_eq!(told_of(Entry::MergeLater, &[0, 9], &[1, 1]), None);
+        assert_eq!(told_of(Entry::MergeLater, &[1, 0, 0, 0, 0, 5], &[1, 1]).unwrap(), "violated 0 0 0 0 5 # 1 1 0 0 0 0 0");
         for other in [&[0, 1, 2][..], &[3, 0, 1], &[3, 2, 2], &[3, u64::MAX, 2], &[3, 1, 2, 1]] {
             assert_eq!(row(&numbers(other), b"\n12"), None, "{other:?}");
         }

@@ -19,10 +19,11 @@ fn agreed_answer(entry: Entry, case: Case) -> String {
 #[test]
 fn checks() {
     let of = |constraints, solution| agreed_answer(Entry::Check, case(constraints, solution, "empty.csv"));
-    assert_eq!(of("constraints.json", "solution-nominal.csv"), "accepted");
-    assert_eq!(of("dwell-21.json", "solution-15-40.csv"), "accepted");
-    assert_eq!(of("dwell-22.json", "solution-15-40.csv"), "violated 3 0 1 1 4");
-    assert_eq!(of("constraints.json", "solution-12.csv"), "violated 0 1 0 0 4");
+    assert_eq!(of("constraints.json", "solution-nominal.csv"), "accepted # 3 2 0 0 1 0 0");
+    assert_eq!(of("no-dwell.json", "solution-nominal.csv"), "accepted # 2 2 0 0 0 0 0");
+    assert_eq!(of("dwell-21.json", "solution-15-40.csv"), "accepted # 3 2 0 0 1 0 0");
+    assert_eq!(of("dwell-22.json", "solution-15-40.csv"), "violated 3 0 1 1 4 # 3 2 0 0 1 0 0");
+    assert_eq!(of("constraints.json", "solution-12.csv"), "violated 0 1 0 0 4 # 2 2 0 0 0 0 0");
     assert_eq!(of("constraints.json", "half-edited.csv"), "refused 4 4 145");
     assert_eq!(of("track-2-in-no-subnet.json", "solution-nominal.csv"), "refused 15 1 145");
     assert_eq!(agreed_answer(Entry::Check, Case { h: 0, ..accepted() }), "refused 1 0 0");
@@ -66,7 +67,7 @@ fn merges() {
     for entry in [Entry::MergeEarlier, Entry::MergeLater] {
         let of = |constraints, first, second| agreed_answer(entry, case(constraints, first, second));
         assert_eq!(of("constraints.json", "solution-15-40.csv", "solution-10-45.csv"), "accepted 176");
-        assert_eq!(of("dwell-22.json", "solution-10-45.csv", "solution-15-40.csv"), "violated 3 0 1 1 5");
+        assert_eq!(of("dwell-22.json", "solution-10-45.csv", "solution-15-40.csv"), "violated 3 0 1 1 5 # 3 2 0 0 1 0 0");
         assert_eq!(of("constraints.json", "solution-15-40.csv", "half-edited.csv"), "refused 4 5 145");
     }
     let lines = [Entry::MergeEarlier, Entry::MergeLater].map(|entry| agreed(&Call::of(entry, accepted())));

@@ -4,7 +4,7 @@ mod common;
 
 use common::{accepted, expected, line, STAND_IN};
 use independent::{Call, Entry};
-use replay::exports::Numbers;
+use replay::exports::{Numbers, NUMBERS};
 use replay::Exports;
 
 /// A row's function that answers nothing at all.
@@ -12,7 +12,7 @@ unsafe extern "C" fn silent(_: *const u8, _: usize, _: *const u8, _: usize, _: u
 
 /// A row's function that has a row where the texts end.
 unsafe extern "C" fn past(_: *const u8, length: usize, _: *const u8, _: usize, _: u8, _: u32, answer: *mut Numbers) {
-    let mut numbers = [0; 16];
+    let mut numbers = [0; NUMBERS];
     numbers[..3].copy_from_slice(&[3, length as u64, 1]);
     *answer = numbers;
 }
@@ -28,10 +28,10 @@ fn shown(row: unsafe extern "C" fn(*const u8, usize, *const u8, usize, u8, u32, 
 
 #[test]
 fn a_function_that_writes_no_answer() {
-    assert_eq!(shown(silent), format!("unknown{}", " 18446744073709551615".repeat(16)));
+    assert_eq!(shown(silent), format!("unknown{}", " 18446744073709551615".repeat(NUMBERS)));
 }
 
 #[test]
 fn a_row_that_is_not_in_its_text() {
-    assert_eq!(shown(past), format!("unknown 3 176 1{}", " 0".repeat(13)));
+    assert_eq!(shown(past), format!("unknown 3 176 1{}", " 0".repeat(NUMBERS - 3)));
 }

@@ -99,9 +99,9 @@ fn timed(checker: &mut Checker, stage: Stage, files: &Files) -> Result<Duration,
     let (stated, [timetable, profiles, constraints, solution]) = stage.texts(files);
     let files = wagontulip::Files { timetable, profiles, constraints };
     let start = clock::now();
-    let answer = checker.check(stated, &files, solution);
+    let ruling = checker.check(stated, &files, solution);
     let took = clock::now() - start;
-    let stopped = match answer.map_err(|unknown| unknown.to_string())? {
+    let stopped = match ruling.map_err(|unknown| unknown.to_string())?.answer {
         Answer::Accepted(()) => None,
         Answer::Refused(refusal) => Some(refusal.file.number()),
         Answer::Violated(violation) => return Err(format!("{stage:?}: {violation:?}")),

@@ -157,11 +157,11 @@ mod proved {
         }
 
         fn check(&mut self, h: u32, texts: &Texts) -> Outcome {
-            outcome(&self.0.check(stated(h), &files(texts), texts.solution).expect("an answer"))
+            outcome(&self.0.check(stated(h), &files(texts), texts.solution).expect("an answer").answer)
         }
 
         fn energy(&mut self, h: u32, texts: &Texts) -> (Outcome, Figures) {
-            let answer = self.0.energy(stated(h), &files(texts), texts.solution).expect("an answer");
+            let answer = self.0.energy(stated(h), &files(texts), texts.solution).expect("an answer").answer;
             let said = outcome(&answer);
             match answer {
                 Answer::Accepted(energies) => {

@@ -1,6 +1,6 @@
 -- `exports_numbers::figures::of_report` meets its contract: its two parts that are worked out, and the rest as it is. Assumes nothing.
 use borrow.Author.Needs.{needs}
-use Rattle.exports_numbers.proofs.Told.{report-told}
+use Rattle.exports_numbers.proofs.Energies.{report-told}
 use Rattle.exports_numbers.proofs.figures.of_report.Statement.{statement}
 use Rattle.exports_numbers.proofs.figures.of_report.Tie as tie
 
@@ -10,11 +10,11 @@ pattern-requires c κs = search needs
 bits-of-requires : tie.Need-bits-of-requires
 bits-of-requires c κs = search needs
 
-cast-t11 : tie.Need-cast-t11
-cast-t11 c = search needs
-
 cast-t12 : tie.Need-cast-t12
 cast-t12 c = search needs
+
+cast-t13 : tie.Need-cast-t13
+cast-t13 c = search needs
 
 slice-aggregate-of-answer : tie.Need-slice-aggregate-of-answer
 slice-aggregate-of-answer c = search needs
@@ -23,7 +23,7 @@ of-answer-requires : tie.Need-of-answer-requires
 of-answer-requires c κs = search needs
 
 returns : tie.Need-returns
-returns c = report-told (c .before .before .before .before .before .before .before .before .before .before .before .before .args .report) _ _ _ (record { sfits = c .before .before .before .before .before .before .before .struct-told .given .1 .1 .1 .0 .1 }) (c .before .before .before .before .before .before .pattern .ensures) (c .before .before .before .before .bits-of .ensures) (c .of-answer .ensures)
+returns c = report-told (c .before .before .before .before .before .before .before .before .before .before .before .before .before .args .report) _ _ _ (record { sfits = c .before .before .before .before .before .before .before .struct-told .given .1 .1 .1 .0 .1 }) (c .before .before .before .before .before .before .pattern .ensures) (c .before .before .before .before .bits-of .ensures) (c .of-answer .ensures)
 
 pub of-report-spec : {M : Type 1} → statement M
 of-report-spec =
@@ -31,8 +31,8 @@ of-report-spec =
     (tie.spec
     pattern-requires
     bits-of-requires
-    cast-t11
     cast-t12
+    cast-t13
     slice-aggregate-of-answer
     of-answer-requires
     returns)

@@ -23,13 +23,13 @@ returns c = λ k.
     let s = c .before .before .before .before .before .before .before .before .before .before .before .before .before .before .args in
     judged-ends k (s .direction) (s .text .now) (c .before .before .before .before .before .before .judge-both .ensures) (λ h. c .before .before .write-merge .ensures (k .mergeable)) (λ h. never (sym (sym (c .before .before .before .before .before .is-accepted .ensures) ∙ c .before .before .before .before .if1 .taken) ∙ h))
 
-not-written-requires : tie.Need-not-written-requires
-not-written-requires c κs = search needs
+violated-requires : tie.Need-violated-requires
+violated-requires c κs = search needs
 
 returns-2 : tie.Need-returns-2
 returns-2 c = λ k.
     let s = c .before .before .before .before .before .before .before .before .before .before .before .args in
-    judged-ends k (s .direction) (s .text .now) (c .before .before .before .judge-both .ensures) (λ h. never (sym h ∙ sym (c .before .before .is-accepted .ensures) ∙ c .before .if1 .left)) (λ h. c .not-written .ensures)
+    judged-ends k (s .direction) (s .text .now) (c .before .before .before .judge-both .ensures) (λ h. never (sym h ∙ sym (c .before .before .is-accepted .ensures) ∙ c .before .if1 .left)) (λ h. c .violated .ensures)
 
 pub merge-chosen-spec : {M : Type 1} → statement M
 merge-chosen-spec =
@@ -40,5 +40,5 @@ merge-chosen-spec =
     write-merge-requires
     same-length
     returns
-    not-written-requires
+    violated-requires
     returns-2)

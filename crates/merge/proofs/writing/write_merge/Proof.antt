@@ -21,14 +21,17 @@ of-merge-requires c κs = second-short (c .before .before .before .before .befor
 is-accepted-requires : tie.Need-is-accepted-requires
 is-accepted-requires c κs = search needs
 
+written-requires : tie.Need-written-requires
+written-requires c κs = search needs
+
 same-length : tie.Need-same-length
 same-length c = search needs
 
 returns : tie.Need-returns
 returns c = λ k.
-    let s = c .before .before .before .before .before .before .before .before .before .before .before .before .before .before in
+    let s = c .before .before .before .before .before .before .before .before .before .before .before .before .before .before .before in
     let small : length (s .args .text .now) < lastPlace = omega (arith, s .good .1 .1 .1 .1 .1 .1 .1 .0 .1) in
-    text-ends k (s .args .direction) (s .args .text .now) (c .before .before .before .before .before .before .before .unequal .ensures) small (c .before .before .before .before .before .put-merged .ensures) (c .before .before .of-merge .ensures) (sym (c .before .is-accepted .ensures) ∙ c .if1 .taken)
+    text-ends k (s .args .direction) (s .args .text .now) (c .before .before .before .before .before .before .before .before .unequal .ensures) small (c .before .before .before .before .before .before .put-merged .ensures) (c .before .before .before .of-merge .ensures) (sym (c .before .before .is-accepted .ensures) ∙ c .before .if1 .taken) (c .written .ensures)
 
 not-written-requires : tie.Need-not-written-requires
 not-written-requires c κs = search needs
@@ -50,6 +53,7 @@ write-merge-spec =
     put-merged-requires
     of-merge-requires
     is-accepted-requires
+    written-requires
     same-length
     returns
     not-written-requires

@@ -38,7 +38,7 @@ const OUTPUTS: &str = "  --earlier OUT   where the earlier choice of each leg is
   --later OUT     where the later choice of each leg is written
 ";
 const OPTIONS: &str =
-    "  --json          the result as one object, for a program and for a signature: docs/schema/answer-2.json describes it
+    "  --json          the result as one object, for a program and for a signature: docs/schema/answer-3.json describes it
   --room TABLE=N  lend N numbers (bytes, for text) in the place of the room at the limits, which is the most; TABLE is legs,
                   configurations, profiles, samples, constraints, tracks, choices, second_choices, curves or text
   --no-install    where the program has to be built first, install no package and name what is missing

@@ -1,7 +1,7 @@
 //! Calls of the examples, and the lines to expect of them by the independent program alone.
 #![allow(dead_code)]
 
-use independent::{Answer, Call, Case, Entry, Lent, Rooms, Said};
+use independent::{Answer, Call, Case, Entry, Lent, Rooms, Said, Tally};
 use replay::{run, Exports};
 use std::path::Path;
 
@@ -90,17 +90,24 @@ pub fn line(exports: &Exports, call: &Call) -> String {
 /// What the independent program answers, and what it leaves in rooms that were full of 7.
 pub fn expected(call: &Call) -> String {
     let mut lent = Lent::full_of(BEFORE, &call.case.rooms);
-    let words = match call.run(&mut lent) {
-        Said::Reported(Answer::Accepted, f, desk, [of_before, of_drawn]) => {
+    let said = call.run(&mut lent);
+    let words = match said {
+        Said::Reported(Answer::Accepted, _, f, desk, [of_before, of_drawn]) => {
             let figures = [f.before, f.drawn, f.lost, f.fluctuation, f.peak_before, f.peak_drawn].map(|figure| figure.to_string());
             let bits = [desk.before, desk.drawn, desk.lost, desk.peak].map(|double| format!("{:016x}", double.to_bits()));
             format!("accepted {} {of_before} {of_drawn} {}", figures.join(" "), bits.join(" "))
         }
-        Said::Merged(Answer::Accepted, length) => format!("accepted {length}"),
-        Said::Checked(answer) | Said::Reported(answer, ..) | Said::Merged(answer, _) => answer.line(),
+        Said::Merged(Answer::Accepted, _, length) => format!("accepted {length}"),
+        Said::Checked(answer, _) | Said::Reported(answer, ..) | Said::Merged(answer, ..) => answer.line(),
         Said::Row(_, length) => format!("row {length} {}", digest(call.row_bytes().iter().map(|byte| u32::from(*byte)))),
     };
-    format!("{words} | {}", digests(&lent).join(" "))
+    format!("{words}{} | {}", said.tally().map_or(String::new(), counted), digests(&lent).join(" "))
+}
+
+/// Behind a verdict: the total, and a count for each kind.
+fn counted(tally: Tally) -> String {
+    let [choices, headways, single, dwells, turnarounds, connections] = tally.kinds;
+    format!(" # {} {choices} {headways} {single} {dwells} {turnarounds} {connections}", tally.total)
 }
 
 fn digests(lent: &Lent) -> [String; 10] {

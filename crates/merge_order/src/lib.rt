@@ -14,7 +14,6 @@ use rules::answers::Answer;
 use rules::answers::File;
 use rules::answers::Refusal;
 use rules::answers::Ruling;
-use rules::sizes::Text;
 use solution_verdict::Chosen;
 use tables_lent::Counts;
 use tables_lent::acceptance;
@@ -94,18 +93,11 @@ fn of_travels(travels: Travels, second: &[u8]) -> Answer
     }
 }
 
-// Whether a text is no longer than its buffer, and no longer than a text may be.
-fn fits(length: usize, room: usize) -> bool
-    ensures { λ r. ⌜ r ≡ (leb length room && leb length mostText) ⌝ }
-{
-    length <= room && length <= Text::MOST
-}
-
 // 16 lies in no file.
 fn of_room(length: usize, room: usize) -> Answer
     ensures { λ r. ⌜ r ≡ roomAnswer (leb length room && leb length mostText) ⌝ }
 {
-    if fits(length, room) {
+    if text_write::fits(length, room) {
         return Answer::Accepted;
     }
     Answer::Refused(Refusal::new(Refusal::ROOM, File::NONE, 0))

@@ -78,6 +78,10 @@ noRoom = 16
 abbrev pub unequalTravel : ℕ
 unequalTravel = 17
 
+-- 19: no accepted solution with the nominal travel times exists (document 02, E10)
+abbrev pub noSolution : ℕ
+noSolution = 19
+
 -- 21: an edition that is not known (document 02, E4)
 abbrev pub unknownEdition : ℕ
 unknownEdition = 21

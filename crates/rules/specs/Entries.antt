@@ -1,14 +1,14 @@
 -- These definitions say what each public entry answers, and what it leaves in every lent table and text, for every input.
-use Prim.Native.Nat.{ℕ, _*_}
+use Prim.Native.Nat.{ℕ, _*_, _/_}
 use mathlib.Core.Bool.{Bool, true, false, _&&_}
 use mathlib.Core.List.{List}
 use mathlib.Core.Option.{Option, none, some}
 use lib.Dec.{leb}
 use lib.ListN.{length, replicate}
 use lib.IntN.{ℤ, pos}
-use Rattle.rules.specs.Limits.{mostText, unsignedFill, signedFill, byteFill}
+use Rattle.rules.specs.Limits.{mostText, configurationWidth, unsignedFill, signedFill, byteFill}
 use Rattle.rules.specs.Lists.{flat, over}
-use Rattle.rules.specs.Answers.{refusal, unequalTravel, noRoom, noFile, solutionFile, secondFile, Reading, refused, good, _>>=_}
+use Rattle.rules.specs.Answers.{refusal, unequalTravel, noSolution, noRoom, noFile, solutionFile, secondFile, Reading, refused, good, _>>=_}
 use Rattle.rules.specs.Rows.{placeOfRow}
 use Rattle.rules.specs.Timetable.{legsOf, configurationsOf, legNumbers, configurationNumbers}
 use Rattle.rules.specs.Profiles.{profilesFrom, sampleTable, profileNumbers}
@@ -18,6 +18,7 @@ use Rattle.rules.specs.Tally.{noTests}
 use Rattle.rules.specs.Verdict.{offered, Finding, accepted, violated, Verdict, verdict, answerOf}
 use Rattle.rules.specs.Energy.{figuresOf, curvesOf, deskOf}
 use Rattle.rules.specs.Merge.{unequalFrom, chosen, textOf}
+use Rattle.rules.specs.Earliest.{earliest}
 use Rattle.rules.specs.declared.stated.Stated.{Stated}
 use Rattle.rules.specs.declared.sizes.Configuration.{Configuration}
 use Rattle.rules.specs.declared.answers.Refusal.{Refusal}
@@ -270,3 +271,59 @@ module _ (t : Tables) (c d text : List ℕ) where
 unfoldable pub merged :
     (merge : List Configuration → List Configuration → List Configuration) → Stated → Texts → (first second : List ℕ) → Tables → (choices secondChoices text : List ℕ) → Merged
 merged merge S x first second t c d text = mergeFrom t c d text second merge (bothRead S x first second (roomsOf t) (length c) (length d))
+
+-- ---- earliest: the proposal, and then the ordinary verdict
+
+pub record Proposed : Type 0 where
+  pub answer : Answer
+  pub tally : Tally
+  pub length : ℕ
+  pub tables : Tables
+  pub choices : List ℕ
+  pub text : List ℕ
+
+module _ (t : Tables) (c text : List ℕ) where
+  abbrev pub proposeRefused : Refusal → Proposed
+  proposeRefused r =
+      record {
+        answer = Refused r;
+        tally = noTests;
+        length = 0;
+        tables = filledTables t;
+        choices = filled unsignedFill c;
+        text = filled byteFill text;
+      }
+
+  abbrev pub proposeFitted : (fits : Bool) → (written : List ℕ) → Tally → Files → List Configuration → Proposed
+  proposeFitted false written tally f x = proposeRefused (refusal noRoom noFile 0)
+  proposeFitted true written tally f x =
+      record {
+        answer = Accepted;
+        tally = tally;
+        length = length written;
+        tables = writtenTables f t;
+        choices = writtenChoices x c;
+        text = over written text;
+      }
+
+  -- 16: room for the choices, and for the text as for merges
+  abbrev pub proposeWritten : (written : List ℕ) → Tally → Files → List Configuration → Proposed
+  proposeWritten written tally f x =
+      proposeFitted (leb (length x) (length c / configurationWidth) && (leb (length written) (length text) && leb (length written) mostText)) written tally f x
+
+  -- what is not accepted is no solution; that every proposal is accepted is a theorem (`earliest_theorems`)
+  abbrev pub proposeJudged : Finding → Tally → Files → List Configuration → Proposed
+  proposeJudged accepted tally f x = proposeWritten (textOf (chosen (f .rows) x)) tally f x
+  proposeJudged (violated v) tally f x = proposeRefused (refusal noSolution noFile 0)
+
+  -- 19
+  abbrev pub proposeFound : Option (List Configuration) → Files → Proposed
+  proposeFound none f = proposeRefused (refusal noSolution noFile 0)
+  proposeFound (some x) f = proposeJudged (verdictOf f x .finding) (verdictOf f x .tally) f x
+
+  abbrev pub proposeFrom : Reading Files → Proposed
+  proposeFrom (refused r) = proposeRefused r
+  proposeFrom (good f) = proposeFound (earliest (f .rows) (ordered (f .document .constraints))) f
+
+unfoldable pub proposed : Stated → Texts → Tables → (choices text : List ℕ) → Proposed
+proposed S x t c text = proposeFrom t c text (filesOf S x (roomsOf t))

@@ -15,6 +15,7 @@ pub mod Tally
 pub mod Verdict
 pub mod Energy
 pub mod Merge
+pub mod Earliest
 pub mod Display
 pub mod Entries
 pub mod Duties
@@ -22,6 +23,7 @@ pub mod Duties
 pub mod Computed
 pub mod Examples
 pub mod DutyExamples
+pub mod EarliestExamples
 -- What the code's constructors answer, and the numbers that its constants are.
 pub mod Made
 pub mod Ties

@@ -7,13 +7,14 @@ use lib.IntN.{ℤ}
 use Rattle.rules.specs.Answers.{valuesOf, toldValues}
 use Rattle.rules.specs.Reading.{Texts}
 use Rattle.rules.specs.Merge.{mergeOf}
-use Rattle.rules.specs.Entries.{Tables, checked, reported, merged}
+use Rattle.rules.specs.Entries.{Tables, checked, reported, merged, proposed}
 use Rattle.rules.specs.Duties.{dutiesChecked}
 use Rattle.rules.specs.declared.stated.Stated.{Stated}
 use Rattle.rules.specs.declared.outcomes.Checked.{Checked}
 use Rattle.rules.specs.declared.outcomes.Report.{Report}
 use Rattle.rules.specs.declared.outcomes.Merged.{Merged}
 use Rattle.rules.specs.declared.outcomes.Direction.{Direction}
+use Rattle.rules.specs.declared.outcomes.Proposed.{Proposed}
 use Rattle.rules.specs.declared.outcomes.Duties.{Duties}
 
 -- In each: what is stated, S, the files' texts x, and the solution, or two of them, a and b; as they were lent, the tables t and the choices c, with the curves p, or with the second
@@ -48,6 +49,16 @@ pub record Merges (direction : Direction) (S : Stated) (x : Texts) (a b : List �
   pub choices : c′ ≡ merged (mergeOf direction) S x a b t c d w .choices
   pub second : d′ ≡ merged (mergeOf direction) S x a b t c d w .second
   pub text : w′ ≡ merged (mergeOf direction) S x a b t c d w .text
+
+-- `earliest`
+pub record Proposes (S : Stated) (x : Texts) (t : Tables) (c w : List ℕ) (r : Proposed) (t′ : Tables) (c′ w′ : List ℕ) : Type 0 where
+  pub answer : r .answer ≡ proposed S x t c w .answer
+  pub values : valuesOf (r .answer) ≡ valuesOf (proposed S x t c w .answer)
+  pub tally : r .tally ≡ proposed S x t c w .tally
+  pub length : r .length ≡ proposed S x t c w .length
+  pub tables : t′ ≡ proposed S x t c w .tables
+  pub choices : c′ ≡ proposed S x t c w .choices
+  pub text : w′ ≡ proposed S x t c w .text
 
 -- `check_duties`: the text; the nodes n and the balance z as they were lent
 pub record ChecksDuties (text n : List ℕ) (z : List ℤ) (r : Duties) (n′ : List ℕ) (z′ : List ℤ) : Type 0 where

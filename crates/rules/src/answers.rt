@@ -64,6 +64,8 @@ impl Refusal {
 
     pub const TRAVEL: u8 = 17;
 
+    pub const NO_SOLUTION: u8 = 19;
+
     pub const UNKNOWN_EDITION: u8 = 21;
 
     pub fn new(number: u8, file: u8, place: u32) -> Refusal

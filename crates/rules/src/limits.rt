@@ -90,7 +90,7 @@ pub fn signed_fill_is_the_law() -> [i32; 1]
 }
 
 // The numbers of refusals, and the files.
-const NUMBERS: [u64; 25] = [
+const NUMBERS: [u64; 26] = [
     Refusal::HORIZON as u64,
     Refusal::TOO_LONG as u64,
     Refusal::HEADER as u64,
@@ -108,6 +108,7 @@ const NUMBERS: [u64; 25] = [
     Refusal::NO_SUBNET as u64,
     Refusal::ROOM as u64,
     Refusal::TRAVEL as u64,
+    Refusal::NO_SOLUTION as u64,
     Refusal::UNKNOWN_EDITION as u64,
     File::NONE as u64,
     File::TIMETABLE as u64,
@@ -118,7 +119,7 @@ const NUMBERS: [u64; 25] = [
     File::DUTIES as u64,
 ];
 
-pub fn numbers_are_the_laws() -> [u64; 25]
+pub fn numbers_are_the_laws() -> [u64; 26]
     ensures { λ r. ⌜ r ≡ numbers ⌝ }
 {
     NUMBERS

@@ -26,6 +26,13 @@ pub struct Merged {
     pub length: usize,
 }
 
+// What `earliest` gives back: the length is that of the timetable it wrote, the tally that of the proposal's verdict; both are 0 on a refusal.
+pub struct Proposed {
+    pub answer: Answer,
+    pub tally: Tally,
+    pub length: usize,
+}
+
 // What `check_duties` gives back.
 pub struct Duties {
     pub answer: Told,

@@ -1,10 +1,14 @@
 // Bytes and whole numbers, written at a place of a lent buffer. Each function answers the place after the whole text, as if there were room:
 // so a caller knows afterwards how long the text is, and whether it fits. Merged timetables and the words of an answer are written by it.
 ghost use mathlib.Core.Path.{_≡_};
+ghost use mathlib.Core.Bool.{_&&_};
 ghost use Prim.Native.Nat.{_+_, min};
 ghost use mathlib.Core.List.{_∷_, []};
+ghost use lib.Dec.{leb};
+ghost use Rattle.rules.specs.Limits.{mostText};
 ghost use Rattle.rules.specs.Bytes.{spelled};
 ghost use Rattle.text_write.specs.Written.{lastPlace, Written};
+use rules::sizes::Text;
 
 // The place after, or the last place there is.
 fn next(at: usize) -> usize
@@ -58,4 +62,11 @@ pub fn put_number(buffer: &mut [u8], at: usize, n: u32) -> usize
     }
     digits[k] = b'0' + left as u8;
     put_bytes(buffer, at, &digits[k..])
+}
+
+// Whether a text that was written is no longer than its buffer, and no longer than a text may be: 16 asks it, of merges and of proposals.
+pub fn fits(length: usize, room: usize) -> bool
+    ensures { λ r. ⌜ r ≡ (leb length room && leb length mostText) ⌝ }
+{
+    length <= room && length <= Text::MOST
 }

@@ -13,19 +13,18 @@ use Rattle.verdict.specs.Found.{findingOf}
 use Rattle.verdict.specs.declared.records.Finding.{Finding}
 use Rattle.verdict.specs.declared.records.Finding.the-variants.{Fails}
 
--- ---- a record over the choices s
+-- ---- a record over the choices of its two rows
 
-module _ (s : List Configuration) (c : Constraint) where
-  abbrev inequalitiesOf : Kind → Configuration → Configuration → List Inequality
-  inequalitiesOf row one two = byAnchors row (c .low) (c .high) (c .connection) one two
+module _ (c : Constraint) (one two : Configuration) where
+  abbrev inequalitiesOf : Kind → List Inequality
+  inequalitiesOf row = byAnchors row (c .low) (c .high) (c .connection) one two
 
   abbrev found : Finding
-  found = findingOf (inequalities s c)
+  found = findingOf (ruleOf (c .kind) (c .low) (c .high) (c .connection) one two)
 
   -- by another rule for its kind
-  other : (rule : Rule) → ruleOf (c .kind) ≡ rule
-      → findingOf (rule (c .low) (c .high) (c .connection) (choiceAt s (c .first)) (choiceAt s (c .second))) ≡ found
-  other rule e = sym (ap (λ (r : Rule). findingOf (r (c .low) (c .high) (c .connection) (choiceAt s (c .first)) (choiceAt s (c .second)))) e)
+  other : (rule : Rule) → ruleOf (c .kind) ≡ rule → findingOf (rule (c .low) (c .high) (c .connection) one two) ≡ found
+  other rule e = sym (ap (λ (r : Rule). findingOf (r (c .low) (c .high) (c .connection) one two)) e)
 
   pub no-kind : c .kind < headway → Fails 1 1 ≡ found
   no-kind h = other noRule (before-kinds (c .kind) h)
@@ -33,14 +32,17 @@ module _ (s : List Configuration) (c : Constraint) where
   pub no-such-kind : connection < c .kind → Fails 1 1 ≡ found
   no-such-kind h = other noRule (past-kinds (c .kind) h)
 
-  -- row, one and two are what was read, v what was found of them
-  pub by-table : 1 ≤ c .kind → c .kind ≤ connection → (row : Kind) → row ≡ kindAt (c .kind - 1)
-      → (one : Configuration) → one ≡ choiceAt s (c .first) → (two : Configuration) → two ≡ choiceAt s (c .second)
-      → (v : Finding) → v ≡ findingOf (inequalitiesOf row one two) → v ≡ found
-  by-table l h row er one e₁ two e₂ v ev =
+  -- row is what was read, v what was found of it
+  pub by-table : 1 ≤ c .kind → c .kind ≤ connection → (row : Kind) → row ≡ kindAt (c .kind - 1) → (v : Finding) → v ≡ findingOf (inequalitiesOf row) → v ≡ found
+  by-table l h row er v ev =
       let e : suc (c .kind - 1) ≡ c .kind = omega arith in
       ev
-      ∙ ap (λ (k : Kind). findingOf (inequalitiesOf k one two)) er
-      ∙ ap₂ (λ (x : Configuration) (y : Configuration). findingOf (inequalitiesOf (kindAt (c .kind - 1)) x y)) e₁ e₂
-      ∙ ap findingOf (kinds-rule (c .low) (c .high) (c .connection) (choiceAt s (c .first)) (choiceAt s (c .second)) (c .kind - 1))
-      ∙ ap (λ k. findingOf (ruleOf k (c .low) (c .high) (c .connection) (choiceAt s (c .first)) (choiceAt s (c .second)))) e
+      ∙ ap (λ (k : Kind). findingOf (inequalitiesOf k)) er
+      ∙ ap findingOf (kinds-rule (c .low) (c .high) (c .connection) one two (c .kind - 1))
+      ∙ ap (λ k. findingOf (ruleOf k (c .low) (c .high) (c .connection) one two)) e
+
+-- one and two are the choices that s has for its rows
+pub by-choices : (s : List Configuration) (c : Constraint) (one two : Configuration) → one ≡ choiceAt s (c .first) → two ≡ choiceAt s (c .second)
+    → (v : Finding) → v ≡ findingOf (ruleOf (c .kind) (c .low) (c .high) (c .connection) one two) → v ≡ findingOf (inequalities s c)
+by-choices s c one two e₁ e₂ v ev =
+    ev ∙ ap₂ (λ (x : Configuration) (y : Configuration). findingOf (ruleOf (c .kind) (c .low) (c .high) (c .connection) x y)) e₁ e₂

@@ -3,7 +3,7 @@ ghost use mathlib.Core.Bool.{false};
 ghost use mathlib.Core.Path.{_≡_};
 ghost use Prim.Native.Nat.{_-_};
 ghost use Rattle.rules.specs.Limits.{mostLegs};
-ghost use Rattle.rules.specs.Kinds.{anchored, measured, byAnchor, byAnchors, notOffered};
+ghost use Rattle.rules.specs.Kinds.{anchored, measured, byAnchor, byAnchors, ruleOf, notOffered};
 ghost use Rattle.rules.specs.Verdict.{choiceAt, inequalities, test, positionAfter, recordTests, verdictFrom, answerOf, ruling};
 ghost use Rattle.rules.specs.Verdict.{violated as found};
 ghost use Rattle.tables_views.specs.View.{constraintsIn, configurationsIn};
@@ -138,13 +138,11 @@ pub fn choice_of(choices: &[u32], n: usize, row: usize) -> Configuration
     }
 }
 
-// A record by its kind's row of the table. Another number than a kind's has one inequality, which cannot hold.
-pub fn judge_record(c: Constraint, choices: &[u32], n: usize) -> Finding
-    ensures { λ r. ⌜ r ≡ findingOf (inequalities (configurationsIn n (now (choices .entry))) c) ⌝ }
+// A record by its kind's row of the table, over the choices of its two rows. Another number than a kind's has one inequality, which cannot hold.
+pub fn find_record(c: Constraint, one: Configuration, two: Configuration) -> Finding
+    ensures { λ r. ⌜ r ≡ findingOf (ruleOf (c .kind) (c .low) (c .high) (c .connection) one two) ⌝ }
 {
     let kind = c.kind as usize;
-    let first = c.first as usize;
-    let second = c.second as usize;
     let unknown = Finding::Fails(1, CANNOT_HOLD);
     if kind < 1 {
         return unknown;
@@ -153,9 +151,15 @@ pub fn judge_record(c: Constraint, choices: &[u32], n: usize) -> Finding
         return unknown;
     }
     let row = rules::kinds::kind_at(kind - 1);
-    let one = choice_of(choices, n, first);
-    let two = choice_of(choices, n, second);
     first_failing(row, c, one, two)
+}
+
+pub fn judge_record(c: Constraint, choices: &[u32], n: usize) -> Finding
+    ensures { λ r. ⌜ r ≡ findingOf (inequalities (configurationsIn n (now (choices .entry))) c) ⌝ }
+{
+    let one = choice_of(choices, n, c.first as usize);
+    let two = choice_of(choices, n, c.second as usize);
+    find_record(c, one, two)
 }
 
 // How many inequalities were tested.

@@ -1,7 +1,7 @@
--- `merge_order::fits` meets its contract. Assumes nothing.
+-- `text_write::fits` meets its contract. Assumes nothing.
 use borrow.Author.Tests.{le-leb, lt-leb}
-use Rattle.merge_order.proofs.fits.Statement.{statement}
-use Rattle.merge_order.proofs.fits.Tie as tie
+use Rattle.text_write.proofs.fits.Statement.{statement}
+use Rattle.text_write.proofs.fits.Tie as tie
 
 returns : tie.Need-returns
 returns c = rw (le-leb ((c .before) .args .length) ((c .before) .args .room) (c .if1 .taken))

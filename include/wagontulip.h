@@ -1,13 +1,13 @@
 /*
- * Wagontulip for C: a checker for metro timetables whose answers are proved.
+ * Wagontulip for C: a checker for metro timetables and rolling stock duties whose answers are proved.
  *
  * Link the library's archive (x86-64 Linux), target/staticlib/libexports.a, which `rt staticlib exports` writes; `host/build` does it. Of other
  * libraries the archive needs C's memcpy and memset alone.
  *
  *     LABEL, to be printed above every result: no violation shown is not no violation.
  *
- * Every function judges its own input. Any bytes in any text end in one of three answers: accepted, the first violation, or a numbered refusal. The promise
- * of each is stated and proved beside its code; the numbers are those of document 01.
+ * Every function judges its own input. Any bytes in any text end in one of three answers: accepted, the first violation, or a numbered refusal; of the
+ * duties the violation is the first row that breaks a rule. The promise of each is stated and proved beside its code; the numbers are those of document 01.
  *
  * Texts and tables. A text or a table is two arguments, a pointer and how many elements it has: bytes of a text, numbers of a table. The caller owns them all.
  *   - A text is only read. Texts may overlap each other.
@@ -20,10 +20,12 @@
  *   - accepted: what was read; past the last entry, or past a written text, a table keeps its contents.
  *   - violated: the same, but a text buffer is all zero bytes, and a curve table is all -2,147,483,648.
  *   - refused:  every unsigned table is all 4,294,967,295, every signed one all -2,147,483,648, a text buffer all zero bytes.
+ *   - broken, of the duties: as refused.
  *
  * The functions keep no state, allocate nothing, do no input or output, and never end the process: they are reentrant, and may run in as many threads as
  * there are sets of tables. They need little stack, however long the texts are, since nothing recurses: wagontulip_energy ends with less than 11 KiB on the
- * largest underground instance (24,543 legs), and the others take less than 3 KiB. `host/speed/whole/run stack` measures it.
+ * largest underground instance (24,543 legs), wagontulip_duties takes less than 65 KiB on any text, 64 of them for the places of the duties that it has seen,
+ * and the others take less than 3 KiB. `host/speed/whole/run stack` measures it.
  */
 #ifndef WAGONTULIP_H
 #define WAGONTULIP_H
@@ -42,7 +44,8 @@ enum {
     WAGONTULIP_ACCEPTED = 0, /* then what the function says */
     WAGONTULIP_VIOLATED = 1, /* then kind, position, inequality, shortfall, file */
     WAGONTULIP_REFUSED = 2,  /* then number, file, place */
-    WAGONTULIP_ROW = 3       /* then start, length */
+    WAGONTULIP_ROW = 3,      /* then start, length */
+    WAGONTULIP_BROKEN = 4    /* of wagontulip_duties alone: then row, rule, place */
 };
 
 /* The places of a violation's values. */
@@ -72,7 +75,7 @@ enum {
 /* The places of a refusal's values. */
 enum {
     WAGONTULIP_NUMBER = 1,       /* 1 to 17, by document 01's table, and 21: an edition that is not known (file 0, place 0), tested after 1 */
-    WAGONTULIP_REFUSED_FILE = 2, /* 0 none, 1 timetable, 2 profiles, 3 constraints, 4 solution, 5 second solution */
+    WAGONTULIP_REFUSED_FILE = 2, /* 0 none, 1 timetable, 2 profiles, 3 constraints, 4 solution, 5 second solution, 6 duties */
     WAGONTULIP_PLACE = 3         /* a byte of that file, from 0, or the file's length, which is no byte of it: then its end comes too soon */
 };
 
@@ -98,6 +101,26 @@ enum { WAGONTULIP_LENGTH = 1 };
 /* The places of a row's values. Both are 0 where no row starts there; a row's start never is. */
 enum { WAGONTULIP_START = 1, WAGONTULIP_ROW_LENGTH = 2 };
 
+/* The place of accepted duties' value: how many nodes the two tables have. */
+enum { WAGONTULIP_NODES = 1 };
+
+/* The places of a broken rule's values. */
+enum {
+    WAGONTULIP_BROKEN_ROW = 1,  /* the first row that breaks one, from 0, without the header */
+    WAGONTULIP_RULE = 2,        /* the lowest that it breaks, 1 to 6 */
+    WAGONTULIP_BROKEN_PLACE = 3 /* the row's first byte */
+};
+
+/* The rules of the duties (document 02, E13). */
+enum {
+    WAGONTULIP_RULE_LATER = 1,    /* every event ends after it starts */
+    WAGONTULIP_RULE_STAYS = 2,    /* only a TRAIN event may end at a node other than its start */
+    WAGONTULIP_RULE_TOGETHER = 3, /* the rows of one duty stand together */
+    WAGONTULIP_RULE_SEQUENCE = 4, /* SEQ runs from 1 in each duty */
+    WAGONTULIP_RULE_MEETS = 5,    /* each event starts at the time and node at which the one before it in its duty ended */
+    WAGONTULIP_RULE_TEXTS = 6     /* the HHMMSS columns match the seconds */
+};
+
 /* The places in `rooms`. */
 enum {
     WAGONTULIP_LEGS_ROOM = 0,
@@ -109,7 +132,9 @@ enum {
     WAGONTULIP_CHOICES_ROOM = 6,
     WAGONTULIP_SECOND_CHOICES_ROOM = 7,
     WAGONTULIP_CURVES_ROOM = 8,
-    WAGONTULIP_TEXT_ROOM = 9 /* in bytes; the others in numbers */
+    WAGONTULIP_TEXT_ROOM = 9, /* in bytes; the others in numbers */
+    WAGONTULIP_NODES_ROOM = 10,
+    WAGONTULIP_BALANCE_ROOM = 11
 };
 
 /*
@@ -121,7 +146,8 @@ void wagontulip_rooms(uint64_t rooms[WAGONTULIP_NUMBERS]);
 /*
  * The tables. Leg: five ids, first configuration, count, place of the nominal in its list (8 numbers). Configuration and choice: departure, travel time,
  * profile id (3). Profile: id, first sample, count (3). Sample: kW (1). Constraint: kind, first row, second row, low, high, type (6). Track: id, place of its
- * subnet (2). Curve: H numbers in kW for each subnet, one subnet after the other.
+ * subnet (2). Curve: H numbers in kW for each subnet, one subnet after the other. Node: the first byte of its name in the text, where it is first seen, and how
+ * long the name is (2). Balance: duties ending at the node less duties starting there (1).
  */
 
 /*
@@ -166,7 +192,18 @@ void wagontulip_merge_later(uint32_t h, uint32_t edition, const uint8_t *timetab
                             size_t choices_room, uint32_t *second_choices, size_t second_choices_room, uint8_t *text, size_t text_room,
                             uint64_t answer[WAGONTULIP_NUMBERS]);
 
-/* For display: the row at a refusal's file and place, without its LF or CR LF, in the draft for file 1 and in the solution for file 4. The code is WAGONTULIP_ROW. */
+/*
+ * Do rolling stock duties keep the six rules? Nothing is stated. The whole text is read before a rule is judged, so a refusal (2, 3, 4, 5, 6, 10 or 16, of file
+ * 6) comes before a broken rule. Accepted, `nodes` and `balance` have an entry for each node, in order of first sight, a row's start before its end; over all
+ * nodes the balances add up to zero. Room is the lesser of half of `nodes_room` and of `balance_room`.
+ */
+void wagontulip_duties(const uint8_t *text, size_t text_length, uint32_t *nodes, size_t nodes_room, int32_t *balance, size_t balance_room,
+                       uint64_t answer[WAGONTULIP_NUMBERS]);
+
+/*
+ * For display: the row at a refusal's file and place, without its LF or CR LF, in the draft for file 1 and in the solution for file 4. The code is WAGONTULIP_ROW.
+ * Any CSV text may stand for the draft, a duty file too.
+ */
 void wagontulip_row(const uint8_t *draft, size_t draft_length, const uint8_t *solution, size_t solution_length, uint8_t file, uint32_t place,
                     uint64_t answer[WAGONTULIP_NUMBERS]);
 

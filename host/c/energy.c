@@ -5,36 +5,9 @@
  *
  * prints the label and the answer's numbers. Exit status: the answer's code, or 3 where there is none.
  */
-#include "wagontulip.h"
+#include "given.h"
 
-#include <inttypes.h>
-#include <stdio.h>
-#include <stdlib.h>
 #include <string.h>
-
-enum { COULD_NOT_RUN = 3 };
-
-struct text {
-    uint8_t *bytes;
-    size_t length;
-};
-
-/* A file, whole, or one byte more than a text may have: that is refused for its length, whatever follows. */
-static struct text read_text(const char *name, uint64_t most) {
-    struct text text = {malloc(most + 1), 0};
-    FILE *file = fopen(name, "rb");
-    if (text.bytes == NULL || file == NULL) {
-        perror(name);
-        exit(COULD_NOT_RUN);
-    }
-    text.length = fread(text.bytes, 1, most + 1, file);
-    if (ferror(file)) {
-        perror(name);
-        exit(COULD_NOT_RUN);
-    }
-    fclose(file);
-    return text;
-}
 
 /* A whole number with no needless zero. One past 32 bits is out of range or not known, as the greatest of 32 bits is. */
 static uint32_t number(const char *name, const char *word) {
@@ -45,16 +18,6 @@ static uint32_t number(const char *name, const char *word) {
     }
     unsigned long long value = strtoull(word, NULL, 10);
     return value > UINT32_MAX ? UINT32_MAX : (uint32_t)value;
-}
-
-/* Room for so many 32-bit numbers, at least one. */
-static void *lend(uint64_t numbers) {
-    void *room = calloc(numbers == 0 ? 1 : numbers, sizeof(uint32_t));
-    if (room == NULL) {
-        perror("room");
-        exit(COULD_NOT_RUN);
-    }
-    return room;
 }
 
 int main(int count, char **words) {
@@ -81,9 +44,6 @@ int main(int count, char **words) {
                       lend(rooms[WAGONTULIP_CHOICES_ROOM]), rooms[WAGONTULIP_CHOICES_ROOM], lend(rooms[WAGONTULIP_CURVES_ROOM]),
                       rooms[WAGONTULIP_CURVES_ROOM], answer);
 
-    puts("no violation shown is not no violation");
-    for (int place = 0; place < WAGONTULIP_NUMBERS; place++) {
-        printf("%" PRIu64 "%c", answer[place], place + 1 < WAGONTULIP_NUMBERS ? ' ' : '\n');
-    }
+    print_answer(answer);
     return (int)answer[0];
 }

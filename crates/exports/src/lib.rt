@@ -2,5 +2,6 @@
 pub mod verdicts; // wagontulip_check
 pub mod energies; // wagontulip_energy
 pub mod merges; // wagontulip_merge_earlier, wagontulip_merge_later
+pub mod duty; // wagontulip_duties
 pub mod display; // wagontulip_row
 pub mod rooms; // wagontulip_rooms

@@ -1,3 +1,4 @@
 pub mod Numbers
 pub mod Places
+pub mod Duties
 pub mod Exported

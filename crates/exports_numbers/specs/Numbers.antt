@@ -4,7 +4,7 @@ use mathlib.Core.List.{List, [], _∷_, _++_}
 use lib.ListN.{getD, replicate}
 use mir.Syntax.{w64}
 use mir.Val.{ofZ}
-use Rattle.rules.specs.Limits.{mostHorizon, mostText, mostLegs, legWidth, mostConfigurations, configurationWidth, mostProfiles, profileWidth, mostSamples, mostConstraints, constraintWidth, mostSubnets, mostTracks, trackWidth}
+use Rattle.rules.specs.Limits.{mostHorizon, mostText, mostLegs, legWidth, mostConfigurations, configurationWidth, mostProfiles, profileWidth, mostSamples, mostConstraints, constraintWidth, mostSubnets, mostTracks, trackWidth, mostNodes, nodeWidth}
 use Rattle.rules.specs.Kinds.{notOffered, headway, singleTrack, dwell, turnaround, connection}
 use Rattle.rules.specs.Answers.{valuesOf}
 use Rattle.rules.specs.Lists.{over}
@@ -105,7 +105,7 @@ mergeNumbers r = answerNumbers (acceptedCode ∷ r .length ∷ []) (r .tally) (r
 abbrev pub rowNumbers : (start length : ℕ) → List ℕ
 rowNumbers start length = untested (rowCode ∷ start ∷ length ∷ [])
 
--- the numbers of each lent table at the limits, and the bytes of the lent text
+-- the numbers of each lent table at the limits, and the bytes of the lent text; then the nodes and the balance of the duties
 abbrev pub roomNumbers : List ℕ
 roomNumbers =
     untested
@@ -119,4 +119,6 @@ roomNumbers =
     ∷ mostLegs * configurationWidth
     ∷ mostSubnets * mostHorizon
     ∷ mostText
+    ∷ mostNodes * nodeWidth
+    ∷ mostNodes
     ∷ [])

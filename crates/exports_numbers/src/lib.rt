@@ -9,6 +9,7 @@ use rules::answers::Tally;
 
 pub mod answers; // of a check, a merge and a row
 pub mod figures; // of a report
+pub mod duties; // of rolling stock duties
 pub mod rooms; // the room of each table
 pub mod tallies; // how much was tested
 
@@ -39,6 +40,8 @@ impl Code {
     pub const REFUSED: u64 = 2;
 
     pub const ROW: u64 = 3;
+
+    pub const BROKEN: u64 = 4;
 }
 
 // The values stand from a place on, and the other numbers are as they were.

@@ -7,13 +7,14 @@ use rules::sizes::Configuration;
 use rules::sizes::Constraint;
 use rules::sizes::Horizon;
 use rules::sizes::Leg;
+use rules::sizes::Node;
 use rules::sizes::Profile;
 use rules::sizes::Sample;
 use rules::sizes::Subnet;
 use rules::sizes::Text;
 use rules::sizes::Track;
 
-// In the order of the entries' parameters: legs, configurations, profiles, samples, constraints, tracks, choices, second choices, curves; and the bytes of the text.
+// In the order of the entries' parameters: legs, configurations, profiles, samples, constraints, tracks, choices, second choices, curves; the bytes of the text; nodes and balance.
 pub fn at_limits() -> Numbers
     ensures { λ r. ⌜ r ≡ roomNumbers ⌝ }
 {
@@ -31,6 +32,8 @@ pub fn at_limits() -> Numbers
             choices as u64,
             curves as u64,
             Text::MOST as u64,
+            (Node::MOST * Node::WIDTH) as u64,
+            Node::MOST as u64,
         ],
     )
 }

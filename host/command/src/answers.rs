@@ -21,7 +21,7 @@ impl<T> Answer<T> {
     }
 }
 
-/// The files, by document 01's numbers.
+/// The files, by the documents' numbers.
 #[derive(Clone, Copy, Debug, PartialEq, Eq)]
 pub enum File {
     None,
@@ -30,10 +30,13 @@ pub enum File {
     Constraints,
     Solution,
     SecondSolution,
+    /// Document 02's E13.
+    Duties,
 }
 
 impl File {
-    const ALL: [File; 6] = [File::None, File::Timetable, File::Profiles, File::Constraints, File::Solution, File::SecondSolution];
+    const ALL: [File; 7] =
+        [File::None, File::Timetable, File::Profiles, File::Constraints, File::Solution, File::SecondSolution, File::Duties];
 
     pub fn number(self) -> u8 {
         self as u8
@@ -141,8 +144,8 @@ impl Reason {
         Reason::ALL.into_iter().find(|reason| u64::from(reason.number()) == number)
     }
 
-    /// When it is given, in the documents' words.
-    pub fn meaning(self) -> &'static str {
+    /// When it is given of a timetable's files, in the documents' words.
+    fn meaning(self) -> &'static str {
         match self {
             Reason::Horizon => "H out of range",
             Reason::TooLong => "text too long",
@@ -172,6 +175,17 @@ pub struct Refusal {
     pub reason: Reason,
     pub file: File,
     pub place: u32,
+}
+
+impl Refusal {
+    /// When it is given, in the documents' words: of the duties, document 02's.
+    pub fn meaning(&self) -> &'static str {
+        match (self.file, self.reason) {
+            (File::Duties, Reason::Range) => "number out of range",
+            (File::Duties, Reason::UnknownName) => "unknown event type",
+            (_, reason) => reason.meaning(),
+        }
+    }
 }
 
 /// Whole kJ, exact, the fluctuation in kW, the four doubles of the operator's desk tool, and the first quarters that have the peaks. The horizon may cut the
@@ -211,7 +225,7 @@ impl fmt::Display for Unknown {
 
 impl std::error::Error for Unknown {}
 
-fn unknown(numbers: Numbers) -> Unknown {
+pub(crate) fn unknown(numbers: Numbers) -> Unknown {
     Unknown(Box::new(numbers))
 }
 
@@ -224,11 +238,11 @@ const TESTED: usize = 16;
 /// What an export answers: a code, then the values, then how much was tested; unused ones are 0.
 pub type Numbers = [u64; NUMBERS];
 
-type Values = [u64; TESTED - 1];
+pub(crate) type Values = [u64; TESTED - 1];
 
-const ACCEPTED: u64 = 0;
+pub(crate) const ACCEPTED: u64 = 0;
 const VIOLATED: u64 = 1;
-const REFUSED: u64 = 2;
+pub(crate) const REFUSED: u64 = 2;
 const ROW: u64 = 3;
 
 /// The numbers as an answer and its tests; an accepted one gives its values, of which only the first `values` may be other than 0.
@@ -238,7 +252,7 @@ fn ruling(numbers: &Numbers, values: usize) -> Option<Ruling<Values>> {
     let (used, answer) = match code {
         ACCEPTED => (values, Answer::Accepted(given)),
         VIOLATED => (5, Answer::Violated(violation(&given)?)),
-        REFUSED => (3, Answer::Refused(refusal(&given)?)),
+        REFUSED => (3, Answer::Refused(refusal(&given).filter(|refusal| refusal.file != File::Duties)?)),
         _ => return None,
     };
     let ruling = Ruling { answer, tally: Tally::read(tested)? };
@@ -261,7 +275,7 @@ fn violation(given: &Values) -> Option<Violation> {
     })
 }
 
-fn refusal(given: &Values) -> Option<Refusal> {
+pub(crate) fn refusal(given: &Values) -> Option<Refusal> {
     Some(Refusal { reason: Reason::of(given[0])?, file: File::of(given[1])?, place: u32::try_from(given[2]).ok()? })
 }
 
@@ -352,6 +366,7 @@ mod tests {
         let of_each_kind = |first: &[u64]| tested(first, [1; 6]);
         let others = [
             numbers(&[3]),
+            numbers(&[4, 0, 1, 129]),
             numbers(&[0, 1]),
             of_each_kind(&[1, 6, 0, 1, 1, 4]),
             of_each_kind(&[1, 2, 0, 2, 1, 4]),

@@ -1,6 +1,7 @@
 //! The safe entries.
 
 use crate::answers::{self, Energies, File, Numbers, Unknown};
+use crate::duties::{self, Duties};
 use crate::exports;
 use crate::room::{NoRoom, Room, Rooms};
 use crate::stated::Stated;
@@ -56,6 +57,12 @@ impl Checker {
     pub fn merge_later(&mut self, stated: Stated, files: &Files, first: &[u8], second: &[u8]) -> Result<Ruling<&[u8]>, Unknown> {
         let numbers = exports::merge_later(stated, files.timetable, files.profiles, files.constraints, first, second, &mut self.room);
         self.written(numbers)
+    }
+
+    /// Rolling stock duties, with the balance of each node where they are accepted.
+    pub fn duties<'a>(&mut self, text: &'a [u8]) -> Result<Duties<'a>, Unknown> {
+        let numbers = exports::duties(text, &mut self.room);
+        duties::checked(numbers, text, &self.room.nodes, &self.room.balance)
     }
 
     fn written(&self, numbers: Numbers) -> Result<Ruling<&[u8]>, Unknown> {

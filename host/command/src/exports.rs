@@ -36,6 +36,20 @@ entry!(merge_earlier is wagontulip_merge_earlier(timetable, profiles, constraint
 entry!(merge_later is wagontulip_merge_later(timetable, profiles, constraints, first, second)
     filling legs: u32, configurations: u32, profiles: u32, samples: i32, constraints: u32, tracks: u32, choices: u32, second_choices: u32, text: u8);
 
+/// Rolling stock duties, of which nothing is stated.
+pub fn duties(text: &[u8], room: &mut Room) -> Numbers {
+    extern "C" {
+        fn wagontulip_duties(text: *const u8, _: usize, nodes: *mut u32, _: usize, balance: *mut i32, _: usize, answer: *mut Numbers);
+    }
+    let (nodes, balance) = (&mut room.nodes, &mut room.balance);
+    let mut answer = UNWRITTEN;
+    // Safe: as for an entry above.
+    unsafe {
+        wagontulip_duties(text.as_ptr(), text.len(), nodes.as_mut_ptr(), nodes.len(), balance.as_mut_ptr(), balance.len(), &mut answer)
+    };
+    answer
+}
+
 /// Start and length of the row at a refusal's file and place.
 pub fn row(draft: &[u8], solution: &[u8], file: u8, place: u32) -> Numbers {
     extern "C" {

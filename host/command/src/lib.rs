@@ -5,6 +5,7 @@
 
 mod answers;
 mod checker;
+mod duties;
 mod exports;
 mod room;
 mod stated;
@@ -12,6 +13,7 @@ mod tally;
 
 pub use answers::{Answer, Energies, Figures, File, Kind, Reason, Refusal, Unknown, Violation};
 pub use checker::{row_at, Checker, Files};
+pub use duties::{Broken, Duties, Node, Rule};
 pub use room::{Counts, NoRoom, Room, Rooms, Table, CONFIGURATION, CONSTRAINT, LEG};
 pub use stated::{Edition, Stated};
 pub use tally::{Ruling, Tally};

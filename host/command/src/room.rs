@@ -5,7 +5,7 @@ use std::alloc::{alloc_zeroed, Layout};
 use std::fmt;
 use std::ops::{Index, IndexMut};
 
-/// The tables, and the merged text, in the order in which the library counts them.
+/// The tables, the merged text, and the two tables of the duties, in the order in which the library counts them.
 #[derive(Clone, Copy, Debug, PartialEq, Eq)]
 pub enum Table {
     Legs,
@@ -18,10 +18,12 @@ pub enum Table {
     SecondChoices,
     Curves,
     Text,
+    Nodes,
+    Balance,
 }
 
 impl Table {
-    pub const ALL: [Table; 10] = [
+    pub const ALL: [Table; 12] = [
         Table::Legs,
         Table::Configurations,
         Table::Profiles,
@@ -32,6 +34,8 @@ impl Table {
         Table::SecondChoices,
         Table::Curves,
         Table::Text,
+        Table::Nodes,
+        Table::Balance,
     ];
 
     pub fn name(self) -> &'static str {
@@ -46,6 +50,8 @@ impl Table {
             Table::SecondChoices => "second_choices",
             Table::Curves => "curves",
             Table::Text => "text",
+            Table::Nodes => "nodes",
+            Table::Balance => "balance",
         }
     }
 
@@ -59,10 +65,15 @@ impl Table {
 pub struct Rooms([usize; Table::ALL.len()]);
 
 impl Rooms {
+    /// No room at all.
+    pub fn none() -> Rooms {
+        Rooms([0; Table::ALL.len()])
+    }
+
     /// The room of each table at document 01's sizes, as the library says it.
     pub fn at_the_limits() -> Rooms {
         let numbers = exports::rooms();
-        let mut rooms = Rooms([0; Table::ALL.len()]);
+        let mut rooms = Rooms::none();
         for table in Table::ALL {
             rooms[table] = numbers[table as usize] as usize;
         }
@@ -112,6 +123,8 @@ pub struct Room {
     pub second_choices: Vec<u32>,
     pub curves: Vec<i32>,
     pub text: Vec<u8>,
+    pub nodes: Vec<u32>,
+    pub balance: Vec<i32>,
 }
 
 impl Room {
@@ -128,6 +141,8 @@ impl Room {
             second_choices: zeros(rooms, Table::SecondChoices)?,
             curves: zeros(rooms, Table::Curves)?,
             text: zeros(rooms, Table::Text)?,
+            nodes: zeros(rooms, Table::Nodes)?,
+            balance: zeros(rooms, Table::Balance)?,
         })
     }
 

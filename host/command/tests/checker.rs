@@ -2,10 +2,10 @@
 
 mod common;
 
-use common::{constraints, draft, dwell, solution, turnaround, H, PROFILES};
+use common::{broken_duties, constraints, draft, duties, dwell, solution, turnaround, DUTIES_HEADER, DUTY_ROWS, H, PROFILES};
 use wagontulip::{
-    row_at, Answer, Checker, Edition, Energies, File, Files, Kind, NoRoom, Reason, Refusal, Rooms, Ruling, Stated, Table, Tally, Unknown,
-    Violation,
+    row_at, Answer, Broken, Checker, Duties, Edition, Energies, File, Files, Kind, NoRoom, Node, Reason, Refusal, Rooms, Rule, Ruling,
+    Stated, Table, Tally, Unknown, Violation,
 };
 
 const STATED: Stated = Stated { horizon: H, edition: Edition::EXAMPLE };
@@ -242,4 +242,52 @@ fn a_peak_has_its_quarter() {
     assert_eq!(quarters(&draft().replace("10_4_7", "1810_4_7").replace("40_3_8", "1840_3_8")), (2_050, 2, 2));
     // Leg 1 takes more than leg 2.
     assert_eq!(quarters(&draft().replace("10_4_7", "2000_4_7")), (1_750, 2, 2));
+}
+
+/// Room for so many nodes, full of sevens.
+fn duty_room(nodes: usize, balance: usize) -> Checker {
+    let mut rooms = Rooms::none();
+    rooms[Table::Nodes] = nodes;
+    rooms[Table::Balance] = balance;
+    let mut checker = Checker::with_rooms(&rooms).unwrap();
+    checker.room.nodes.fill(7);
+    checker.room.balance.fill(7);
+    checker
+}
+
+#[test]
+fn duties_leave_their_nodes_and_balances() {
+    let text = duties();
+    let (a, b) = (text.find("A,B,").unwrap() as u32, text.find("B,TRAIN").unwrap() as u32);
+    let mut checker = duty_room(6, 3);
+    let said = checker.duties(text.as_bytes());
+    assert_eq!(said, Ok(Duties::Accepted(vec![Node { name: b"A", balance: -1 }, Node { name: b"B", balance: 1 }])));
+    assert_eq!((&checker.room.nodes[..], &checker.room.balance[..]), (&[a, 1, b, 1, 7, 7][..], &[-1, 1, 7][..]));
+    assert_eq!(checker.duties(DUTIES_HEADER.as_bytes()), Ok(Duties::Accepted(Vec::new())));
+}
+
+#[test]
+fn a_broken_rule_and_a_refusal_fill_both_tables() {
+    let filled = |checker: &Checker| {
+        assert_eq!((&checker.room.nodes[..], &checker.room.balance[..]), (&[UNSIGNED; 5][..], &[SIGNED; 3][..]));
+    };
+    for ((number, row, text), rule) in broken_duties().into_iter().zip(Rule::ALL) {
+        let place = text.match_indices('\n').nth(row).unwrap().0 as u32 + 1;
+        let mut checker = duty_room(5, 3);
+        assert_eq!(rule.number(), number);
+        assert_eq!(checker.duties(text.as_bytes()), Ok(Duties::Broken(Broken { row: row as u32, rule, place })));
+        filled(&checker);
+    }
+    let mut checker = duty_room(5, 3);
+    let place = (DUTIES_HEADER.len() + DUTY_ROWS[0].len()) as u32;
+    let text = duties().replace("CHANGE_END", "RESERVE");
+    let said = checker.duties(text.as_bytes());
+    assert_eq!(said, Ok(Duties::Refused(Refusal { reason: Reason::UnknownName, file: File::Duties, place })));
+    filled(&checker);
+    for (nodes, balance) in [(3, 2), (4, 1), (0, 0)] {
+        let refusal = Refusal { reason: Reason::Room, file: File::Duties, place: DUTIES_HEADER.len() as u32 };
+        assert_eq!(duty_room(nodes, balance).duties(duties().as_bytes()), Ok(Duties::Refused(refusal)));
+    }
+    let refusal = Refusal { reason: Reason::Header, file: File::Duties, place: 0 };
+    assert_eq!(duty_room(0, 0).duties(b""), Ok(Duties::Refused(refusal)));
 }

@@ -4,6 +4,8 @@ mod common;
 
 #[path = "command/calls.rs"]
 mod calls;
+#[path = "command/duties.rs"]
+mod duty_files;
 #[path = "command/outputs.rs"]
 mod outputs;
 

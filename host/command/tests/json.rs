@@ -4,7 +4,7 @@ mod common;
 
 use common::json::Json;
 use common::schema::Schema;
-use common::{constraints, draft, dwell, exported, solution, HEADER, PROFILES};
+use common::{broken_duties, constraints, draft, duties, dwell, exported, solution, DUTIES_HEADER, HEADER, PROFILES};
 use std::ffi::OsStr;
 use std::fs;
 use std::os::unix::ffi::OsStrExt;
@@ -154,6 +154,10 @@ fn a_wrong_object_breaks_the_schema() {
     let folder = Folder::new("wrong");
     folder.put(b"22", dwell(22));
     folder.put(b"12", solution("10_4_7", "12_3_8").replace("45_3_8", "45_3_8 12_3_8"));
+    folder.put(b"d", duties());
+    for (rule, _, text) in broken_duties() {
+        folder.put(format!("d{rule}").as_bytes(), text);
+    }
     for (words, status) in [
         ("check --json --horizon 100 t p c a", 0),
         ("energy --json --horizon 900 t p c a", 0),
@@ -162,6 +166,12 @@ fn a_wrong_object_breaks_the_schema() {
         ("merge --json --horizon 100 t p c a b --earlier x --later y", 0),
         ("check --json --horizon 100 t p 22 22", 2),
         ("check --json --horizon 100 t p", 3),
+        ("duties --json d", 0),
+        ("duties --json d5", 1),
+        ("duties --json d6", 1),
+        ("duties --json t", 2),
+        ("duties --json d --room nodes=1", 2),
+        ("duties --json", 3),
         ("row --json --file 1 --place 114 t a", 0),
         ("row --json --place 1 p", 0),
     ] {
@@ -532,4 +542,51 @@ fn no_answer_is_an_object() {
         assert!(said.starts_with(reason) && !said.contains('\n'), "{words}: {said}");
     }
     assert!(folder.run(b"check --horizon 100 t p c -- --json").stdout.is_empty());
+}
+
+#[test]
+fn duties_carry_what_the_words_carry() {
+    let folder = Folder::new("duties");
+    folder.put(b"d", duties());
+    let object = folder.object("duties --json d", 0);
+    is(&object, "read", r#"{"rows": 4, "nodes": 2}"#);
+    is(&object, "nothing_tested", "false");
+    is(&object, "balance", r#"[{"node": "A", "ending_less_starting": -1}, {"node": "B", "ending_less_starting": 1}]"#);
+    is(&object, "balance_over_all", "0");
+    folder.put(b"d", DUTIES_HEADER);
+    let object = folder.object("duties --json d", 0);
+    is(&object, "read", r#"{"rows": 0, "nodes": 0}"#);
+    is(&object, "nothing_tested", "true");
+    for (rule, row, text) in broken_duties() {
+        folder.put(b"d", &text);
+        let object = folder.object("duties --json d", 1);
+        let lines: Vec<&str> = text.lines().collect();
+        is(&object, "broken.rule", &rule.to_string());
+        is(&object, "broken.position", &row.to_string());
+        is(&object, "broken.line", &(row + 2).to_string());
+        is(&object, "broken.file", r#"{"number": 6, "role": "duties", "name": "d"}"#);
+        assert_eq!(object.at("broken.row").text(), lines[row + 1]);
+        if row == 0 {
+            is(&object, "broken.row_before", "null");
+        } else {
+            is(&object, "broken.row_before.line", &(row + 1).to_string());
+            assert_eq!(object.at("broken.row_before.row").text(), lines[row]);
+        }
+    }
+}
+
+/// Files that are cut short, and files with a byte that is none of theirs, are answered by an object that keeps the schema.
+#[test]
+fn damaged_duties_keep_the_schema() {
+    let folder = Folder::new("damaged-duties");
+    let right = duties().into_bytes();
+    let mut met = [0; 4];
+    let starts = (1..right.len()).filter(|place| right[place - 1] == b'\n');
+    for place in (0..right.len()).step_by(11).chain(starts) {
+        for wrong in [right[..place].to_vec(), [&right[..place], b"\xff", &right[place + 1..]].concat()] {
+            folder.put(b"d", wrong);
+            met[folder.judged(b"duties --json d").0 as usize] += 1;
+        }
+    }
+    assert!(met[0] > 0 && met[1] > 0 && met[2] > 0 && met[3] == 0, "{met:?}");
 }

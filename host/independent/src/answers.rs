@@ -71,7 +71,7 @@ impl Rooms {
 }
 
 /// "A refusal carries number, file (1 timetable, 2 profiles, 3 constraints, 4 solution, 5 second
-/// solution) and place."
+/// solution) and place." Duties are file 6 (document 02, E13).
 #[derive(Clone, Copy, Debug, PartialEq, Eq)]
 pub struct Refusal {
     pub number: u32,
@@ -98,6 +98,12 @@ pub enum Answer {
         file: u32,
         place: usize,
     },
+    /// Of duties alone: "the first broken row with its lowest rule" (document 02, E13), and its first byte.
+    Broken {
+        row: usize,
+        rule: u32,
+        place: usize,
+    },
 }
 
 impl From<Refusal> for Answer {
@@ -111,7 +117,7 @@ impl From<Refusal> for Answer {
 }
 
 impl Answer {
-    /// The answer as a list of numbers: 0; 1 and the violation; 2 and the refusal.
+    /// The answer as a list of numbers: 0; 1 and the violation; 2 and the refusal; 4 and the broken row.
     pub fn numbers(&self) -> Vec<i64> {
         match *self {
             Answer::Accepted => vec![0],
@@ -126,6 +132,7 @@ impl Answer {
             Answer::Refused { number, file, place } => {
                 vec![2, i64::from(number), i64::from(file), place as i64]
             }
+            Answer::Broken { row, rule, place } => vec![4, row as i64, i64::from(rule), place as i64],
         }
     }
 
@@ -137,6 +144,7 @@ impl Answer {
                 format!("violated {kind} {position} {inequality} {shortfall} {file}")
             }
             Answer::Refused { number, file, place } => format!("refused {number} {file} {place}"),
+            Answer::Broken { row, rule, place } => format!("broken {row} {rule} {place}"),
         }
     }
 }

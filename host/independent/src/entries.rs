@@ -2,6 +2,7 @@
 
 use crate::answers::{Answer, Checked, Rooms, Tally};
 use crate::display::row_at;
+use crate::duties::{check_duties, Duties};
 use crate::energy::{energy, Desk, Figures, Report};
 use crate::lent::Lent;
 use crate::merge::{merge, Direction, Merged};
@@ -16,10 +17,18 @@ pub enum Entry {
     MergeEarlier,
     MergeLater,
     Row,
+    Duties,
 }
 
 impl Entry {
-    pub const ALL: [Entry; 5] = [Entry::Check, Entry::Energy, Entry::MergeEarlier, Entry::MergeLater, Entry::Row];
+    pub const ALL: [Entry; 6] = [Entry::Check, Entry::Energy, Entry::MergeEarlier, Entry::MergeLater, Entry::Row, Entry::Duties];
+
+    /// Those that judge a solution.
+    pub const JUDGING: [Entry; 4] = [Entry::Check, Entry::Energy, Entry::MergeEarlier, Entry::MergeLater];
+
+    pub fn is_judging(self) -> bool {
+        Entry::JUDGING.contains(&self)
+    }
 
     pub fn name(self) -> &'static str {
         match self {
@@ -28,6 +37,7 @@ impl Entry {
             Entry::MergeEarlier => "merge earlier",
             Entry::MergeLater => "merge later",
             Entry::Row => "row",
+            Entry::Duties => "duties",
         }
     }
 }
@@ -37,7 +47,7 @@ impl Entry {
 pub struct Case {
     pub h: u32,
     pub edition: u32,
-    /// Timetable, profiles, constraints, solution, second solution.
+    /// Timetable, profiles, constraints, solution, second solution; duties stand where the timetable does.
     pub texts: [Vec<u8>; 5],
     pub rooms: Rooms,
 }
@@ -61,6 +71,10 @@ impl Case {
         let [t, p, c, a, b] = &self.texts;
         merge(direction, self.stated(), t, p, c, a, b, &self.rooms)
     }
+
+    pub fn duties(&self) -> Duties {
+        check_duties(&self.texts[0], &self.rooms)
+    }
 }
 
 /// A call of an entry. The file and the place are those of a row to be shown.
@@ -82,13 +96,15 @@ pub enum Said {
     Merged(Answer, Option<Tally>, usize),
     /// Start and length of the row.
     Row(usize, usize),
+    /// The answer and the count of nodes, which is 0 short of acceptance.
+    Duties(Answer, usize),
 }
 
 impl Said {
-    /// The answer, where there is one of the three.
+    /// The answer, where there is one.
     pub fn answer(&self) -> Option<Answer> {
         match self {
-            Said::Checked(answer, _) | Said::Reported(answer, ..) | Said::Merged(answer, ..) => Some(*answer),
+            Said::Checked(answer, _) | Said::Reported(answer, ..) | Said::Merged(answer, ..) | Said::Duties(answer, _) => Some(*answer),
             Said::Row(..) => None,
         }
     }
@@ -97,7 +113,7 @@ impl Said {
     pub fn tally(&self) -> Option<Tally> {
         match self {
             Said::Checked(_, tally) | Said::Reported(_, tally, ..) | Said::Merged(_, tally, _) => *tally,
-            Said::Row(..) => None,
+            Said::Row(..) | Said::Duties(..) => None,
         }
     }
 }
@@ -127,6 +143,11 @@ impl Call {
             Entry::Row => {
                 let (start, length) = self.row();
                 Said::Row(start, length)
+            }
+            Entry::Duties => {
+                let duties = self.case.duties();
+                lent.leave_duties(&duties);
+                Said::Duties(duties.answer, duties.balance.map_or(0, |balance| balance.len()))
             }
         }
     }

@@ -1,6 +1,7 @@
 //! The rooms that a caller lends, before an entry and after it.
 
 use crate::answers::{Answer, Checked, Rooms};
+use crate::duties::Duties;
 use crate::energy::Report;
 use crate::merge::Merged;
 use crate::tables::Tables;
@@ -65,6 +66,12 @@ impl Lent {
         leave(&mut self.second_choices, second, UNSIGNED_FILL);
         let text = merged.text.as_deref().filter(|_| merged.answer == Answer::Accepted);
         leave(&mut self.text, text, BYTE_FILL);
+    }
+
+    /// What duties leave in the rooms of legs and curves, which are lent to nodes and balances: both "filled unless accepted".
+    pub fn leave_duties(&mut self, duties: &Duties) {
+        leave(&mut self.legs, duties.nodes.as_deref(), UNSIGNED_FILL);
+        leave(&mut self.curves, duties.balance.as_deref(), SIGNED_FILL);
     }
 
     /// The seven tables of files and solution: as read, or filled on a refusal.

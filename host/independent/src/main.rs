@@ -1,13 +1,14 @@
 //! The command: runs the library on files. The status is 0 for every answer, and 1 where there is none.
 
 use independent::numbers::Whole;
-use independent::{check, energy, merge, Answer, Direction, Rooms, Stated, Tally};
+use independent::{check, check_duties, energy, merge, Answer, Direction, Rooms, Stated, Tally};
 use std::io::Write;
 use std::process::ExitCode;
 
 const USAGE: &str = "independent check H EDITION T P C S
 independent energy H EDITION T P C S
-independent merge earlier|later H EDITION T P C A B";
+independent merge earlier|later H EDITION T P C A B
+independent duties DUTIES";
 
 fn main() -> ExitCode {
     let arguments: Vec<String> = std::env::args().skip(1).collect();
@@ -69,6 +70,18 @@ fn run(words: &[&str]) -> Result<Vec<u8>, String> {
                 merge(direction, stated, &t[0], &t[1], &t[2], &t[3], &t[4], &ample_rooms());
             let mut output = line(&merged.answer, merged.tally);
             output.extend(merged.text.unwrap_or_default());
+            Ok(output)
+        }
+        ["duties", file] => {
+            let text = &texts(&[file])?[0];
+            let duties = check_duties(text, &ample_rooms());
+            let mut output = line(&duties.answer, None);
+            let nodes = duties.nodes.unwrap_or_default();
+            for (node, balance) in nodes.chunks(2).zip(duties.balance.unwrap_or_default()) {
+                let [place, length] = [node[0] as usize, node[1] as usize];
+                output.extend_from_slice(&text[place..place + length]);
+                output.extend(format!(" {balance}\n").into_bytes());
+            }
             Ok(output)
         }
         _ => Err(String::from(USAGE)),

@@ -56,6 +56,23 @@ fn figures_and_texts_follow_the_answer() {
     assert_eq!((merged.status.code(), merged.stdout), (Some(0), text));
 }
 
+/// The nodes follow with their balances.
+#[test]
+fn duties_follow_their_answer() {
+    let header = "DUTY_ID,SEQ,START_TIME_SECONDS,START_TIME_HHMMSS,END_TIME_SECONDS,END_TIME_HHMMSS,START_NODE,END_NODE,EVENT_TYPE,TRAIN_COURSE_ID";
+    let file = std::env::temp_dir().join(format!("independent-duties-{}.csv", std::process::id()));
+    for (row, lines) in [
+        ("D,1,87720,1d 00:22:00,87840,1d 00:24:00,MDNHEAD,MDNHDCS,TRAIN,5N92RV#1.A1\n", "accepted\nMDNHEAD -1\nMDNHDCS 1\n"),
+        ("D,1,87720,00:22:00,87840,1d 00:24:00,MDNHEAD,MDNHDCS,TRAIN,5N92RV#1.A1\n", "broken 0 6 129\n"),
+        ("D,1,87720,00:22:00,87840,1d 00:24:00,MDNHEAD,MDNHDCS,RESERVE,\n", "refused 10 6 129\n"),
+    ] {
+        std::fs::write(&file, format!("{header}\n{row}")).unwrap();
+        let output = run(&["duties", &file.display().to_string()]);
+        assert_eq!((output.status.code(), output.stdout), (Some(0), lines.as_bytes().to_vec()), "{row}");
+    }
+    std::fs::remove_file(&file).unwrap();
+}
+
 #[test]
 fn what_cannot_be_asked_has_no_answer() {
     for h in ["", "0100", "+100", "-1", " 100", "100s"] {

@@ -1,16 +1,18 @@
 //! Writes an instance to a folder, with solutions and with one variant for each violation, and prints the answers to expect.
 
-use instances::{exported, indented, Aim, Choices, Edition, Ids, Plan, Shape, Style, Worst};
+use instances::{exported, indented, Aim, Choices, DutyPlan, DutyShape, Edition, Ids, Plan, Shape, Style, Worst};
 use std::fs;
 use std::path::Path;
 use std::process::ExitCode;
 
 const USAGE: &str = "\
 instances FOLDER [--style underground|railway] [--legs N] [--worst] [--seed S] [--edition 1|2] [--shuffled] [--exported] [--indented]
+instances FOLDER --duties real|limits|worst [--seed S] [--exported]
 
 Without --legs, the largest instance of the style; without --edition, 2, in which a turnaround has min_turnaround_time. With --worst, the worst file that document
 01 allows, of no style, without turnarounds or violations. With --exported, CSV files as a spreadsheet exports them: every field in quotes, CR LF at every line. With
---indented, constraints with each member on a line of its own.
+--indented, constraints with each member on a line of its own. With --duties, a file of rolling stock duties and nothing else: of real sizes, as large as document
+02 allows, or the worst that it allows; and the same with each rule broken that it can break.
 ";
 
 fn main() -> ExitCode {
@@ -39,13 +41,15 @@ struct Asked<'a> {
     edition: Edition,
     exported: bool,
     indented: bool,
+    duties: Option<DutyShape>,
 }
 
 fn asked(words: &[String]) -> Option<Asked<'_>> {
     let (folder, options) = words.split_first()?;
     let (folder, style, ids) = (Path::new(folder), Style::Underground, Ids::InOrder);
+    let edition = Edition::Example;
     let mut asked =
-        Asked { folder, style, legs: None, worst: false, seed: 1, ids, edition: Edition::Example, exported: false, indented: false };
+        Asked { folder, style, legs: None, worst: false, seed: 1, ids, edition, exported: false, indented: false, duties: None };
     let mut options = options.iter();
     while let Some(option) = options.next() {
         match option.as_str() {
@@ -54,6 +58,7 @@ fn asked(words: &[String]) -> Option<Asked<'_>> {
             "--worst" => asked.worst = true,
             "--seed" => asked.seed = options.next()?.parse().ok()?,
             "--edition" => asked.edition = self::edition(options.next()?)?,
+            "--duties" => asked.duties = Some(duties(options.next()?)?),
             "--shuffled" => asked.ids = Ids::Shuffled,
             "--exported" => asked.exported = true,
             "--indented" => asked.indented = true,
@@ -92,12 +97,24 @@ fn style(name: &str) -> Option<Style> {
     }
 }
 
+fn duties(name: &str) -> Option<DutyShape> {
+    match name {
+        "real" => Some(DutyShape::real()),
+        "limits" => Some(DutyShape::at_the_limits()),
+        "worst" => Some(DutyShape::worst()),
+        _ => None,
+    }
+}
+
 fn edition(number: &str) -> Option<Edition> {
     [Edition::Table, Edition::Example].into_iter().find(|edition| edition.number().to_string() == number)
 }
 
 fn write(asked: &Asked) -> Result<String, String> {
     fs::create_dir_all(asked.folder).map_err(|error| format!("{}: {error}\n", asked.folder.display()))?;
+    if let Some(shape) = asked.duties {
+        return write_duties(asked, shape);
+    }
     let plan = asked.plan();
     asked.put("timetable.csv", &plan.timetable())?;
     asked.put("profiles.csv", &plan.profiles_text())?;
@@ -117,6 +134,21 @@ fn write(asked: &Asked) -> Result<String, String> {
     let aims = if asked.worst { &[][..] } else { &Aim::ALL[..] };
     for aim in aims {
         expected.push_str(&write_violated(asked, &plan, *aim)?);
+    }
+    Ok(expected)
+}
+
+/// The file, and one for each rule.
+fn write_duties(asked: &Asked, shape: DutyShape) -> Result<String, String> {
+    let plan = DutyPlan::new(shape.seeded(asked.seed));
+    asked.put("duties.csv", &plan.text())?;
+    let mut expected = format!("duties.csv: accepted, {} nodes\n", shape.nodes);
+    for rule in 1..=6 {
+        if let Some((broken, row)) = plan.broken(rule) {
+            let name = format!("broken-{rule}.csv");
+            asked.put(&name, &broken.text())?;
+            expected.push_str(&format!("{name}: broken, row {row}, rule {rule}\n"));
+        }
     }
     Ok(expected)
 }

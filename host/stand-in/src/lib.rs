@@ -3,7 +3,7 @@
 
 #![allow(non_upper_case_globals)]
 
-use independent::{check, energy, merge, row_at, Answer, Direction, Lent, Rooms, Stated, Tally};
+use independent::{check, check_duties, energy, merge, row_at, Answer, Direction, Lent, Rooms, Stated, Tally};
 
 /// By this name an archive of the stand-in is known, and not linked to what a user runs.
 #[no_mangle]
@@ -17,9 +17,22 @@ const TESTED: usize = 16;
 
 const ROW: u64 = 3;
 
-/// "Leg 8 numbers, configuration 3, profile 3, sample 1, constraint 6, track 2, choice 3", a curve for each of 8 subnets, a text.
-const ROOMS: [u64; 10] =
-    [32_768 * 8, 1_048_576 * 3, 16_384 * 3, 1_048_576, 65_536 * 6, 4_096 * 2, 32_768 * 3, 32_768 * 3, 8 * 176_400, 67_108_864];
+/// "Leg 8 numbers, configuration 3, profile 3, sample 1, constraint 6, track 2, choice 3", a curve for each of 8 subnets, a text; two numbers for each of 1,024
+/// nodes, and a balance.
+const ROOMS: [u64; 12] = [
+    32_768 * 8,
+    1_048_576 * 3,
+    16_384 * 3,
+    1_048_576,
+    65_536 * 6,
+    4_096 * 2,
+    32_768 * 3,
+    32_768 * 3,
+    8 * 176_400,
+    67_108_864,
+    1_024 * 2,
+    1_024,
+];
 
 /// A lent slice. Null only with length 0.
 unsafe fn bytes<'a>(pointer: *const u8, length: usize) -> &'a [u8] {
@@ -166,6 +179,31 @@ pub unsafe extern "C" fn wagontulip_row(
 ) {
     let (start, length) = row_at(bytes(draft, draft_length), bytes(solution, solution_length), u32::from(file), place as usize);
     *answer = padded(&[ROW, start as u64, length as u64]);
+}
+
+/// As include/wagontulip.h says.
+///
+/// # Safety
+///
+/// Each pointer is to as many elements as the length after it says, and no lent table overlaps another or the text.
+#[no_mangle]
+pub unsafe extern "C" fn wagontulip_duties(
+    text: *const u8,
+    text_length: usize,
+    nodes: *mut u32,
+    nodes_room: usize,
+    balance: *mut i32,
+    balance_room: usize,
+    answer: *mut Numbers,
+) {
+    // Duties have the rooms of legs and curves for their nodes and balances.
+    let (nodes, balance) = (table(nodes, nodes_room), table(balance, balance_room));
+    let mut lent = Lent { legs: nodes.to_vec(), curves: balance.to_vec(), ..Lent::full_of(0, &Rooms::all(0)) };
+    let duties = check_duties(bytes(text, text_length), &rooms(&lent));
+    lent.leave_duties(&duties);
+    nodes.copy_from_slice(&lent.legs);
+    balance.copy_from_slice(&lent.curves);
+    *answer = numbers(&duties.answer, None, &[duties.balance.map_or(0, |balance| balance.len() as u64)]);
 }
 
 /// As include/wagontulip.h says.

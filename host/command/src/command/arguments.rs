@@ -30,6 +30,7 @@ pub enum Work {
     Check { stated: Stated, files: [PathBuf; 4] },
     Energy { stated: Stated, files: [PathBuf; 4], curves: Option<PathBuf> },
     Merge { stated: Stated, files: [PathBuf; 5], earlier: PathBuf, later: PathBuf },
+    Duties { files: [PathBuf; 1] },
     Row { place: Number<u32>, rows: Rows },
     Help(Option<Verb>),
     Version,
@@ -49,10 +50,12 @@ pub enum Verb {
     Check,
     Energy,
     Merge,
+    Duties,
     Row,
 }
 
-const VERBS: [(&str, Verb); 4] = [("check", Verb::Check), ("energy", Verb::Energy), ("merge", Verb::Merge), ("row", Verb::Row)];
+const VERBS: [(&str, Verb); 5] =
+    [("check", Verb::Check), ("energy", Verb::Energy), ("merge", Verb::Merge), ("duties", Verb::Duties), ("row", Verb::Row)];
 
 /// The files of an entry in the usage.
 const FILES: [&str; 4] = ["TIMETABLE", "PROFILES", "CONSTRAINTS", "SOLUTION"];
@@ -65,7 +68,7 @@ pub fn read(words: Vec<OsString>) -> Result<Call, CouldNotRun> {
         return Ok(Call { work: Work::Help(named.map(|(_, verb)| verb)), json: false, rooms: Vec::new() });
     }
     let mut rest = words.into_iter();
-    let first = rest.next().ok_or_else(|| wrong("no command is given", "check, energy, merge or row"))?;
+    let first = rest.next().ok_or_else(|| wrong("no command is given", "check, energy, merge, duties or row"))?;
     let version = first == "-V" || first == "--version";
     if named.is_none() && !version {
         return Err(wrong("no such command", first));
@@ -95,6 +98,7 @@ fn work(verb: Verb, words: &mut Words) -> Result<Work, CouldNotRun> {
             let (earlier, later) = (words.output("--earlier")?, words.output("--later")?);
             Work::Merge { stated: stated(words)?, files: words.files(MERGE_FILES)?, earlier, later }
         }
+        Verb::Duties => Work::Duties { files: words.files(["FILE"])? },
         Verb::Row => Work::Row { place: words.number("--place", u32::MAX)?, rows: rows(words)? },
     };
     Ok(work)
@@ -190,6 +194,12 @@ mod tests {
     }
 
     #[test]
+    fn duties_are_one_file_of_which_nothing_is_stated() {
+        let wanted = Call { work: Work::Duties { files: paths(["d"]) }, json: true, rooms: vec![(Table::Nodes, 6), (Table::Balance, 3)] };
+        assert_eq!(call("duties --room nodes=6 d --json --room balance=3").unwrap(), wanted);
+    }
+
+    #[test]
     fn a_row_is_of_any_file() {
         let row = Work::Row { place: number("30", u32::MAX), rows: Rows::Of(paths(["p"])) };
         assert_eq!(call("row --place 30 p").unwrap().work, row);
@@ -204,6 +214,7 @@ mod tests {
             ("check --help", Some(Verb::Check)),
             ("energy --horizon -h", Some(Verb::Energy)),
             ("merge --horizon 0100 --verbose -h t", Some(Verb::Merge)),
+            ("duties --help", Some(Verb::Duties)),
             ("row -h --json", Some(Verb::Row)),
         ] {
             assert_eq!(call(words).unwrap().work, Work::Help(verb), "{words}");
@@ -217,7 +228,7 @@ mod tests {
     #[test]
     fn what_is_not_asked_for_rightly_is_not_run() {
         for (words, why) in [
-            ("", "no command is given: check, energy, merge or row"),
+            ("", "no command is given: check, energy, merge, duties or row"),
             ("judge --horizon 1 t p c s", "no such command: judge"),
             ("check t p c s", "an option is missing: --horizon"),
             ("check t p c s --horizon", "no value is given: --horizon"),
@@ -251,6 +262,9 @@ mod tests {
             ("energy --horizon 1 t p c s --curves -", "--curves wants a file, and standard output has the result: -"),
             ("merge --horizon 1 t p c a b --earlier o", "an option is missing: --later"),
             ("merge --horizon 1 t p c a --earlier o --later q", "wanted 5 files, given 4, missing: SECOND"),
+            ("duties", "wanted 1 file, given 0, missing: FILE"),
+            ("duties d e", "wanted 1 file, given 2, too many: e"),
+            ("duties --horizon 1 d", "no option of duties: --horizon"),
             ("row --file 1 t s", "an option is missing: --place"),
             ("row --file 01 --place 0 t s", "--file wants a whole number, and this is none: 01"),
             ("row --file 1 --place -1 t s", "--place wants a whole number, and this is none: -1"),

@@ -7,6 +7,7 @@ mod place;
 mod run;
 mod told;
 
+mod duties;
 mod energies;
 pub mod identity;
 mod json;

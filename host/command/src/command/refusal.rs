@@ -9,12 +9,21 @@ use wagontulip::{row_at, File, Refusal, Unknown};
 /// A line may be a whole text: more is cut.
 const SHOWN: usize = 160;
 
-/// The lines of a refusal. The inputs are in the order of document 01's file numbers, from 1.
+/// The inputs are in the order of document 01's file numbers, from 1; a duty file is the only one of its call.
+fn input(file: File, inputs: &[Input]) -> Option<&Input> {
+    match file {
+        File::None => None,
+        File::Duties => inputs.first(),
+        file => Some(&inputs[usize::from(file.number()) - 1]),
+    }
+}
+
+/// The lines of a refusal.
 pub fn told(refusal: &Refusal, inputs: &[Input]) -> Result<String, Unknown> {
-    let head = format!("refused {}: {}\nfile: ", refusal.reason.number(), refusal.reason.meaning());
-    let input = match refusal.file {
-        File::None => return Ok(format!("{head}no file, place: {}\n", refusal.place)),
-        file => &inputs[usize::from(file.number()) - 1],
+    let head = format!("refused {}: {}\nfile: ", refusal.reason.number(), refusal.meaning());
+    let input = match input(refusal.file, inputs) {
+        None => return Ok(format!("{head}no file, place: {}\n", refusal.place)),
+        Some(input) => input,
     };
     let place = refusal.place as usize;
     let head = format!("{head}{}, place: {place}", input.told());
@@ -22,17 +31,17 @@ pub fn told(refusal: &Refusal, inputs: &[Input]) -> Result<String, Unknown> {
         return Ok(format!("{head}, the end of the text\n"));
     }
     let line = Line::at(&input.text, place);
-    let shown = row(refusal, &input.text)?.map_or_else(|| line.about(), row_shown);
+    let shown = row(refusal, &input.text)?.map_or_else(|| line.about(), |row| row.shown("row"));
     Ok(format!("{head}, line: {}\n{shown}", line.number))
 }
 
 /// The same as one object: where it is, then what it means and what is shown of it.
 pub fn object(refusal: &Refusal, inputs: &[Input]) -> Result<Object, Unknown> {
-    let input = usize::from(refusal.file.number()).checked_sub(1).map(|place| &inputs[place]);
+    let input = input(refusal.file, inputs);
     let file = file_object(refusal.file.number(), input);
     let object = Object::new().value("number", refusal.reason.number()).object("file", file).value("place", refusal.place);
     let place = refusal.place as usize;
-    let meaning = refusal.reason.meaning();
+    let meaning = refusal.meaning();
     let text = match input {
         None => return Ok(object.text("meaning", meaning)),
         Some(input) if place >= input.text.len() => return Ok(object.value("end_of_text", true).text("meaning", meaning)),
@@ -41,24 +50,35 @@ pub fn object(refusal: &Refusal, inputs: &[Input]) -> Result<Object, Unknown> {
     let line = Line::at(text, place);
     let object = object.value("line", line.number);
     Ok(match row(refusal, text)? {
-        Some(row) => object.text("meaning", meaning).bytes("row", &row[..row.len().min(SHOWN)]).value("length", row.len()),
+        Some(row) => row.object(object.text("meaning", meaning)),
         None => line.object(object.value("column", line.byte).text("meaning", meaning)),
     })
 }
 
 /// A CSV row is cut out by the library, which knows a draft and a solution: any CSV text may stand for either.
-fn row<'a>(refusal: &Refusal, text: &'a [u8]) -> Result<Option<&'a [u8]>, Unknown> {
+fn row<'a>(refusal: &Refusal, text: &'a [u8]) -> Result<Option<Row<'a>>, Unknown> {
     match refusal.file {
         File::Constraints => Ok(None),
-        _ => row_at(text, &[], File::Timetable.number(), refusal.place),
+        _ => Ok(row_at(text, &[], File::Timetable.number(), refusal.place)?.map(Row)),
     }
 }
 
-fn row_shown(row: &[u8]) -> String {
-    if row.len() <= SHOWN {
-        return format!("row: {}\n", escaped(row));
+/// A CSV row as it is shown: the first bytes of a long one.
+pub struct Row<'a>(pub &'a [u8]);
+
+impl Row<'_> {
+    pub fn shown(&self, name: &str) -> String {
+        let Row(row) = self;
+        if row.len() <= SHOWN {
+            return format!("{name}: {}\n", escaped(row));
+        }
+        format!("{name}, the first {SHOWN} of its {} bytes: {}\n", row.len(), escaped(&row[..SHOWN]))
     }
-    format!("row, the first {SHOWN} of its {} bytes: {}\n", row.len(), escaped(&row[..SHOWN]))
+
+    pub fn object(&self, object: Object) -> Object {
+        let Row(row) = self;
+        object.bytes("row", &row[..row.len().min(SHOWN)]).value("length", row.len())
+    }
 }
 
 /// The line that holds a place, without its line end, LF or CR LF; both counts from 1.
@@ -152,8 +172,8 @@ mod tests {
 
     #[test]
     fn a_long_row_is_cut() {
-        assert_eq!(row_shown(b"ab\xff"), "row: ab\\xff\n");
-        let said = row_shown(&[b'x'; 1_000]);
-        assert!(said.starts_with("row, the first 160 of its 1000 bytes: xxx") && said.ends_with("x\n"), "{said}");
+        assert_eq!(Row(b"ab\xff").shown("row"), "row: ab\\xff\n");
+        let said = Row(&[b'x'; 1_000]).shown("row before");
+        assert!(said.starts_with("row before, the first 160 of its 1000 bytes: xxx") && said.ends_with("x\n"), "{said}");
     }
 }

@@ -6,7 +6,7 @@ use super::input::Input;
 use super::output::{self, Output};
 use super::place::Waiting;
 use super::told::{row_object, Judged, Told, ACCEPTED, MERGE};
-use super::{energies, escaped, CouldNotRun};
+use super::{duties, energies, escaped, CouldNotRun};
 use std::path::{Path, PathBuf};
 use wagontulip::{row_at, Answer, Checker, File, Files, NoRoom, Rooms, Table, Unknown, LABEL};
 
@@ -33,6 +33,7 @@ pub fn run(call: &Call) -> Result<Ran, CouldNotRun> {
         Work::Energy { stated, files, curves } => return energy(call, stated, files, curves.as_deref()),
         Work::Merge { stated, files, earlier, later } => return merge(call, stated, files, [earlier, later]),
         Work::Check { stated, files } => check(call, stated, files)?,
+        Work::Duties { files } => judge_duties(call, files)?,
         Work::Row { place, rows } => row(call, place, rows)?,
         Work::Help(verb) => plain(&help(*verb)),
         Work::Version => plain(&identity().lines()),
@@ -52,11 +53,15 @@ fn inputs(roles: &[&'static str], files: &[PathBuf]) -> Result<Vec<Input>, Could
     roles.iter().zip(files).map(|(role, path)| Input::read(role, path, most)).collect()
 }
 
-/// No more is lent than the limits can need.
 fn checker(call: &Call) -> Result<Checker, CouldNotRun> {
-    let mut rooms = Rooms::at_the_limits();
+    lending(call, Rooms::at_the_limits())
+}
+
+/// No more is lent than the limits can need.
+fn lending(call: &Call, mut rooms: Rooms) -> Result<Checker, CouldNotRun> {
+    let limits = Rooms::at_the_limits();
     for (table, room) in &call.rooms {
-        let most = rooms[*table];
+        let most = limits[*table];
         if *room > most {
             return Err(CouldNotRun(format!("--room {}: at most {most} can be lent", table.name())));
         }
@@ -110,6 +115,18 @@ fn merge(call: &Call, stated: &Stated, files: &[PathBuf], [earlier, later]: [&Pa
     let result = Judged { command: MERGE, stated, ruling, inputs: &inputs, outputs: &outputs, room: &checker.room };
     let told = result.told(call.json, |()| String::new(), |object, ()| object)?;
     Ok(Ran { told, outputs: Waiting::written(&outputs)? })
+}
+
+/// Nothing is stated, and the two tables of the duties are all that is lent.
+fn judge_duties(call: &Call, files: &[PathBuf]) -> Result<Told, CouldNotRun> {
+    let inputs = inputs(&[duties::COMMAND], files)?;
+    let (limits, mut rooms) = (Rooms::at_the_limits(), Rooms::none());
+    for table in [Table::Nodes, Table::Balance] {
+        rooms[table] = limits[table];
+    }
+    let mut checker = lending(call, rooms)?;
+    let said = checker.duties(&inputs[0].text)?;
+    duties::told(call.json, &said, &inputs)
 }
 
 /// A row is shown, not judged: the status is 0, also where none starts there.

@@ -5,7 +5,7 @@ use super::identity::identity;
 use super::input::Input;
 use super::json::{array, Object};
 use super::output::Output;
-use super::{printable, refusal, tested, violation, CouldNotRun};
+use super::{duties, printable, refusal, tested, violation, CouldNotRun};
 use std::ffi::OsStr;
 use std::fmt::Display;
 use wagontulip::{Answer, Counts, File, Room, Ruling, Tally, Violation, LABEL};
@@ -15,7 +15,8 @@ pub const VIOLATED: u8 = 1;
 pub const REFUSED: u8 = 2;
 pub const COULD_NOT_RUN: u8 = 3;
 
-/// The number of docs/schema/answer-3.json, which the tests hold every object to. A member that is added, taken away or changed makes another.
+/// The number of docs/schema/answer-3.json, which the tests hold every object to. A member of a command's object that is added, taken away or changed makes
+/// another; the objects of a new command do not.
 const SCHEMA: u32 = 3;
 
 /// The command whose acceptance is a text.
@@ -86,7 +87,7 @@ impl<T: Copy> Judged<'_, T> {
             Answer::Refused(refusal) => uncounted(object, self.ruling.tally).object("refusal", refusal::object(&refusal, self.inputs)?),
         };
         let outputs = self.outputs.iter().map(|output| evidence_of(output.role, output.name(), output.evidence()));
-        Ok(line(evidence(object, self.inputs)?.value("outputs", array(outputs))))
+        Ok(line(with_evidence(object, self.inputs)?.value("outputs", array(outputs))))
     }
 }
 
@@ -105,22 +106,22 @@ pub fn row_object(file: Option<&Number<u8>>, place: &Number<u32>, row: Option<&[
         Some(row) => object.bytes("row", row).value("length", row.len()),
         None => object.value("row", "null"),
     };
-    Ok(line(evidence(object, inputs)?))
+    Ok(line(with_evidence(object, inputs)?))
 }
 
 /// That there is no answer, and why.
 pub fn none_object(verb: Option<&OsStr>, why: &str) -> String {
-    let command = ["check", "energy", MERGE, "row"].into_iter().find(|command| verb == Some(OsStr::new(command)));
+    let command = ["check", "energy", MERGE, duties::COMMAND, "row"].into_iter().find(|command| verb == Some(OsStr::new(command)));
     let object = head(command, "none").text("reason", why);
     line(built(object))
 }
 
-fn line(object: Object) -> String {
+pub fn line(object: Object) -> String {
     format!("{}\n", object.close())
 }
 
 /// What every object begins with.
-fn head(command: Option<&str>, answer: &str) -> Object {
+pub fn head(command: Option<&str>, answer: &str) -> Object {
     Object::new().text("label", LABEL).value("schema", SCHEMA).optional_text("command", command).text("answer", answer)
 }
 
@@ -163,7 +164,7 @@ pub fn file_object(number: impl Display, input: Option<&Input>) -> Object {
 }
 
 /// For the release engineer's signature.
-fn evidence(object: Object, inputs: &[Input]) -> Result<Object, CouldNotRun> {
+pub fn with_evidence(object: Object, inputs: &[Input]) -> Result<Object, CouldNotRun> {
     let inputs: Result<Vec<String>, CouldNotRun> =
         inputs.iter().map(|input| Ok(evidence_of(input.role, input.name(), input.evidence()?))).collect();
     Ok(built(object).value("inputs", array(inputs?.into_iter())))

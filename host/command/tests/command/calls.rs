@@ -34,7 +34,7 @@ fn help_is_given_after_any_word() {
     let all = folder.told("--help", 0);
     assert!(all.contains("\nwagontulip row    --place P FILE\n") && all.contains("\nExit status: "), "{all}");
     assert_eq!(folder.told("-h", 0), all);
-    for (verb, option) in [("check", "--horizon"), ("energy", "--curves"), ("merge", "--later"), ("row", "--file")] {
+    for (verb, option) in [("check", "--horizon"), ("energy", "--curves"), ("merge", "--later"), ("duties", "--room"), ("row", "--file")] {
         let help = folder.told(&format!("{verb} --help"), 0);
         assert!(help.starts_with(&format!("wagontulip {verb} ")) && help.contains(&format!("\n  {option} ")), "{help}");
         let output = folder.run(&format!("{verb} missing --verbose {option} -h --json"));
@@ -53,6 +53,8 @@ fn a_wrong_word_is_said_in_one_line() {
         ("check --horizon=0100 t p c a", "--horizon wants a whole number, and this is none: 0100"),
         ("check --horizon=100 --verbose t p c a", "no such option: --verbose"),
         ("check --horizon=100 - p c -", "standard input is read once, and not for SOLUTION too: -"),
+        ("duties", "wanted 1 file, given 0, missing: FILE"),
+        ("duties --edition=2 t", "no option of duties: --edition"),
         ("energy --horizon=100 t p c a --curves -", "--curves wants a file, and standard output has the result: -"),
     ] {
         assert_eq!(said(&folder, words), format!("wagontulip: {why} (help: wagontulip --help)\n"));

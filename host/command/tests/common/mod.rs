@@ -52,3 +52,32 @@ pub fn constraints(list: &str, record: &str) -> String {
     let lists: Vec<String> = lists.iter().map(|name| format!("\"{name}\": [{}]", if *name == list { record } else { "" })).collect();
     format!("{{{},\n\"recuperation_subnets\": [{{\"subnet_id\": 1, \"track_ids\": [1, 2]}}]}}\n", lists.join(",\n"))
 }
+
+pub const DUTIES_HEADER: &str =
+    "DUTY_ID,SEQ,START_TIME_SECONDS,START_TIME_HHMMSS,END_TIME_SECONDS,END_TIME_HHMMSS,START_NODE,END_NODE,EVENT_TYPE,TRAIN_COURSE_ID\n";
+
+/// One duty, from A to B and back to A, as the last rows of document 004's Table 8 go past midnight; another from A to B.
+pub const DUTY_ROWS: [&str; 4] = [
+    "D,1,86340,23:59:00,87720,1d 00:22:00,A,B,TRAIN,C1\n",
+    "D,2,87720,1d 00:22:00,87840,1d 00:24:00,B,B,CHANGE_END,\n",
+    "D,3,87840,1d 00:24:00,87960,1d 00:26:00,B,A,TRAIN,C2\n",
+    "E,1,0,00:00:00,60,00:01:00,A,B,TRAIN,C3\n",
+];
+
+pub fn duties() -> String {
+    [DUTIES_HEADER].into_iter().chain(DUTY_ROWS).collect()
+}
+
+/// For each rule a file that breaks it: the rule, the row, and the text.
+pub fn broken_duties() -> [(u8, usize, String); 6] {
+    let [first, second, third, other] = DUTY_ROWS;
+    let file = |rows: &[&str]| [DUTIES_HEADER].iter().chain(rows).copied().collect::<String>();
+    [
+        (1, 3, duties().replace(",60,00:01:00", ",0,00:00:00")),
+        (2, 1, duties().replace("B,B,CHANGE", "B,A,CHANGE")),
+        (3, 2, file(&[first, other, second, third])),
+        (4, 1, file(&[first, third, other])),
+        (5, 1, duties().replace("B,B,CHANGE", "A,A,CHANGE")),
+        (6, 0, duties().replace(",1d 00:22:00,A", ",24:22:00,A")),
+    ]
+}

@@ -114,6 +114,7 @@ fn likely(target: Target) -> Vec<Damage> {
             ]
         }
         Target::Refused { number, file } => likely_refused(number, file),
+        Target::Broken { .. } => Vec::new(),
     }
 }
 

@@ -8,7 +8,7 @@ use crate::target::{is_merge, Target};
 use independent::{Answer, Case, Direction, Entry};
 
 /// How often a target is tried before it is given up.
-const MOST_TRIES: usize = 4_000;
+pub const MOST_TRIES: usize = 4_000;
 
 /// A tiny timetable, and a solution too, as it is a timetable file.
 const TINY_TIMETABLE: usize = 300;
@@ -31,6 +31,7 @@ fn answer(case: &Case, entry: Entry) -> Answer {
         Entry::Energy => case.energy().answer,
         Entry::MergeEarlier => case.merge(Direction::Earlier).answer,
         Entry::MergeLater => case.merge(Direction::Later).answer,
+        Entry::Duties => case.duties().answer,
     }
 }
 

@@ -1,8 +1,9 @@
 //! A seeded maker of small cases: document 01's worked example and variations of it, sound or damaged, limits at and past the edge, rows to
-//! be shown. The expected answers are the independent program's; here it only decides which cases are kept.
+//! be shown; files of duties. The expected answers are the independent program's; here it only decides which cases are kept.
 
 mod damage;
 pub mod draw;
+pub mod duties;
 pub mod edges;
 pub mod editions;
 pub mod examples;
@@ -29,10 +30,11 @@ pub struct Named {
     pub call: Call,
 }
 
-/// Of each twenty calls so many are rows to be shown, and so many have a byte damaged in its turn; the others are drawn for a target.
+/// Of each twenty calls so many are rows to be shown, so many have a byte damaged in its turn, and the last ones are of duties; the others are drawn for a target.
 const TURNS: usize = 20;
 const ROWS: usize = 2;
 const SWEPT: usize = 5;
+const DUTIES: usize = 3;
 /// One in so many of the others is drawn to be accepted.
 const ACCEPTED: usize = 5;
 
@@ -44,15 +46,20 @@ pub fn calls(seed: u64, numbers: std::ops::Range<usize>, entries: &[Entry]) -> V
 
 fn call(seed: u64, number: usize, entries: &[Entry]) -> Named {
     let mut random = Random::of(seed, number as u64);
-    let judging: Vec<Entry> = entries.iter().copied().filter(|entry| *entry != Entry::Row).collect();
-    let rows = match (entries.contains(&Entry::Row), judging.is_empty()) {
+    let judging: Vec<Entry> = entries.iter().copied().filter(|entry| entry.is_judging()).collect();
+    let turns = |entry: Entry, some: usize, all: usize| match (entries.contains(&entry), judging.is_empty()) {
         (false, _) => 0,
-        (true, false) => ROWS,
-        (true, true) => TURNS,
+        (true, false) => some,
+        (true, true) => all,
     };
+    let duties = turns(Entry::Duties, DUTIES, TURNS);
+    let rows = turns(Entry::Row, ROWS, TURNS - duties.min(TURNS - ROWS));
     let turn = number % TURNS;
     if turn < rows {
         return Named { name: String::from("a row"), call: rows::draw(&mut random) };
+    }
+    if turn >= TURNS - duties {
+        return duties::drawn::draw(&mut random, number / TURNS * duties + turn + duties - TURNS);
     }
     let entry = *random.pick(&judging);
     if turn < rows + SWEPT {

@@ -80,7 +80,7 @@ const PROFILES: &[&str] = &[
 ];
 
 /// Ways to spell a header, given without its LF.
-const HEADERS: &[fn(&str) -> String] = &[
+pub const HEADERS: &[fn(&str) -> String] = &[
     |header| format!("{header}\r\n"),
     |header| format!("\"{}\"\n", header.replace(',', "\",\"")),
     |header| format!("\"{}\"\r\n", header.replace(',', "\",\"")),
@@ -139,12 +139,12 @@ fn ends(text: &[u8]) -> Vec<usize> {
     (0..text.len()).filter(|place| text[*place] == b'\n').map(|place| place + 1).collect()
 }
 
-fn with_first_row(text: &[u8], row: &str) -> Vec<u8> {
+pub fn with_first_row(text: &[u8], row: &str) -> Vec<u8> {
     let ends = ends(text);
     [&text[..ends[0]], row.as_bytes(), &text[ends[1]..]].concat()
 }
 
-fn with_header(text: &[u8], spelled: fn(&str) -> String) -> Vec<u8> {
+pub fn with_header(text: &[u8], spelled: fn(&str) -> String) -> Vec<u8> {
     let end = ends(text)[0];
     let header = String::from_utf8_lossy(&text[..end - 1]);
     [spelled(&header).as_bytes(), &text[end..]].concat()

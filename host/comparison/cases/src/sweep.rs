@@ -24,7 +24,8 @@ pub fn draw(random: &mut Random, number: usize) -> (String, Case) {
     (format!("byte {place} of text {}{spelling} {how}", text + 1), case)
 }
 
-fn damage(random: &mut Random, text: &mut Vec<u8>, place: usize) -> &'static str {
+/// One byte of a text damaged, and how.
+pub fn damage(random: &mut Random, text: &mut Vec<u8>, place: usize) -> &'static str {
     match random.below(4) {
         0 => {
             text.remove(place);

@@ -3,7 +3,7 @@
 use crate::plan::LIST_NAMES;
 use crate::Named;
 use independent::files::read_files;
-use independent::{Call, Case, Edition, Entry};
+use independent::{Call, Case, Edition};
 
 /// The key of kind 4 in each edition.
 pub const KEYS: [(Edition, &str); 2] = [(Edition::Table, "min_dwell_time"), (Edition::Example, "min_turnaround_time")];
@@ -14,11 +14,11 @@ pub const TURNAROUNDS: &str = LIST_NAMES[3];
 const CONSTRAINTS: usize = 2;
 const QUOTE: u8 = b'"';
 
-/// The twin of a call whose files read, by its name. What is refused in them has none, and a row states no edition.
+/// The twin of a call whose files read, by its name. What is refused in them has none, and neither a row nor duties state an edition.
 pub fn named(named: &Named) -> Option<Named> {
     let Call { entry, case, .. } = &named.call;
     let [timetable, profiles, constraints, ..] = &case.texts;
-    let reads = *entry != Entry::Row && read_files(case.stated(), timetable, profiles, constraints, &case.rooms).is_ok();
+    let reads = entry.is_judging() && read_files(case.stated(), timetable, profiles, constraints, &case.rooms).is_ok();
     reads.then(|| Named { name: format!("the twin of {}", named.name), call: Call { case: exchanged(case.clone()), ..named.call.clone() } })
 }
 
@@ -52,6 +52,7 @@ fn renamed(text: &[u8]) -> Vec<u8> {
 mod tests {
     use super::*;
     use crate::plan::Plan;
+    use independent::Entry;
 
     fn text(case: &Case) -> String {
         String::from_utf8(case.texts[CONSTRAINTS].clone()).unwrap()

@@ -26,6 +26,7 @@ pub fn number_of(entry: Entry) -> u64 {
         Entry::MergeEarlier => 3,
         Entry::MergeLater => 4,
         Entry::Row => 5,
+        Entry::Duties => 11,
     }
 }
 

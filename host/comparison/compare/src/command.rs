@@ -12,6 +12,9 @@ use std::sync::atomic::{AtomicUsize, Ordering};
 /// Files of a call, in the order of a case's texts, and of its outputs.
 const TEXTS: [&str; 5] = ["timetable", "profiles", "constraints", "first", "second"];
 const CURVES: &str = "curves";
+/// The rooms of duties, and the most that the command lends; more of them changes no answer.
+const DUTY_ROOMS: [&str; 2] = ["nodes", "balance"];
+const MOST_NODES: usize = 1_024;
 const MERGED: [&str; 2] = ["earlier", "later"];
 
 /// What follows one of these in the command's object says in words what was compared before, or is evidence about the files, and is not compared.
@@ -21,6 +24,8 @@ const NOT_COMPARED: [&[u8]; 3] = [br#", "kind_name": "#, br#", "meaning": "#, br
 const TIMETABLE: u32 = 1;
 const CONSTRAINTS: u32 = 3;
 const SECOND: u32 = 5;
+const DUTIES: u32 = 6;
+const NODE: usize = 2;
 const LEG: usize = 8;
 const CONSTRAINT: usize = 6;
 const THREE: usize = 3;
@@ -99,10 +104,15 @@ fn words(call: &Call) -> Vec<String> {
         Entry::Energy => format!("energy {files} --curves {CURVES}"),
         Entry::MergeEarlier | Entry::MergeLater => format!("merge {files} {second} --earlier {} --later {}", MERGED[0], MERGED[1]),
         Entry::Row => format!("row --file {} --place {} {timetable} {first}", call.file, call.place),
+        Entry::Duties => format!("duties --json {timetable}"),
     };
     let room = |(name, room): (&&str, usize)| [String::from("--room"), format!("{}={room}", name.replace(' ', "_"))];
-    let rooms = ROOMS.iter().zip(call.case.rooms.numbers()).flat_map(room);
-    words.split(' ').map(String::from).chain(rooms).collect()
+    let lent = call.case.rooms;
+    let rooms: Vec<(&&str, usize)> = match call.entry {
+        Entry::Duties => DUTY_ROOMS.iter().zip([lent.legs.min(MOST_NODES * NODE), lent.curves.min(MOST_NODES)]).collect(),
+        _ => ROOMS.iter().zip(lent.numbers()).collect(),
+    };
+    words.split(' ').map(String::from).chain(rooms.into_iter().flat_map(room)).collect()
 }
 
 /// An edition of 2 is what is taken where none is given.
@@ -133,7 +143,41 @@ fn expected(call: &Call) -> String {
         Entry::Energy => reported(call),
         Entry::MergeEarlier | Entry::MergeLater => merged(call),
         Entry::Row => shown(call),
+        Entry::Duties => duties(call),
     }
+}
+
+/// Duties state nothing, and have balances, or a broken row, or a refusal.
+fn duties(call: &Call) -> String {
+    let duties = call.case.duties();
+    let text = &call.case.texts[0];
+    let rows = text.iter().filter(|byte| **byte == b'\n').count().saturating_sub(1);
+    let read = |nodes: String| format!(r#", "read": {{"rows": {rows}, "nodes": {nodes}}}, "nothing_tested": {}"#, rows == 0);
+    let balances = duties.balance.unwrap_or_default();
+    let (status, word, told) = match duties.answer {
+        Answer::Accepted => {
+            let nodes = duties.nodes.unwrap_or_default();
+            let shown: Vec<String> = nodes.chunks(NODE).zip(&balances).map(|(node, balance)| balanced(text, node, *balance)).collect();
+            let told = format!(r#", "balance": [{}], "balance_over_all": {}"#, shown.join(", "), balances.iter().sum::<i32>());
+            (0, "accepted", read(balances.len().to_string()) + &told)
+        }
+        Answer::Broken { row, rule, place } => {
+            let numbers = format!(r#""rule": {rule}, "position": {row}, "file": {}, "place": {place}"#, file_object(call, DUTIES));
+            (1, "violated", read(String::from("null")) + &format!(r#", "broken": {{{numbers}{}"#, placed(text, DUTIES, place)))
+        }
+        Answer::Refused { number, file, place } => {
+            (2, "refused", format!(r#", "read": null, "nothing_tested": null{}"#, refused(call, number, file, place)))
+        }
+        Answer::Violated { .. } => return String::new(),
+    };
+    line(status, format!(r#"{{"label": "{LABEL}", "schema": 3, "command": "duties", "answer": "{word}"{told}"#).as_bytes())
+}
+
+/// A node by its name. A backslash is the only byte of a name that is escaped.
+fn balanced(text: &[u8], node: &[u32], balance: i32) -> String {
+    let name = &text[node[0] as usize..][..node[1] as usize];
+    let name = String::from_utf8_lossy(name).replace('\\', r"\\");
+    format!(r#"{{"node": "{name}", "ending_less_starting": {balance}}}"#)
 }
 
 fn object(call: &Call, answer: Answer, tally: Option<Tally>, tables: Option<&Tables>, figures: &str) -> String {
@@ -141,6 +185,7 @@ fn object(call: &Call, answer: Answer, tally: Option<Tally>, tables: Option<&Tab
         Answer::Accepted => (0, "accepted", figures.to_string()),
         Answer::Violated { .. } => (1, "violated", violated(call, answer, tables)),
         Answer::Refused { number, file, place } => (2, "refused", refused(call, number, file, place)),
+        Answer::Broken { .. } => return String::new(),
     };
     let command = match call.entry {
         Entry::MergeEarlier | Entry::MergeLater => "merge",
@@ -181,6 +226,9 @@ fn read(tables: &Tables) -> String {
 fn file_object(call: &Call, file: u32) -> String {
     let merging = matches!(call.entry, Entry::MergeEarlier | Entry::MergeLater);
     let roles = ["timetable", "profiles", "constraints", if merging { "first solution" } else { "solution" }, "second solution"];
+    if file == DUTIES {
+        return format!(r#"{{"number": {file}, "role": "duties", "name": "{}"}}"#, TEXTS[0]);
+    }
     match (file as usize).checked_sub(1) {
         Some(place) => format!(r#"{{"number": {file}, "role": "{}", "name": "{}"}}"#, roles[place], TEXTS[place]),
         None => format!(r#"{{"number": {file}}}"#),
@@ -220,6 +268,7 @@ fn clock(seconds: usize) -> String {
 fn refused(call: &Call, number: u32, file: u32, place: usize) -> String {
     let told = format!(r#", "refusal": {{"number": {number}, "file": {}, "place": {place}"#, file_object(call, file));
     match (file as usize).checked_sub(1) {
+        Some(_) if file == DUTIES => told + &placed(&call.case.texts[0], file, place),
         Some(text) => told + &placed(&call.case.texts[text], file, place),
         None => told,
     }

@@ -73,7 +73,7 @@ fn batch(plan: &Plan, size: usize, number: usize) -> Option<Vec<Named>> {
     (first < last).then(|| cases::calls(plan.seed, first..last, &plan.entries))
 }
 
-/// The calls that no seed changes: the worked examples, the edges, those of quotes and CR LF, those of editions, those of counts, one for each answer.
+/// The calls that no seed changes: the worked examples, the edges, those of quotes and CR LF, those of editions, those of counts, one for each answer, those of duties.
 pub fn fixed(entries: &[Entry]) -> Vec<Named> {
     let mut calls = cases::examples::worked();
     calls.extend(cases::edges::edges());
@@ -81,6 +81,7 @@ pub fn fixed(entries: &[Entry]) -> Vec<Named> {
     calls.extend(cases::editions::calls());
     calls.extend(cases::tallies::calls());
     calls.extend(spread::calls());
+    calls.extend(cases::duties::calls());
     calls.retain(|named| entries.contains(&named.call.entry));
     calls
 }

@@ -1,7 +1,7 @@
 //! How often each answer was met, as tables; a cell that an input can reach must not be empty.
 
-use crate::{editions, marks, tallies};
-use cases::target::{is_merge, targets, Target, FILES, INEQUALITIES};
+use crate::{duties, editions, marks, tallies};
+use cases::target::{is_merge, targets, Target, DUTIES, FILES, INEQUALITIES, RULES};
 use independent::{Answer, Call, Case, Entry, Said};
 use std::collections::BTreeMap;
 use std::fmt;
@@ -72,6 +72,7 @@ pub struct Coverage {
     marks: BTreeMap<marks::Cell, usize>,
     editions: BTreeMap<editions::Cell, usize>,
     tallies: BTreeMap<tallies::Cell, usize>,
+    duties: BTreeMap<duties::Met, usize>,
 }
 
 impl Coverage {
@@ -85,7 +86,11 @@ impl Coverage {
         if let Some(cell) = tallies::met(call, said) {
             *self.tallies.entry(cell).or_default() += 1;
         }
+        for cell in duties::met(call) {
+            *self.duties.entry(cell).or_default() += 1;
+        }
         match (said, said.answer()) {
+            (Said::Duties(..), Some(answer)) => *self.answers.entry((call.entry, Target::of(answer))).or_default() += 1,
             (_, Some(answer)) => {
                 *self.answers.entry((call.entry, Target::of(answer))).or_default() += 1;
                 self.count_room(call, answer);
@@ -170,6 +175,7 @@ impl Coverage {
         add_counts(&mut self.marks, &other.marks);
         add_counts(&mut self.editions, &other.editions);
         add_counts(&mut self.tallies, &other.tallies);
+        add_counts(&mut self.duties, &other.duties);
         for (room, count) in other.rooms.iter().enumerate() {
             self.rooms[room] += count;
         }
@@ -185,7 +191,7 @@ impl Coverage {
                 }
             }
         }
-        let judging = entries.iter().any(|entry| *entry != Entry::Row);
+        let judging = entries.iter().any(|entry| entry.is_judging());
         for (inequality, anchor) in [(1, 1), (1, 2), (2, 1), (2, 2)] {
             if judging && !self.connections.contains_key(&(inequality, anchor)) {
                 empty.push(format!("connection of type {anchor}, inequality {inequality}"));
@@ -210,6 +216,7 @@ impl Coverage {
         let editions = if judging { editions::cells() } else { Vec::new() };
         empty.extend(editions.into_iter().filter(|(cell, _)| !self.editions.contains_key(cell)).map(|(_, name)| name));
         empty.extend(tallies::cells(entries).into_iter().filter(|(cell, _)| !self.tallies.contains_key(cell)).map(|(_, name)| name));
+        empty.extend(duties::cells(entries).into_iter().filter(|(cell, _)| !self.duties.contains_key(cell)).map(|(_, name)| name));
         empty
     }
 
@@ -219,12 +226,16 @@ impl Coverage {
 
     fn entries(&self, out: &mut fmt::Formatter) -> fmt::Result {
         writeln!(out, "{:24}{:>10}{:>10}{:>10}", "entry", "accepted", "violated", "refused")?;
-        for entry in Entry::ALL.into_iter().filter(|entry| *entry != Entry::Row) {
+        for entry in Entry::JUDGING {
             let accepted = self.total(|e, target| e == entry && target == Target::Accepted);
             let violated = self.total(|e, target| e == entry && matches!(target, Target::Violated { .. }));
             let refused = self.total(|e, target| e == entry && matches!(target, Target::Refused { .. }));
             writeln!(out, "{:24}{accepted:>10}{violated:>10}{refused:>10}", entry.name())?;
         }
+        let accepted = self.total(|entry, target| entry == Entry::Duties && target == Target::Accepted);
+        let broken = self.total(|_, target| matches!(target, Target::Broken { .. }));
+        let refused = self.total(|_, target| matches!(target, Target::Refused { file: DUTIES, .. }));
+        writeln!(out, "{:24}{accepted:>10}{broken:>10}{refused:>10}", "duties")?;
         for (shown, name) in SHOWN {
             writeln!(out, "row, {name:24}{:>8}", self.shown.get(&shown).unwrap_or(&0))?;
         }
@@ -236,13 +247,13 @@ impl Coverage {
 
     fn refusals(&self, out: &mut fmt::Formatter) -> fmt::Result {
         write!(out, "{:10}", "refusal")?;
-        for file in 0..=5 {
+        for file in 0..=DUTIES {
             write!(out, "{:>8}", format!("file {file}"))?;
         }
         writeln!(out)?;
         for number in NUMBERS {
             write!(out, "{number:>10}")?;
-            for file in 0..=5 {
+            for file in 0..=DUTIES {
                 let count = self.total(|_, target| target == Target::Refused { number, file });
                 let cell = match why_empty(number, file) {
                     Some(Why::NoInput(_)) => String::from("-"),
@@ -294,17 +305,29 @@ impl Coverage {
 
     /// How much was tested.
     fn tallies(&self, out: &mut fmt::Formatter) -> fmt::Result {
-        let judging: Vec<Entry> = Entry::ALL.into_iter().filter(|entry| *entry != Entry::Row).collect();
-        let heads: String = judging.iter().map(|entry| format!("{:>15}", entry.name())).collect();
+        let heads: String = Entry::JUDGING.iter().map(|entry| format!("{:>15}", entry.name())).collect();
         writeln!(out, "{:40}{heads}", "tests")?;
         for (met, name) in tallies::all() {
             write!(out, "{name:40}")?;
-            for entry in judging.iter().copied() {
+            for entry in Entry::JUDGING {
                 let count = self.tallies.get(&(entry, met)).copied().unwrap_or_default();
                 let cell = if tallies::is_reached(entry, met) { count.to_string() } else { String::from("-") };
                 write!(out, "{cell:>15}")?;
             }
             writeln!(out)?;
+        }
+        Ok(())
+    }
+
+    /// What duties met: each rule, then what stands in their table.
+    fn duties(&self, out: &mut fmt::Formatter) -> fmt::Result {
+        writeln!(out, "duties")?;
+        for rule in RULES {
+            let count = self.total(|_, target| target == Target::Broken { rule });
+            writeln!(out, "{:54}{count:>8}", format!("rule {rule}"))?;
+        }
+        for (met, name) in duties::all() {
+            writeln!(out, "{name:54}{:>8}", self.duties.get(&met).unwrap_or(&0))?;
         }
         Ok(())
     }
@@ -342,7 +365,7 @@ fn drawn_quarters(case: &Case) -> Vec<i64> {
 /// Whether an entry is lent the room.
 fn lends(entry: Entry, room: usize) -> bool {
     match (entry, room) {
-        (Entry::Row, _) => false,
+        (Entry::Row | Entry::Duties, _) => false,
         (_, 0..=6) => true,
         (Entry::Energy, 8) => true,
         (entry, 7 | 9) => is_merge(entry),
@@ -365,6 +388,7 @@ fn why_empty(number: u32, file: u32) -> Option<Why> {
         (1 | 21, _) => Why::NoInput("1 and 21 are about H and the edition, which stand in no file"),
         (_, 0) => Why::NoInput("file 0 is for H, the edition, the curves' room and the merged text's room"),
         (2, _) => Why::NoSmallText("2 wants a text past 64 MiB: host/compare large"),
+        (_, DUTIES) => Why::NoInput("duties have 2, 3, 4, 5, 6, 10 and 16 alone"),
         (3 | 4 | 8, 3) => Why::NoInput("constraints.json has no header and no rows"),
         (8, _) => Why::NoInput("8 is about a nominal, which profiles do not have"),
         (9..=11, _) => Why::NoInput("9, 10 and 11 are about JSON"),
@@ -377,15 +401,15 @@ fn why_empty(number: u32, file: u32) -> Option<Why> {
 
 /// Limits that small texts do not reach, within cells that other inputs fill.
 const LARGER: &str =
-    "6 past 32,768 legs, 1,048,576 configurations or samples, 16,384 profiles, 65,536 constraints, 4,096 tracks wants texts past 16 KiB: \
-host/compare large";
+    "6 past 32,768 legs, 1,048,576 configurations or samples, 16,384 profiles, 65,536 constraints, 4,096 tracks, 8,192 rows of duties wants large \
+texts: host/compare large";
 
 impl fmt::Display for Coverage {
     fn fmt(&self, out: &mut fmt::Formatter) -> fmt::Result {
         self.entries(out)?;
         self.refusals(out)?;
         let mut reasons = Vec::new();
-        for cell in NUMBERS.into_iter().flat_map(|number| (0..=5).map(move |file| (number, file))) {
+        for cell in NUMBERS.into_iter().flat_map(|number| (0..=DUTIES).map(move |file| (number, file))) {
             let reason = match why_empty(cell.0, cell.1) {
                 Some(Why::NoInput(reason)) => format!("  - {reason}"),
                 Some(Why::NoSmallText(reason)) => format!("  * {reason}"),
@@ -403,6 +427,7 @@ impl fmt::Display for Coverage {
         self.tallies(out)?;
         self.marks(out)?;
         self.editions(out)?;
+        self.duties(out)?;
         for (room, name) in ROOMS.iter().enumerate() {
             writeln!(out, "16 for want of room for {name:16}{:>6}", self.rooms[room])?;
         }

@@ -64,6 +64,9 @@ pub fn alike(call: &Call) -> Cell {
 /// The cell that a call met, if it is about its edition.
 pub fn met(call: &Call, said: &Said) -> Option<Cell> {
     let case = &call.case;
+    if !call.entry.is_judging() {
+        return None;
+    }
     let met = match said.answer()? {
         Answer::Refused { number: EDITION, .. } => return UNKNOWN.contains(&case.edition).then_some(Cell::Unknown(case.edition)),
         Answer::Refused { number: UNKNOWN_NAME, file: CONSTRAINTS, place } => At::of(case, place).unknown()?,

@@ -161,7 +161,7 @@ fn fitted(mut call: Call) -> Call {
         Entry::Energy => rooms.curves = call.case.energy().curves.map_or(0, |curves| curves.len()),
         Entry::MergeEarlier => rooms.text = text_length(&call.case, Direction::Earlier),
         Entry::MergeLater => rooms.text = text_length(&call.case, Direction::Later),
-        Entry::Check | Entry::Row => {}
+        Entry::Check | Entry::Row | Entry::Duties => {}
     }
     call.case.rooms = rooms;
     call

@@ -1,6 +1,7 @@
 //! The limits that want large texts, each at its edge and past it.
 
 use crate::executor::{compared, Executor};
+use cases::duties::{self, Row};
 use cases::examples::worked;
 use cases::spelling::exported;
 use independent::{Call, Case, Entry, Rooms};
@@ -16,6 +17,12 @@ const SAMPLES: usize = 1_048_576;
 const CONSTRAINTS: usize = 65_536;
 const TRACKS: usize = 4_096;
 const LONGEST_HORIZON: u32 = 176_400;
+
+// Document 02, E13.
+const DUTY_ROWS: usize = 8_192;
+const NODES: usize = 1_024;
+const LONGEST_NAME: usize = 32;
+const LAST_SECOND: u32 = 863_999;
 
 /// The least numbers with as many digits as an id, a departure and a travel time may have.
 const LONG_ID: usize = 100_000_000;
@@ -72,6 +79,11 @@ fn edges() -> Vec<Edge> {
         edge("constraints", |past| constrained(CONSTRAINTS + past)),
         edge("tests", |past| tested(CONSTRAINTS + past)),
         edge("tracks", |past| tracked(TRACKS + past)),
+        edge("bytes of duties", |past| of_duties(vec![b'x'; TEXT + past])),
+        edge("rows of duties", |past| of_duties(plain_duties(DUTY_ROWS + past))),
+        edge("rows of one duty, of the longest names, in quotes", |past| of_duties(longest_duty(DUTY_ROWS + past))),
+        edge("nodes", |past| of_duties(with_nodes(NODES + past))),
+        edge("nodes and rows of duties", |past| of_duties(with_both(past))),
     ]
 }
 
@@ -204,6 +216,50 @@ fn tracked(tracks: usize) -> Call {
     example(Entry::Check, CONSTRAINT_TEXT, constraints("", "", &tracks.join(", ")))
 }
 
+/// Duties with room for the most nodes.
+fn of_duties(text: Vec<u8>) -> Call {
+    Call::of(Entry::Duties, duties::case(text, NODES * duties::NODE, NODES))
+}
+
+fn text_of(rows: Vec<Row>) -> Vec<u8> {
+    duties::Plan::of(rows).text()
+}
+
+/// A name of the most bytes; its last ones are those of the number.
+fn long_name(first: char, number: usize) -> String {
+    format!("{first}{number:0width$}", width = LONGEST_NAME - 1)
+}
+
+/// So many duties of one row.
+fn plain_duties(rows: usize) -> Vec<u8> {
+    text_of((0..rows).map(|row| Row::train(&format!("D{row}"), 1, (0, 1), ("x", "y"))).collect())
+}
+
+/// One duty of so many rows, which ends in the last second, or where it would pass it in an earlier one: the longest of all.
+fn longest_duty(rows: usize) -> Vec<u8> {
+    let first = LAST_SECOND - rows as u32;
+    let row = |row: usize| {
+        let (start, nodes) = (first + row as u32, [row, row + 1].map(|node| long_name('N', node % NODES)));
+        let train = Row::train(&long_name('D', 0), row as u32 + 1, (start, start + 1), (&nodes[0], &nodes[1]));
+        train.with(duties::COURSE, &long_name('C', row))
+    };
+    exported(&text_of((0..rows).map(row).collect()))
+}
+
+/// Duties of one row with two nodes each, or one in the last.
+fn with_nodes(nodes: usize) -> Vec<u8> {
+    let name = |node: usize| long_name('N', node.min(nodes - 1));
+    let rows = (0..(nodes + 1) / 2).map(|row| Row::train(&format!("D{row}"), 1, (0, 1), (&name(2 * row), &name(2 * row + 1))));
+    text_of(rows.collect())
+}
+
+/// As many duties and as many nodes as there may be; and so many rows more, each with a node of its own.
+fn with_both(more: usize) -> Vec<u8> {
+    let node = |row: usize| long_name('N', if row < DUTY_ROWS { row % NODES } else { row });
+    let row = |row: usize| Row::train(&long_name('D', row), 1, (0, 1), (&node(row), &long_name('N', (row + 1) % NODES)));
+    text_of((0..DUTY_ROWS + more).map(row).collect())
+}
+
 #[cfg(test)]
 mod tests {
     use super::*;
@@ -216,6 +272,16 @@ mod tests {
         let call = longest(0);
         assert_eq!(call.case.texts[TIMETABLE].len(), 25_919_617);
         assert_eq!(line(&call).0.answer(), Some(Answer::Accepted));
+    }
+
+    /// In quotes a legal file of duties is about so long.
+    #[test]
+    fn the_longest_duty_is_accepted() {
+        let call = of_duties(longest_duty(DUTY_ROWS));
+        assert_eq!(call.case.texts[TIMETABLE].len(), 1_653_827);
+        assert_eq!(line(&call).0.answer(), Some(Answer::Accepted));
+        assert_eq!(line(&of_duties(with_both(0))).0.answer(), Some(Answer::Accepted));
+        assert_eq!(line(&of_duties(with_nodes(NODES))).0.answer(), Some(Answer::Accepted));
     }
 
     #[test]

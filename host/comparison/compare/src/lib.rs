@@ -4,6 +4,7 @@ pub mod block;
 pub mod command;
 pub mod comparison;
 pub mod coverage;
+pub mod duties;
 pub mod editions;
 pub mod executor;
 pub mod expected;

@@ -1,4 +1,4 @@
-//! A call's line: what is answered, how much was tested for a verdict, then a digest of each lent room.
+//! A call's line: what is answered, how much was tested for a verdict, then a digest of each lent room; of duties, of nodes and balances.
 
 use independent::{Answer, Desk, Figures, Lent, Said};
 
@@ -16,7 +16,9 @@ pub const BEFORE: u8 = 7;
 
 /// The line of an answer, of the row that was shown, and of the rooms as the call left them.
 pub fn line(said: &Said, row: &[u8], lent: &Lent) -> String {
-    let digests: Vec<String> = digests(lent).iter().map(u32::to_string).collect();
+    let [nodes, .., balances, _] = digests(lent);
+    let digests = if let Said::Duties(..) = said { vec![nodes, balances] } else { digests(lent).to_vec() };
+    let digests: Vec<String> = digests.iter().map(u32::to_string).collect();
     format!("{} | {}", words(said, row), digests.join(" "))
 }
 
@@ -25,7 +27,8 @@ fn words(said: &Said, row: &[u8]) -> String {
         Said::Checked(answer, _) => answer.line(),
         Said::Reported(Answer::Accepted, _, figures, desk, quarters) => format!("accepted {}", reported(figures, desk, quarters)),
         Said::Merged(Answer::Accepted, _, length) => format!("accepted {length}"),
-        Said::Reported(answer, ..) | Said::Merged(answer, ..) => answer.line(),
+        Said::Duties(Answer::Accepted, nodes) => format!("accepted {nodes}"),
+        Said::Reported(answer, ..) | Said::Merged(answer, ..) | Said::Duties(answer, _) => answer.line(),
         Said::Row(_, length) => format!("row {length} {}", digest(row.iter().map(|byte| u32::from(*byte)))),
     };
     answer + &said.tally().map_or(String::new(), |tally| tally.words())

@@ -1,7 +1,6 @@
 //! What quotes and CR LF (document 02, E1) did in a call: the cells of the table that are about them. Whether a refusal is theirs is told by
 //! what is answered without them.
 
-use cases::spelling::CSV;
 use cases::target::is_merge;
 use independent::{Answer, Call, Entry, Lent, Refusal, Said};
 
@@ -17,6 +16,9 @@ const ROW: u32 = 4;
 /// The texts of draft and solution.
 const DRAFT: usize = 0;
 const SOLUTION: usize = 3;
+
+/// The file of duties, whose text stands where the draft does.
+const DUTIES: usize = 6;
 
 /// What is met in one of the CSV files.
 #[derive(Clone, Copy, Debug, PartialEq, Eq, PartialOrd, Ord)]
@@ -68,37 +70,40 @@ pub enum Cell {
     OfCall(InCall),
 }
 
-/// The number of a text's file.
-fn file(text: usize) -> usize {
-    text + 1
+/// The text of a file.
+fn text_of(file: usize) -> usize {
+    if file == DUTIES {
+        return DRAFT;
+    }
+    file - 1
 }
 
 /// The files of the cells.
-pub fn files() -> [usize; 4] {
-    CSV.map(file)
+pub fn files() -> [usize; 5] {
+    [1, 2, 4, 5, DUTIES]
 }
 
 /// The cells that one of the entries can reach, with their names.
 pub fn cells(entries: &[Entry]) -> Vec<(Cell, String)> {
-    let reads = |text: &usize| entries.iter().any(|entry| texts(*entry).contains(text));
+    let reads = |file: &usize| entries.iter().any(|entry| judged(*entry).contains(file));
     let mut cells = Vec::new();
     for (met, name) in IN_FILE {
-        cells.extend(
-            CSV.iter().filter(|text| reads(text)).map(|text| (Cell::OfFile(met, file(*text)), format!("{name}, file {}", file(*text)))),
-        );
+        let read = files().into_iter().filter(reads);
+        cells.extend(read.map(|file| (Cell::OfFile(met, file), format!("{name}, file {file}"))));
     }
-    let judges = |met: InCall| met == InCall::Differently;
-    let reached = |met: InCall| entries.iter().any(|entry| judges(met) == (*entry != Entry::Row));
+    let reaches = |entry: Entry, met: InCall| if met == InCall::Differently { entry.is_judging() } else { entry == Entry::Row };
+    let reached = |met: InCall| entries.iter().any(|entry| reaches(*entry, met));
     cells.extend(IN_CALL.iter().filter(|(met, _)| reached(*met)).map(|(met, name)| (Cell::OfCall(*met), name.to_string())));
     cells
 }
 
-/// The CSV texts that an entry judges.
-fn texts(entry: Entry) -> &'static [usize] {
+/// The CSV files that an entry judges.
+fn judged(entry: Entry) -> &'static [usize] {
     match entry {
         Entry::Row => &[],
-        entry if is_merge(entry) => &CSV,
-        _ => &[0, 1, 3],
+        Entry::Duties => &[DUTIES],
+        entry if is_merge(entry) => &[1, 2, 4, 5],
+        _ => &[1, 2, 4],
     }
 }
 
@@ -114,8 +119,8 @@ pub fn met(call: &Call, said: &Said) -> Vec<Cell> {
 
 fn accepted(call: &Call) -> Vec<Cell> {
     let mut cells = Vec::new();
-    for text in texts(call.entry) {
-        let bytes = &call.case.texts[*text];
+    for file in judged(call.entry) {
+        let bytes = &call.case.texts[text_of(*file)];
         let lines = bytes.iter().filter(|byte| **byte == FEED).count();
         let returned = bytes.iter().filter(|byte| **byte == RETURN).count();
         let found = [
@@ -123,10 +128,10 @@ fn accepted(call: &Call) -> Vec<Cell> {
             (InFile::Returned, returned > 0),
             (InFile::BothEnds, returned > 0 && returned < lines),
         ];
-        cells.extend(found.iter().filter(|(_, is_met)| *is_met).map(|(met, _)| Cell::OfFile(*met, file(*text))));
+        cells.extend(found.iter().filter(|(_, is_met)| *is_met).map(|(met, _)| Cell::OfFile(*met, *file)));
     }
     let quoted = [DRAFT, SOLUTION].map(|text| call.case.texts[text].contains(&QUOTE));
-    if quoted[0] != quoted[1] {
+    if call.entry.is_judging() && quoted[0] != quoted[1] {
         cells.push(Cell::OfCall(InCall::Differently));
     }
     cells
@@ -146,7 +151,7 @@ fn shown(call: &Call, start: usize) -> Vec<Cell> {
 /// The bytes of the refused line whose absence, each sort by itself, gives another answer.
 fn refused(call: &Call, refusal: &Refusal) -> Vec<Cell> {
     let file = refusal.file as usize;
-    let text = file - 1;
+    let text = text_of(file);
     let line = line_at(&call.case.texts[text], refusal.place);
     let is_cured = |dropped: &[usize]| !dropped.is_empty() && without(call, text, dropped) != Some((*refusal).into());
     let all = |byte: u8| line.iter().filter(|(_, other)| *other == byte).map(|(at, _)| *at).collect::<Vec<usize>>();
@@ -199,7 +204,8 @@ mod tests {
     #[test]
     fn the_calls_that_no_seed_changes_meet_every_cell() {
         let said = |call: &Call| call.run(&mut Lent::full_of(0, &call.case.rooms));
-        let met: BTreeSet<Cell> = cases::quotes::calls().iter().flat_map(|named| met(&named.call, &said(&named.call))).collect();
+        let calls = [cases::quotes::calls(), cases::duties::calls()].concat();
+        let met: BTreeSet<Cell> = calls.iter().flat_map(|named| met(&named.call, &said(&named.call))).collect();
         for (cell, name) in cells(&Entry::ALL) {
             assert!(met.contains(&cell), "{name}");
         }

@@ -34,7 +34,7 @@ pub fn all() -> Vec<(Met, String)> {
 /// Whether the entry can meet it. A merge that is accepted is a text and has no count.
 pub fn is_reached(entry: Entry, met: Met) -> bool {
     match met {
-        _ if entry == Entry::Row => false,
+        _ if !entry.is_judging() => false,
         Met::EveryKind | Met::Nothing => !is_merge(entry),
         Met::Behind { file, .. } => file == SOLUTION || is_merge(entry),
     }

@@ -8,7 +8,7 @@ use compare::executor::{Executor, Nobody, Replay};
 use compare::expected::{answer, line};
 use compare::lines::{self, BEFORE, LABEL};
 use compare::{folder, input};
-use independent::{Answer, Call, Case, Direction, Entry, Lent};
+use independent::{Answer, Call, Case, Direction, Duties, Entry, Lent};
 use std::path::PathBuf;
 
 /// The independent program in replay's place.
@@ -49,7 +49,7 @@ impl Past {
     fn line(&self, call: &Call) -> String {
         let mut lent = Lent::full_of(BEFORE, &call.case.rooms);
         let said = call.run(&mut lent);
-        if said.answer() == Some(Answer::Accepted) {
+        if said.answer() == Some(Answer::Accepted) && call.entry.is_judging() {
             self.write(&mut lent, ends(call)[self.0]);
         }
         lines::line(&said, if call.entry == Entry::Row { call.row_bytes() } else { &[] }, &lent)
@@ -85,7 +85,7 @@ fn ends(call: &Call) -> [Option<usize>; 10] {
         Entry::MergeEarlier => (call.case.merge(Direction::Earlier).tables, None, call.case.merge(Direction::Earlier).text),
         Entry::MergeLater => (call.case.merge(Direction::Later).tables, None, call.case.merge(Direction::Later).text),
         Entry::Energy => (call.case.check().tables, call.case.energy().curves, None),
-        Entry::Check | Entry::Row => (call.case.check().tables, None, None),
+        Entry::Check | Entry::Row | Entry::Duties => (call.case.check().tables, None, None),
     };
     let tables = tables.unwrap_or_default();
     let [legs, configurations, profiles] = [tables.legs.len(), tables.configurations.len(), tables.profiles.len()].map(Some);
@@ -154,6 +154,9 @@ fn a_program_that_counts_otherwise_differs() {
 #[test]
 fn a_program_that_leaves_the_last_room_alone_differs() {
     let leaving = |call: &Call, line: String| {
+        if call.entry == Entry::Duties {
+            return line;
+        }
         let mut untouched = call.clone();
         untouched.entry = Entry::Row;
         let rooms = Nobody.run(&[&untouched]).unwrap().remove(0);
@@ -174,6 +177,49 @@ fn an_edition_that_is_not_looked_at_rightly_is_found() {
         _ => line.replace("refused 1 0 0", "refused 21 0 0"),
     };
     assert!(differing(&Wrong(before), "before") > 5);
+}
+
+/// A library that judges duties by another rule first, by rows as they come, that leaves their balances on a broken row, or takes them for those of rows.
+#[test]
+fn duties_that_are_not_judged_rightly_are_found() {
+    let last_rule = |call: &Call, line: String| match call.case.duties() {
+        Duties { answer: Answer::Broken { row, place, .. }, faults, .. } if call.entry == Entry::Duties => {
+            let last = faults[faults.len() - 1];
+            format!("broken {row} {last} {place} | {}", line.split(" | ").nth(1).unwrap())
+        }
+        _ => line,
+    };
+    assert!(differing(&Wrong(last_rule), "last-rule") > 14);
+    let as_they_come = |call: &Call, line: String| {
+        let is_behind = call.entry == Entry::Duties && call.case.duties().is_behind_broken;
+        if is_behind {
+            line.replacen("refused", "broken", 1)
+        } else {
+            line
+        }
+    };
+    assert!(differing(&Wrong(as_they_come), "as-they-come") > 4);
+    let unfilled = |call: &Call, line: String| {
+        let untouched = lines::line(&call.run(&mut Lent::full_of(BEFORE, &call.case.rooms)), &[], &Lent::full_of(BEFORE, &call.case.rooms));
+        if line.starts_with("broken") {
+            untouched
+        } else {
+            line
+        }
+    };
+    assert!(differing(&Wrong(unfilled), "unfilled") > 100);
+    let other_sign = |call: &Call, line: String| {
+        let mut lent = Lent::full_of(BEFORE, &call.case.rooms);
+        let said = call.run(&mut lent);
+        let nodes = call.case.duties().balance.map_or(0, |balance| balance.len());
+        lent.curves.iter_mut().take(nodes).for_each(|balance| *balance = -*balance);
+        if call.entry == Entry::Duties {
+            lines::line(&said, &[], &lent)
+        } else {
+            line
+        }
+    };
+    assert!(differing(&Wrong(other_sign), "other-sign") > 100);
 }
 
 #[test]

@@ -1,28 +1,32 @@
 //! Writes seeded cases of the independent program as statements about the definitions of
-//! `crates/rules/specs/Entries.antt`: the same inputs, and the answers of the independent program.
+//! `crates/rules/specs/Entries.antt` and `Duties.antt`: the same inputs, and the answers of the independent program.
 //! The prover computes each by the definitions, so that a difference is refused.
 //!
-//! `definitions SEED COUNT DIR` writes `DIR/Lib.antt` and a module for each ten cases.
+//! `definitions SEED COUNT DIR` writes `DIR/Lib.antt` and a module for each twelve cases.
 
 use cases::draw::for_target;
+use cases::duties::{self, drawn};
 use cases::edges::last_quarters;
 use cases::quotes;
 use cases::random::Random;
 use cases::spelling::CSV;
 use cases::target::{targets, Target};
 use cases::{editions, tallies, Scale};
-use independent::{Call, Case, Edition, Entry, Lent, Said};
+use independent::{Answer, Call, Case, Edition, Entry, Lent, Said};
 use std::fmt::Write as _;
 use std::path::Path;
 use std::process::ExitCode;
 
-const CASES_A_MODULE: usize = 10;
+const CASES_A_MODULE: usize = 12;
 
 /// Statements over longer horizons take the prover too long.
 const LONGEST_HORIZON: u32 = 2_700;
 
 /// Longer curves are too long to be written out.
 const LONGEST_CURVE: u32 = 100;
+
+/// Longer files of duties take the prover too long.
+const LONGEST_DUTIES: usize = 450;
 
 const HEAD: &str = include_str!("head.txt");
 
@@ -61,7 +65,10 @@ fn run(words: &[String]) -> Result<String, String> {
     write(dir, "Lib.antt", &modules)?;
     let quoted = calls.iter().filter(|call| is_marked(&call.case)).count();
     let by_table = calls.iter().filter(|call| call.case.edition == Edition::Table as u32).count();
-    Ok(format!("{statements} statements of {count} cases, {quoted} of them with quotes or CR LF, {by_table} of edition 1"))
+    let duties = calls.iter().filter(|call| call.entry == Entry::Duties).count();
+    Ok(format!(
+        "{statements} statements of {count} cases, {quoted} of them with quotes or CR LF, {by_table} of edition 1, {duties} of duties"
+    ))
 }
 
 /// Whether a CSV text of the case has a quote or a CR.
@@ -73,8 +80,8 @@ fn write(dir: &str, name: &str, text: &str) -> Result<(), String> {
     std::fs::write(Path::new(dir).join(name), text).map_err(|e| format!("{name}: {e}"))
 }
 
-/// The call of a number: of each ten one is a merge, with its energies too, one an energy, one an energy with H at the edges of quarters, two have quotes
-/// and CR LF at their edges, one a key or an edition, and one tests of every kind.
+/// The call of a number: of each twelve one is a merge, with its energies too, one an energy, one an energy with H at the edges of quarters, two have quotes
+/// and CR LF at their edges, one a key or an edition, one tests of every kind, and two are of duties, one of them at an edge.
 fn drawn(seed: u64, number: usize) -> Call {
     let mut random = Random::of(seed, number as u64);
     let entry = match number % CASES_A_MODULE {
@@ -84,6 +91,8 @@ fn drawn(seed: u64, number: usize) -> Call {
         2 | 7 => return random.pick(&quotes::calls()).call.clone(),
         5 => return random.pick(&editions::calls_of(Entry::Check)).call.clone(),
         8 => return random.pick(&tallies::calls_of(Entry::Check)).call.clone(),
+        10 => return drawn_duties(&mut random),
+        11 => return duties_at_an_edge(&mut random),
         _ => Entry::Check,
     };
     let targets = targets(entry);
@@ -93,6 +102,22 @@ fn drawn(seed: u64, number: usize) -> Call {
             return Call::of(entry, case);
         }
     }
+}
+
+/// Duties that give some answer, each as likely as another.
+fn drawn_duties(random: &mut Random) -> Call {
+    loop {
+        let target = *random.pick(&targets(Entry::Duties));
+        if let Some(case) = drawn::for_target(random, target, drawn::Scale::Tiny) {
+            return Call::of(Entry::Duties, case);
+        }
+    }
+}
+
+fn duties_at_an_edge(random: &mut Random) -> Call {
+    let mut calls: Vec<Call> = duties::calls().into_iter().map(|named| named.call).collect();
+    calls.retain(|call| call.case.texts[0].len() <= LONGEST_DUTIES);
+    calls.swap_remove(random.below(calls.len()))
 }
 
 /// The calls with H at the edges of quarters, by turns, as far as the prover computes them.
@@ -110,13 +135,25 @@ fn state(call: &Call, number: usize, text: &mut String) -> usize {
         let _ = write!(text, "{name}{number} : {left} ≡ {right}\nunfolding computed\n{name}{number} = refl\n\n");
         count += 1;
     };
-    if *entry == Entry::Row {
+    if *entry == Entry::Duties {
+        state_duties(call, &mut claim);
+    } else if *entry == Entry::Row {
         let left = format!("rowAt {} {} {file} {place}", bytes(&case.texts[0]), bytes(&case.texts[3]));
         claim("row", left, call.row_bytes().iter().map(|byte| i64::from(*byte)).collect());
     } else {
         state_answers(*entry, case, &mut claim);
     }
     count
+}
+
+/// The answer with its code, and both tables, whole.
+fn state_duties(call: &Call, claim: &mut dyn FnMut(&str, String, Vec<i64>)) {
+    let (said, left) = answered(Entry::Duties, &call.case);
+    let rooms = call.case.rooms;
+    let input = format!("{} (nines {}) (signedNines {})", bytes(&call.case.texts[0]), rooms.legs, rooms.curves);
+    let nodes = left.legs.iter().map(|number| i64::from(*number)).collect();
+    let balances = left.curves.iter().map(|balance| unsigned(*balance)).collect();
+    claim("duties", format!("dutiesSay (dutiesChecked {input})"), [said, nodes, balances].concat());
 }
 
 /// The same of an entry that judges.
@@ -156,11 +193,13 @@ fn answered(entry: Entry, case: &Case) -> (Vec<i64>, Lent) {
     let said = Call::of(entry, case.clone()).run(&mut lent);
     let answer = said.answer().map_or(Vec::new(), |answer| answer.numbers());
     let tally = said.tally().unwrap_or_default().numbers().into_iter().map(|count| count as i64).collect();
+    let tally = if entry == Entry::Duties { Vec::new() } else { tally };
     let figures = match said {
+        Said::Duties(Answer::Accepted, nodes) => vec![nodes as i64],
         Said::Reported(_, _, f, _, [of_before, of_drawn]) => {
             vec![f.before, f.drawn, f.lost, f.fluctuation, f.peak_before, f.peak_drawn, of_before as i64, of_drawn as i64]
         }
-        Said::Checked(..) | Said::Merged(..) | Said::Row(..) => Vec::new(),
+        Said::Checked(..) | Said::Merged(..) | Said::Row(..) | Said::Duties(..) => Vec::new(),
     };
     ([answer, tally, figures].concat(), lent)
 }

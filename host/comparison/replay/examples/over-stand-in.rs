@@ -10,6 +10,7 @@ const STAND_IN: Exports = Exports {
     merge_earlier: stand_in::wagontulip_merge_earlier,
     merge_later: stand_in::wagontulip_merge_later,
     row: stand_in::wagontulip_row,
+    duties: stand_in::wagontulip_duties,
 };
 
 fn main() -> ExitCode {

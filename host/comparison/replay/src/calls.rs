@@ -13,10 +13,11 @@ pub enum Entry {
     MergeEarlier,
     MergeLater,
     Row,
+    Duties = 11,
 }
 
 impl Entry {
-    pub const ALL: [Entry; 5] = [Entry::Check, Entry::Energy, Entry::MergeEarlier, Entry::MergeLater, Entry::Row];
+    pub const ALL: [Entry; 6] = [Entry::Check, Entry::Energy, Entry::MergeEarlier, Entry::MergeLater, Entry::Row, Entry::Duties];
 
     /// The entry of a block's number, if it is there.
     pub fn of(number: u32) -> Option<Entry> {
@@ -51,6 +52,7 @@ pub fn call(exports: &Exports, entry: Entry, block: &Block, texts: &Texts, rooms
         Entry::MergeLater => call!((exports.merge_later), block, timetable, profiles, constraints, solution, second;
             rooms lends legs, configurations, profiles, samples, constraints, tracks, choices, second_choices, text),
         Entry::Row => row(exports, block, timetable, solution),
+        Entry::Duties => duties(exports, timetable, rooms),
     }
 }
 
@@ -60,5 +62,16 @@ fn row(exports: &Exports, block: &Block, draft: &[u8], solution: &[u8]) -> Numbe
     let mut answer = UNWRITTEN;
     // Safe: each pointer goes with the length of its slice.
     unsafe { (exports.row)(draft.as_ptr(), draft.len(), solution.as_ptr(), solution.len(), file, block.place, &mut answer) };
+    answer
+}
+
+/// Duties stand where a timetable does; the room of legs is that of their nodes, and the room of curves that of their balances.
+fn duties(exports: &Exports, text: &[u8], rooms: &mut Rooms) -> Numbers {
+    let (nodes, balance) = (&mut rooms.legs, &mut rooms.curves);
+    let mut answer = UNWRITTEN;
+    // Safe: each pointer goes with the length of its slice, and the tables are vectors of their own, lent for this call alone.
+    unsafe {
+        (exports.duties)(text.as_ptr(), text.len(), nodes.as_mut_ptr(), nodes.len(), balance.as_mut_ptr(), balance.len(), &mut answer);
+    }
     answer
 }

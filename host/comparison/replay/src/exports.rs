@@ -10,12 +10,14 @@ pub const TESTED: usize = 16;
 /// What a function answers: a code, then the values, then how much was tested; unused ones are 0.
 pub type Numbers = [u64; NUMBERS];
 
-/// A function takes H, the edition, its texts, the tables that it fills, and room for its answer; a text and a table are a pointer and a length each.
+/// A function takes H, the edition, its texts, the tables that it fills, and room for its answer; a text and a table are a pointer and a length each. Those
+/// of a row and of duties take no H and no edition.
 macro_rules! exports {
     ($($name:ident is $export:ident($($text:ident),*) filling $($table:ident: $number:ty),*;)*) => {
         extern "C" {
             $(pub fn $export(h: u32, edition: u32, $($text: *const u8, _: usize,)* $($table: *mut $number, _: usize,)* answer: *mut Numbers);)*
             pub fn wagontulip_row(draft: *const u8, _: usize, solution: *const u8, _: usize, file: u8, place: u32, answer: *mut Numbers);
+            pub fn wagontulip_duties(text: *const u8, _: usize, nodes: *mut u32, _: usize, balance: *mut i32, _: usize, answer: *mut Numbers);
         }
 
         /// The functions of one library.
@@ -23,6 +25,7 @@ macro_rules! exports {
         pub struct Exports {
             $(pub $name: unsafe extern "C" fn(h: u32, edition: u32, $($text: *const u8, _: usize,)* $($table: *mut $number, _: usize,)* *mut Numbers),)*
             pub row: unsafe extern "C" fn(draft: *const u8, _: usize, solution: *const u8, _: usize, u8, u32, *mut Numbers),
+            pub duties: unsafe extern "C" fn(text: *const u8, _: usize, nodes: *mut u32, _: usize, balance: *mut i32, _: usize, *mut Numbers),
         }
     };
 }

@@ -21,6 +21,7 @@ const ACCEPTED: u64 = 0;
 const VIOLATED: u64 = 1;
 const REFUSED: u64 = 2;
 const ROW: u64 = 3;
+const BROKEN: u64 = 4;
 
 /// An answer's numbers after its code, without those of what was tested.
 type Values = [u64; TESTED - 1];
@@ -43,6 +44,20 @@ const VIOLATION: [Range; 5] = [0..=5, COUNT, 0..=2, COUNT, 4..=5];
 /// Number, file, place.
 const REFUSAL: [Range; 3] = [COUNT, 0..=5, COUNT];
 
+/// Row, rule, place.
+const BROKEN_ROW: [Range; 3] = [COUNT, 1..=6, COUNT];
+
+/// Number, file, place of duties.
+const DUTIES_REFUSAL: [Range; 3] = [COUNT, 6..=6, COUNT];
+
+/// The refusal numbers of duties.
+fn is_duties_refusal(number: u64) -> bool {
+    matches!(number, 2..=6 | 10 | 16)
+}
+
+/// A node's numbers in its table.
+const NODE: usize = 2;
+
 /// Document 01's refusal numbers, and that of an edition that is not known.
 fn is_refusal(number: u64) -> bool {
     matches!(number, 1..=17 | 21)
@@ -58,9 +73,30 @@ const SOLUTION: u32 = 4;
 /// The line of an answer, and of the rooms as the call left them. An answer that is none of the header's is written with all its numbers, so that it differs
 /// from any that is expected.
 pub fn line(entry: Entry, block: &Block, texts: &Texts, numbers: &Numbers, rooms: &Rooms) -> String {
-    let shown = if entry == Entry::Row { row(numbers, shown_text(block, texts)) } else { words(entry, numbers, rooms.text.len()) };
+    let shown = match entry {
+        Entry::Row => row(numbers, shown_text(block, texts)),
+        Entry::Duties => duties(numbers, rooms.curves.len().min(rooms.legs.len() / NODE)),
+        _ => words(entry, numbers, rooms.text.len()),
+    };
     let said = shown.unwrap_or_else(|| listed("unknown", numbers));
-    listed(&format!("{said} |"), &rooms.digests())
+    let digests = match entry {
+        Entry::Duties => vec![digest(&rooms.legs), digest(&rooms.curves)],
+        _ => rooms.digests().to_vec(),
+    };
+    listed(&format!("{said} |"), &digests)
+}
+
+/// What is said of duties, with room for so many nodes; how much was tested is none of theirs.
+fn duties(numbers: &Numbers, room: usize) -> Option<String> {
+    let (answer, tested) = numbers.split_at(TESTED);
+    let [code, values @ ..] = <&[u64; TESTED]>::try_from(answer).ok()?;
+    match *code {
+        _ if !is_untested(tested) => None,
+        ACCEPTED => said("accepted", values, &[0..=room as u64]),
+        BROKEN => said("broken", values, &BROKEN_ROW),
+        REFUSED if is_duties_refusal(values[0]) => said("refused", values, &DUTIES_REFUSAL),
+        _ => None,
+    }
 }
 
 /// The words, then the numbers, with a space before each.
@@ -163,6 +199,39 @@ mod tests {
         assert_eq!(told(Entry::MergeEarlier, &[0, 9]).unwrap(), "accepted 9");
         assert_eq!(row(&numbers(&[3, 1, 2]), b"\n12").unwrap(), "row 2 1569");
         assert_eq!(row(&numbers(&[3]), b"").unwrap(), "row 0 0");
+    }
+
+    #[test]
+    fn duties_have_their_words() {
+        let told = |first: &[u64]| duties(&numbers(first), 9);
+        assert_eq!(told(&[0, 9]).unwrap(), "accepted 9");
+        assert_eq!(told(&[0]).unwrap(), "accepted 0");
+        assert_eq!(told(&[4, 7, 5, 624]).unwrap(), "broken 7 5 624");
+        assert_eq!(told(&[2, 16, 6, 129]).unwrap(), "refused 16 6 129");
+        let others: [&[u64]; 12] = [
+            &[0, 10],
+            &[0, 1, 1],
+            &[1, 3, 7, 1, 3, 5],
+            &[3],
+            &[4, 7, 0, 624],
+            &[4, 7, 7, 624],
+            &[4, 1 << 32, 1, 624],
+            &[4, 7, 5, 624, 1],
+            &[2, 16, 5, 129],
+            &[2, 7, 6, 129],
+            &[2, 21, 6, 0],
+            &[u64::MAX; NUMBERS],
+        ];
+        for other in others {
+            assert_eq!(told(other), None, "{other:?}");
+        }
+        let mut counted = numbers(&[0, 9]);
+        counted[TESTED] = 1;
+        assert_eq!(duties(&counted, 9), None);
+        for entry in [Entry::Check, Entry::Energy, Entry::MergeEarlier] {
+            assert_eq!(words(entry, &numbers(&[4, 7, 5, 624]), 9), None);
+            assert_eq!(words(entry, &numbers(&[2, 4, 6, 129]), 9), None);
+        }
     }
 
     #[test]

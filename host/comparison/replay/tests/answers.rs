@@ -2,7 +2,7 @@
 
 mod common;
 
-use common::{accepted, answer, case, example, expected, line, lines, written, EDITION, ENOUGH, H, STAND_IN};
+use common::{accepted, answer, case, duties, example, expected, line, lines, written, DUTIES, EDITION, ENOUGH, H, STAND_IN};
 use independent::{Call, Case, Entry, Rooms};
 
 /// The line that is given, which is the expected one.
@@ -85,6 +85,27 @@ fn rows() {
     }
 }
 
+/// Accepted, broken and refused, with rooms at the need and below it.
+#[test]
+fn duties_in_their_rooms() {
+    let of = |text: &str, nodes, balances| agreed(&duties(text, nodes, balances));
+    let told = |text: &str, nodes, balances| answer(&of(text, nodes, balances)).to_string();
+    assert_eq!(told(DUTIES, 6, 3), "accepted 3");
+    assert_eq!(told(DUTIES, 100, 100), "accepted 3");
+    assert_eq!(told(DUTIES, 5, 3), "refused 16 6 204");
+    assert_eq!(told(DUTIES, 6, 2), "refused 16 6 204");
+    assert_eq!(told(DUTIES, 3, 1), "refused 16 6 129");
+    assert_eq!(of(DUTIES, 0, 0), "refused 16 6 129 | 0 0");
+    assert_eq!(told(&DUTIES.replace("9,2,", "9,3,"), 6, 3), "broken 1 4 204");
+    assert_eq!(told(&DUTIES.replace("TRAIN,9", "RESERVE,"), 6, 3), "refused 4 6 204");
+    assert_eq!(told(&DUTIES.replace("DUTY_ID", "DUTY"), 6, 3), "refused 3 6 0");
+    // Two nodes of two numbers, and their balances.
+    let one: String = DUTIES.lines().take(2).map(|line| format!("{line}\n")).collect();
+    let digest = |numbers: &[u32]| numbers.iter().fold(0u32, |digest, number| digest.wrapping_mul(31).wrapping_add(*number));
+    let places = [one.find("OLDOXRS").unwrap() as u32, 7, one.find("PADTLL").unwrap() as u32, 6];
+    assert_eq!(of(&one, 5, 3), format!("accepted 2 | {} {}", digest(&[&places[..], &[7]].concat()), digest(&[u32::MAX, 1, 7])));
+}
+
 /// With just enough room, and with a number less in one room at a time.
 #[test]
 fn rooms_at_their_need() {
@@ -119,7 +140,8 @@ fn no_texts_and_no_rooms() {
         agreed(&Call::of(entry, nothing.clone()));
         agreed(&Call::of(entry, Case { rooms: Rooms::all(ENOUGH), ..nothing }));
         let line = agreed(&Call::of(entry, Case { rooms: Rooms::all(0), ..accepted() }));
-        assert!(line.ends_with(" | 0 0 0 0 0 0 0 0 0 0"), "{line}");
+        let digests = if entry == Entry::Duties { 2 } else { 10 };
+        assert!(line.ends_with(&format!(" |{}", " 0".repeat(digests))), "{line}");
     }
 }
 

@@ -2,7 +2,7 @@
 
 mod common;
 
-use common::{accepted, expected, line, STAND_IN};
+use common::{accepted, duties, expected, line, DUTIES, STAND_IN};
 use independent::{Call, Case, Entry, Rooms};
 use replay::exports::Numbers;
 use replay::Exports;
@@ -51,6 +51,30 @@ overrun!(merge_later over wagontulip_merge_later(timetable t, profiles p, constr
     filling 0 legs l0 u32, 1 configurations l1 u32, 2 profile_table l2 u32, 3 samples l3 i32, 4 constraint_table l4 u32, 5 tracks l5 u32, 6 choices l6 u32,
     7 second_choices l7 u32, 9 text l9 u8);
 
+/// The places of nodes and balances among the rooms, and how many of their numbers the example of duties fills.
+const DUTY_ROOMS: [(usize, usize); 2] = [(0, 3 * 2), (8, 3)];
+
+/// The same of duties.
+unsafe extern "C" fn duties_overrun<const ROOM: usize>(
+    text: *const u8,
+    length: usize,
+    nodes: *mut u32,
+    nodes_room: usize,
+    balance: *mut i32,
+    balance_room: usize,
+    answer: *mut Numbers,
+) {
+    stand_in::wagontulip_duties(text, length, nodes, nodes_room, balance, balance_room, answer);
+    let [(of_nodes, nodes_filled), (of_balance, balance_filled)] = DUTY_ROOMS;
+    assert!(nodes_filled < nodes_room && balance_filled < balance_room);
+    if ROOM == of_nodes {
+        *nodes.add(nodes_filled) = 8;
+    }
+    if ROOM == of_balance {
+        *balance.add(balance_filled) = 8;
+    }
+}
+
 const fn overrunning<const ROOM: usize>() -> Exports {
     Exports {
         check: check::<ROOM>,
@@ -58,6 +82,7 @@ const fn overrunning<const ROOM: usize>() -> Exports {
         merge_earlier: merge_earlier::<ROOM>,
         merge_later: merge_later::<ROOM>,
         row: stand_in::wagontulip_row,
+        duties: duties_overrun::<ROOM>,
     }
 }
 
@@ -75,13 +100,16 @@ const LIBRARIES: [Exports; ROOMS] = [
     overrunning::<9>(),
 ];
 
+/// The entries that know of a solution; duties have two rooms of their own.
+const SOLVING: [Entry; 5] = [Entry::Check, Entry::Energy, Entry::MergeEarlier, Entry::MergeLater, Entry::Row];
+
 /// The rooms that an entry takes, by their places.
 fn taken(entry: Entry) -> &'static [usize] {
     match entry {
         Entry::Check => &[0, 1, 2, 3, 4, 5, 6],
         Entry::Energy => &[0, 1, 2, 3, 4, 5, 6, 8],
         Entry::MergeEarlier | Entry::MergeLater => &[0, 1, 2, 3, 4, 5, 6, 7, 9],
-        Entry::Row => &[],
+        Entry::Row | Entry::Duties => &[],
     }
 }
 
@@ -106,7 +134,7 @@ fn differing(given: &str, expected: &str) -> Vec<usize> {
 #[test]
 fn one_number_past_the_last_entry_is_found_in_every_room() {
     let mut found = [0; ROOMS];
-    for entry in Entry::ALL {
+    for entry in SOLVING {
         let call = call(entry);
         for (room, library) in LIBRARIES.iter().enumerate() {
             let differing = differing(&line(library, &call), &expected(&call));
@@ -118,10 +146,24 @@ fn one_number_past_the_last_entry_is_found_in_every_room() {
     assert_eq!(found, [4, 4, 4, 4, 4, 4, 4, 2, 1, 2]);
 }
 
+/// The line has two digests: the one of the room that was written past its last entry is another.
+#[test]
+fn one_number_past_the_last_node_is_found() {
+    let call = duties(DUTIES, 6 + MORE, 3 + MORE);
+    let digests = |line: &str| line.split_once(" | ").unwrap().1.split(' ').map(String::from).collect::<Vec<_>>();
+    let right = line(&STAND_IN, &call);
+    assert_eq!(right, expected(&call));
+    for (place, (room, _)) in DUTY_ROOMS.iter().enumerate() {
+        let wrong = digests(&line(&LIBRARIES[*room], &call));
+        let same: Vec<bool> = wrong.iter().zip(digests(&right)).map(|(wrong, right)| *wrong == right).collect();
+        assert_eq!(same, [place != 0, place != 1]);
+    }
+}
+
 /// The place past the last entry is where the stand-in leaves the first 7.
 #[test]
 fn the_example_fills_so_much() {
-    for entry in Entry::ALL {
+    for entry in SOLVING {
         assert_eq!(differing(&line(&STAND_IN, &call(entry)), &expected(&call(entry))), [0; 0]);
     }
     let (report, merged) = (accepted().energy(), accepted().merge(independent::Direction::Later));

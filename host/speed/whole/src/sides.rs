@@ -77,6 +77,9 @@ impl Side for Yardstick {
     }
 }
 
+/// Document 02's number of the file of duties.
+const DUTIES: u32 = 6;
+
 struct Independent;
 
 impl From<independent::Answer> for Outcome {
@@ -87,6 +90,8 @@ impl From<independent::Answer> for Outcome {
                 Outcome::Violated { kind, position, inequality, shortfall }
             }
             independent::Answer::Refused { file, .. } => Outcome::Stopped(file),
+            // Duties alone are answered so, and no side here is asked about them.
+            independent::Answer::Broken { .. } => Outcome::Stopped(DUTIES),
         }
     }
 }

@@ -3,16 +3,16 @@
 
 use crate::instance::Instance;
 use crate::memory::again;
-use instances::{Choices, Plan, Shape, Style};
+use instances::{Choices, DutyPlan, DutyShape, Plan, Shape, Style};
 use std::thread;
 use wagontulip::{row_at, Checker, Edition, Files, Stated};
 
-const ENTRIES: [&str; 5] = ["nothing", "check", "energy", "merge", "row"];
+const ENTRIES: [&str; 6] = ["nothing", "check", "energy", "merge", "row", "duties"];
 
 /// The thread's stack, and what each level of the filling takes of it at least.
 const STACK: usize = 4 << 20;
 const FRAME: usize = 256;
-/// More legs take no more stack if nothing recurses over them.
+/// More legs, or duties of a row each, take no more stack if nothing recurses over them.
 const LEGS: [usize; 2] = [40, 600];
 
 /// Bytes of each entry, for each number of legs.
@@ -50,6 +50,7 @@ pub fn run(entry: &str, legs: usize, levels: usize) -> Result<(), String> {
     let plan = Plan::new(Shape::of(Style::Underground, legs));
     let second = plan.solution(&plan.choose(Choices::Moved(1))).into_bytes();
     let instance = Instance::of(&plan);
+    let duties = DutyPlan::new(DutyShape { duties: legs, nodes: legs, ..DutyShape::at_the_limits() }).text();
     let mut checker = Checker::new().map_err(|none| none.to_string())?;
     let entry = entry.to_string();
     let work = move || {
@@ -61,6 +62,7 @@ pub fn run(entry: &str, legs: usize, levels: usize) -> Result<(), String> {
             "energy" => drop(checker.energy(stated, &files, draft)),
             "merge" => drop(checker.merge_later(stated, &files, draft, &second)),
             "row" => drop(row_at(draft, &second, 1, 200)),
+            "duties" => drop(checker.duties(duties.as_bytes())),
             _ => {}
         });
         (&top as *const u8 as usize).abs_diff(bottom)

@@ -132,6 +132,7 @@ fn is_stopped(tables: &mut Tables, h: u32, [timetable, profiles, constraints, so
             Ok(Some(Violation { kind, position, inequality, shortfall: shortfall as u32 }))
         }
         Answer::Refused { file, .. } => Err(Stopped(file as u8)),
+        broken @ Answer::Broken { .. } => panic!("{what}: a check has no duties: {broken:?}"),
     };
     assert_eq!(said, expected, "{what}");
     said.is_err()

@@ -1,4 +1,4 @@
-//! Changes of the texts, the room, H or the edition.
+//! Changes of the texts, the room, H or the edition: of one of a case's texts, or of a text by itself.
 
 use crate::editions::EDITIONS;
 use crate::random::Random;
@@ -37,7 +37,10 @@ pub fn some_byte(random: &mut Random) -> u8 {
 }
 
 pub fn byte_deleted(case: &mut Case, random: &mut Random) {
-    let text = some_text(case, random);
+    without_a_byte(some_text(case, random), random);
+}
+
+pub fn without_a_byte(text: &mut Vec<u8>, random: &mut Random) {
     if !text.is_empty() {
         let place = some_place(text, random);
         text.remove(place);
@@ -45,13 +48,19 @@ pub fn byte_deleted(case: &mut Case, random: &mut Random) {
 }
 
 pub fn byte_inserted(case: &mut Case, random: &mut Random) {
-    let text = some_text(case, random);
+    with_a_byte(some_text(case, random), random);
+}
+
+pub fn with_a_byte(text: &mut Vec<u8>, random: &mut Random) {
     let place = if text.is_empty() { 0 } else { some_place(text, random) + random.below(2) };
     text.insert(place, some_byte(random));
 }
 
 pub fn byte_replaced(case: &mut Case, random: &mut Random) {
-    let text = some_text(case, random);
+    with_another_byte(some_text(case, random), random);
+}
+
+pub fn with_another_byte(text: &mut [u8], random: &mut Random) {
     if !text.is_empty() {
         let place = some_place(text, random);
         text[place] = some_byte(random);
@@ -59,7 +68,10 @@ pub fn byte_replaced(case: &mut Case, random: &mut Random) {
 }
 
 pub fn bytes_swapped(case: &mut Case, random: &mut Random) {
-    let text = some_text(case, random);
+    with_two_bytes_swapped(some_text(case, random), random);
+}
+
+pub fn with_two_bytes_swapped(text: &mut [u8], random: &mut Random) {
     if text.len() > 1 {
         let place = some_place(text, random).min(text.len() - 2);
         text.swap(place, place + 1);
@@ -67,7 +79,10 @@ pub fn bytes_swapped(case: &mut Case, random: &mut Random) {
 }
 
 pub fn truncated(case: &mut Case, random: &mut Random) {
-    let text = some_text(case, random);
+    cut_off(some_text(case, random), random);
+}
+
+pub fn cut_off(text: &mut Vec<u8>, random: &mut Random) {
     let length = match random.below(4) {
         0 => random.below(text.len() + 1),
         1 => text.len().saturating_sub(1),
@@ -82,7 +97,10 @@ pub fn emptied(case: &mut Case, random: &mut Random) {
 }
 
 pub fn line_duplicated(case: &mut Case, random: &mut Random) {
-    let text = some_text(case, random);
+    with_a_line_twice(some_text(case, random), random);
+}
+
+pub fn with_a_line_twice(text: &mut Vec<u8>, random: &mut Random) {
     let lines: Vec<Vec<u8>> = text.split_inclusive(|byte| *byte == b'\n').map(<[u8]>::to_vec).collect();
     if lines.is_empty() {
         return;
@@ -95,7 +113,10 @@ pub fn line_duplicated(case: &mut Case, random: &mut Random) {
 }
 
 pub fn line_end_changed(case: &mut Case, random: &mut Random) {
-    let text = some_text(case, random);
+    with_another_line_end(some_text(case, random), random);
+}
+
+pub fn with_another_line_end(text: &mut Vec<u8>, random: &mut Random) {
     let ends: Vec<usize> = (0..text.len()).filter(|place| text[*place] == b'\n').collect();
     if ends.is_empty() {
         return;
@@ -112,7 +133,10 @@ pub fn line_end_changed(case: &mut Case, random: &mut Random) {
 }
 
 pub fn header_changed(case: &mut Case, random: &mut Random) {
-    let text = some_csv(case, random);
+    with_another_header(some_csv(case, random), random);
+}
+
+pub fn with_another_header(text: &mut Vec<u8>, random: &mut Random) {
     if text.is_empty() {
         return;
     }
@@ -131,7 +155,10 @@ pub fn header_changed(case: &mut Case, random: &mut Random) {
 
 /// A quote or a CR moved, doubled or dropped; in a text that has none, one put anywhere.
 pub fn mark_damaged(case: &mut Case, random: &mut Random) {
-    let text = some_csv(case, random);
+    with_a_mark_damaged(some_csv(case, random), random);
+}
+
+pub fn with_a_mark_damaged(text: &mut Vec<u8>, random: &mut Random) {
     let marks: Vec<usize> = (0..text.len()).filter(|place| matches!(text[*place], b'"' | b'\r')).collect();
     if marks.is_empty() {
         text.insert(random.below(text.len() + 1), *random.pick(b"\"\r"));
@@ -154,7 +181,10 @@ pub fn mark_damaged(case: &mut Case, random: &mut Random) {
 
 /// A comma or an LF between two quotes.
 pub fn put_within_quotes(case: &mut Case, random: &mut Random) {
-    let text = some_csv(case, random);
+    with_a_byte_within_quotes(some_csv(case, random), random);
+}
+
+pub fn with_a_byte_within_quotes(text: &mut Vec<u8>, random: &mut Random) {
     let quotes: Vec<usize> = (0..text.len()).filter(|place| text[*place] == b'"').collect();
     let pairs: Vec<&[usize]> = quotes.chunks_exact(2).collect();
     if pairs.is_empty() {
@@ -195,7 +225,10 @@ pub fn string_spoiled(case: &mut Case, random: &mut Random) {
 }
 
 pub fn digits_changed(case: &mut Case, random: &mut Random) {
-    let text = some_text(case, random);
+    with_other_digits(some_text(case, random), random);
+}
+
+pub fn with_other_digits(text: &mut Vec<u8>, random: &mut Random) {
     let starts: Vec<usize> = (0..text.len()).filter(|p| text[*p].is_ascii_digit() && (*p == 0 || !text[*p - 1].is_ascii_digit())).collect();
     if starts.is_empty() {
         return;

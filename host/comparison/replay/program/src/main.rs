@@ -1,6 +1,8 @@
 //! The program `replay`: calls from standard input through the proved library's archive, a line for each on standard output.
 
-use replay::exports::{wagontulip_check, wagontulip_energy, wagontulip_merge_earlier, wagontulip_merge_later, wagontulip_row};
+use replay::exports::{
+    wagontulip_check, wagontulip_duties, wagontulip_energy, wagontulip_merge_earlier, wagontulip_merge_later, wagontulip_row,
+};
 use replay::{run, Exports};
 use std::io::{stdin, stdout};
 use std::process::ExitCode;
@@ -12,6 +14,7 @@ const PROVED: Exports = Exports {
     merge_earlier: wagontulip_merge_earlier,
     merge_later: wagontulip_merge_later,
     row: wagontulip_row,
+    duties: wagontulip_duties,
 };
 
 fn main() -> ExitCode {

@@ -12,6 +12,7 @@ pub const STAND_IN: Exports = Exports {
     merge_earlier: stand_in::wagontulip_merge_earlier,
     merge_later: stand_in::wagontulip_merge_later,
     row: stand_in::wagontulip_row,
+    duties: stand_in::wagontulip_duties,
 };
 
 pub const LABEL: &str = "no violation shown is not no violation";
@@ -45,9 +46,27 @@ pub fn accepted() -> Case {
     case("constraints.json", "solution-15-40.csv", "solution-10-45.csv")
 }
 
-/// The number of an entry.
+/// A duty of two rows, with just the room of its three nodes.
+pub const DUTIES: &str = "\
+DUTY_ID,SEQ,START_TIME_SECONDS,START_TIME_HHMMSS,END_TIME_SECONDS,END_TIME_HHMMSS,START_NODE,END_NODE,EVENT_TYPE,TRAIN_COURSE_ID
+RSDuty_29,1,70920,19:42:00,71580,19:53:00,OLDOXRS,PADTLL,TRAIN,5U75RX#1.A1
+RSDuty_29,2,71580,19:53:00,73380,20:23:00,PADTLL,ABWDXR,TRAIN,9U75RX#1.A1
+";
+
+/// The duties of a text, with so many numbers lent for nodes and balances.
+pub fn duties(text: &str, nodes: usize, balances: usize) -> Call {
+    let mut texts: [Vec<u8>; 5] = Default::default();
+    texts[0] = text.as_bytes().to_vec();
+    let rooms = Rooms { legs: nodes, curves: balances, ..Rooms::all(3) };
+    Call::of(Entry::Duties, Case { h: 0, edition: 0, texts, rooms })
+}
+
+/// The number of an entry: the duties' stands past those of requests that have not come.
 pub fn number(entry: Entry) -> u64 {
-    1 + Entry::ALL.iter().position(|other| *other == entry).unwrap() as u64
+    match entry {
+        Entry::Duties => 11,
+        _ => 1 + Entry::ALL.iter().position(|other| *other == entry).unwrap() as u64,
+    }
 }
 
 /// The numbers of a call's block; set and quarter are 0.
@@ -100,8 +119,12 @@ pub fn expected(call: &Call) -> String {
         Said::Merged(Answer::Accepted, _, length) => format!("accepted {length}"),
         Said::Checked(answer, _) | Said::Reported(answer, ..) | Said::Merged(answer, ..) => answer.line(),
         Said::Row(_, length) => format!("row {length} {}", digest(call.row_bytes().iter().map(|byte| u32::from(*byte)))),
+        Said::Duties(Answer::Accepted, nodes) => format!("accepted {nodes}"),
+        Said::Duties(answer, _) => answer.line(),
     };
-    format!("{words}{} | {}", said.tally().map_or(String::new(), counted), digests(&lent).join(" "))
+    let [legs, .., curves, _] = digests(&lent);
+    let digests = if call.entry == Entry::Duties { vec![legs, curves] } else { digests(&lent).to_vec() };
+    format!("{words}{} | {}", said.tally().map_or(String::new(), counted), digests.join(" "))
 }
 
 /// Behind a verdict: the total, and a count for each kind.

@@ -1,4 +1,6 @@
 // What `check` and `energy` share: the files are read, then a solution, and it is judged. It promises its answer always, and the tables where nothing is refused.
+#![tactic(auto)]
+
 ghost use Rattle.std.specs.Prelude.{◌≡◌};
 ghost use Rattle.rules.specs.Lent.{given, before, after};
 ghost use Rattle.checker_judge.specs.Promise.{Stopped, judged_as, ReadAndJudged};
@@ -9,7 +11,7 @@ use solution_verdict::Chosen;
 use tables_lent::{Counts, Filed};
 
 // The answer with its tally, and the counts where nothing is refused.
-#[derive(Drop)]
+#[derive(Clone, Copy)]
 pub struct Judged {
     pub answer: Answer,
     pub tally: Tally,

@@ -5,7 +5,7 @@ use mathlib.Core.Bool.{true, ◌&&◌}
 use mathlib.Core.List.{List}
 use mathlib.Core.Logic.{◌↔◌, ◌⊎◌, inl, inr}
 use mathlib.Core.Option.{none}
-use native.Mathlib.Nat.{zero_add}
+use native.Mathlib.Nat.{zero-add}
 use lib.Arith.{digits_lt, digits_div, digits_mod}
 use lib.Dec.{leb}
 use lib.ListN.{length, take, get_or, get_or-append}
@@ -100,7 +100,7 @@ curves-at H f cs t subnet second h k =
     let low : subnet * H + second < n = digits_lt h k in
     over-at (curves_of H f cs) t (subnet * H + second) (pos 0) (rw (tabulate-length n at) low)
     ∙ tabulate-at n at (pos 0) (subnet * H + second) low
-    ∙ ap₂ P (digits_div subnet k) (zero_add _ ∙ digits_mod subnet k)
+    ∙ ap₂ P (digits_div subnet k) (zero-add _ ∙ digits_mod subnet k)
 
 -- ---- each entry
 

@@ -1,4 +1,6 @@
 // constraints.json read into its two tables, in one walk over its tokens, or two where its lists are not in the table's order. `files` reads it.
+#![tactic(auto)]
+
 ghost use Rattle.std.specs.Prelude.{◌≤◌};
 ghost use Rattle.rules.specs.Limits.{leg_width, most_legs};
 ghost use Rattle.tables_ids.specs.Column.{Apart};
@@ -15,7 +17,7 @@ pub mod effects; // what a step has for a table
 pub mod walks; // the whole text
 
 // What a reading comes to.
-#[derive(Drop)]
+#[derive(Clone, Copy)]
 pub enum Read {
     // How many constraints, tracks and subnets.
     Whole(usize, usize, usize),

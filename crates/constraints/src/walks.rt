@@ -9,7 +9,7 @@ use constraints_turn::turn;
 use rules::sizes::Subnet;
 use rules::tokens::Rules;
 
-#[derive(Drop)]
+#[derive(Clone, Copy)]
 pub enum Walked {
     Good(Counts),
     // A number and a place.

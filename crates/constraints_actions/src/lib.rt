@@ -1,4 +1,6 @@
 // What a token does in a phase: the table of ../../rules/specs/Constraints.antt, row by row. `constraints_turn` asks it of every token.
+#![tactic(auto)]
+
 ghost use Rattle.std.specs.Prelude.{◌≡◌, cond, [], ◌∷◌, eqb};
 ghost use Rattle.rules.specs.Constraints as law;
 ghost use Rattle.rules.specs.Constraints.{◌⇒◌, sought};

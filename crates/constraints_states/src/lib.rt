@@ -1,4 +1,6 @@
 // What a token of constraints.json leads to, and how much has been read: the state of the walk, by value.
+#![tactic(auto)]
+
 ghost use Rattle.std.specs.Prelude.{◌≡◌, ◌/◌};
 ghost use Rattle.rules.specs.Limits.{constraint_width, track_width};
 ghost use Rattle.rules.specs.Constraints as law;
@@ -12,7 +14,7 @@ pub mod values; // strings and numbers
 pub mod tracks; // the tracks of a subnet
 
 // What a token leads to.
-#[derive(Drop)]
+#[derive(Clone, Copy)]
 pub enum Step {
     // On, with nothing for a table.
     On(State),
@@ -28,7 +30,7 @@ pub enum Step {
 }
 
 // How much has been read: constraints, tracks, subnets that were opened, and ids of subnets.
-#[derive(Drop)]
+#[derive(Clone, Copy)]
 pub struct Counts {
     pub constraints: usize,
     pub tracks: usize,
@@ -50,7 +52,7 @@ impl Counts {
 }
 
 // How many records the lent tables take.
-#[derive(Drop)]
+#[derive(Clone, Copy)]
 pub struct Room {
     pub constraints: usize,
     pub tracks: usize,

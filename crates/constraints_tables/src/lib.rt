@@ -1,4 +1,6 @@
 // Entries of constraints.json written into the lent tables, each at its kind's place. What has no room there is not written.
+#![tactic(auto)]
+
 ghost use Rattle.std.specs.Prelude.{◌≡◌, true, cond, [], ◌∷◌, ◌+◌, ◌*◌, ◌≤◌, get_or, set};
 ghost use Rattle.std.proofs.lemmas.List.Edits.{sets};
 ghost use Rattle.rules.specs.Limits.{constraint_width, track_width, most_constraints, most_tracks};

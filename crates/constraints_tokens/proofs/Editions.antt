@@ -1,7 +1,7 @@
 -- The key that a word names, by an edition: one law for each way. Assumes nothing.
 use Prim.Native.Nat.{ℕ}
 use mathlib.Core.Path.{◌≡◌, refl, sym, ap, ap₂, ◌∙◌}
-use mathlib.Core.Bool.{Bool, true, false, cond, ◌&&◌, and_false}
+use mathlib.Core.Bool.{Bool, true, false, cond, ◌&&◌, and-false}
 use mathlib.Core.List.{List}
 use lib.Dec.{eqb}
 use borrow.Author.Tests.{eq-eqb, ne_eqb}
@@ -19,7 +19,7 @@ module _ (E list : ℕ) (w : List ℕ) (k : ℕ) (ek : k ≡ key_named w) where
   other_edition h = sym (ap (λ a. by a (eqb list turnaround)) (ne_eqb E table_edition h)) ∙ whole
 
   pub other_list : (list ≡ turnaround → ⊥) → k ≡ key_in E list w
-  other_list h = sym (ap (λ (b : Bool). renamed b k) (and_false (eqb E table_edition))) ∙ sym (ap (by (eqb E table_edition)) (ne_eqb list turnaround h)) ∙ whole
+  other_list h = sym (ap (λ (b : Bool). renamed b k) (and-false (eqb E table_edition))) ∙ sym (ap (by (eqb E table_edition)) (ne_eqb list turnaround h)) ∙ whole
 
   module _ (e : E ≡ table_edition) (l : list ≡ turnaround) where
     swapped : renamed true k ≡ key_in E list w

@@ -7,7 +7,7 @@ use native.Mathlib.Omega.{arith}
 use native.Mathlib.Numerals.{add-one}
 use lib.ListN.{length, get_or, take, drop, length-drop}
 use lib.Seq.{drop-drop}
-use borrow.Author.Tests.{not_true, not-false}
+use borrow.Author.Tests.{not-true, not-false}
 use Rattle.rules.specs.Lists.{lead}
 use Rattle.rules.specs.Tokens.{is_white}
 use Rattle.rules.proofs.TokenLaws.{white_at}
@@ -22,7 +22,7 @@ module _ (p : ℕ → Bool) (s : List ℕ) (i r : ℕ) (e : i + length (lead p (
   scan_on t q is h = omega (arith, rw (lead-more p s i 0 h (sym q ∙ not-false t is)) at e)
 
   pub scan_stop : (t : Bool) → t ≡ p (get_or s i 0) → not t ≡ true → i < length s → i ≡ r
-  scan_stop t q is h = omega (arith, rw (lead_stop p s i 0 h (sym q ∙ not_true t is)) at e)
+  scan_stop t q is h = omega (arith, rw (lead_stop p s i 0 h (sym q ∙ not-true t is)) at e)
 
   pub scan_end : length s ≤ i → i ≡ r
   scan_end h = omega (arith, rw (lead-end p s i h) at e)
@@ -59,7 +59,7 @@ module _ (s : List ℕ) (at i : ℕ) (g : Going s at i) (t : Bool) (q : t ≡ is
       }
 
   pub black_found : not t ≡ true → i < length s → Skipped s at i
-  black_found is h = record { same = g.same; onward = g.onward; inside = g.inside; black = λ k. sym q ∙ not_true t is }
+  black_found is h = record { same = g.same; onward = g.onward; inside = g.inside; black = λ k. sym q ∙ not-true t is }
 
 pub all_white : (s : List ℕ) (at i : ℕ) → Going s at i → length s ≤ i → Skipped s at i
 all_white s at i g h = record { same = g.same; onward = g.onward; inside = g.inside; black = λ k. absurd (omega arith) }

@@ -1,4 +1,6 @@
 // The next token of constraints.json, and in `names` what its word may name. ../../rules/specs/Tokens.antt says what a token is. The walk of `constraints` takes one after the other.
+#![tactic(auto)]
+
 ghost use Rattle.std.specs.Prelude.{◌≡◌, true, ◌+◌, ◌≤◌, ◌<◌, length, get_or, drop};
 ghost use Rattle.rules.specs.Lists.{lead};
 ghost use Rattle.rules.specs.Tokens.{is_white, in_run, in_string, quote, sign_of};
@@ -9,7 +11,7 @@ use rules::tokens::Class;
 pub mod names;
 
 // The word is what stands from `from` to `end`: a run, or a string without its quotes. `next` is the place just past the token.
-#[derive(Drop)]
+#[derive(Clone, Copy)]
 pub struct Token {
     pub class: Class,
     pub place: u32,

@@ -1,4 +1,6 @@
 // A token of constraints.json: its action, and what that leads to. One turn is one step of the walk in `constraints`.
+#![tactic(auto)]
+
 ghost use Rattle.std.specs.Prelude.{◌≡◌};
 ghost use Rattle.rules.specs.Limits.{leg_width};
 ghost use Rattle.rules.specs.Constraints.{Document, turn_of};

@@ -5,7 +5,7 @@ use mathlib.Core.Bool.{Bool, true, false, cond, true≢false, false≢true}
 use mathlib.Core.List.{List, [], ◌∷◌}
 use mathlib.Core.Option.{Option}
 use native.Mathlib.Omega.{arith}
-use native.Mathlib.Nat.{add-zero, zero_add}
+use native.Mathlib.Nat.{add-zero, zero-add}
 use lib.Dec.{ltb, eqb}
 use lib.ListN.{length, drop}
 use lib.Seq.{drop-length}
@@ -199,7 +199,7 @@ module _ {A O : Type 0} (c : Contents A O) (can : can_head c.names ≡ true) whe
       is_over : length header ≤ r.head → fold step (begun r.mark (n + r.next)) (drop r.next part) ≡ fold step (at mark k n) part
       is_over l =
           ap (λ (p : Reached A O). fold step p (drop r.next part)) (sym (state-past r.mark r.head (n + r.next) l))
-          ∙ ap (λ (x : ℕ). fold step (state r.mark r.head (n + x)) (drop x part)) (agrees.next_is ∙ zero_add agrees.count)
+          ∙ ap (λ (x : ℕ). fold step (state r.mark r.head (n + x)) (drop x part)) (agrees.next_is ∙ zero-add agrees.count)
           ∙ agrees.same
           ∙ ap (λ (p : Reached A O). fold step p part) first
 

@@ -1,5 +1,7 @@
 // A file's header, compared byte by byte, whole or in parts, in quotes or not. It stands apart from its readers because the wrong program is refused here in
 // seconds.
+#![tactic(auto)]
+
 ghost use Rattle.std.specs.Prelude.{◌≡◌, ◌<◌, length};
 ghost use Rattle.rules.specs.Timetable.{timetable_header};
 ghost use Rattle.rules.specs.Profiles.{profiles_header};
@@ -10,7 +12,7 @@ use csv_marks::{Act, Mark};
 use rules::sizes::{Event, Leg, Profile};
 
 // How far a part goes on with the header, how many of the header's bytes there are then, under which mark, and whether it is right so far.
-#[derive(Drop)]
+#[derive(Clone, Copy)]
 pub struct Headed {
     pub next: usize,
     pub head: usize,
@@ -30,7 +32,7 @@ fn begins(names: &[u8], head: usize) -> bool
 }
 
 // The same after one more byte.
-#[derive(Drop)]
+#[derive(Clone, Copy)]
 pub struct Stepped {
     pub head: usize,
     pub mark: Mark,

@@ -2,7 +2,7 @@
 use Prim.Native.Nat.{ℕ, zero, suc, ◌+◌, ◌-◌, ◌≤◌, ◌<◌}
 use native.Mathlib.Omega.{arith}
 use mathlib.Core.Path.{◌≡◌, refl, sym, ap, ◌∙◌}
-use mathlib.Core.Bool.{Bool, true, false, cond, ◌&&◌, and_false, true≢false}
+use mathlib.Core.Bool.{Bool, true, false, cond, ◌&&◌, and-false, true≢false}
 use mathlib.Core.List.{List, [], ◌∷◌, ◌++◌, append_assoc}
 use borrow.Author.Tests.{ltb-true, lt-ltb, le-ltb, eq-eqb, ne_eqb}
 use lib.Dec.{ltb, eqb}
@@ -121,7 +121,7 @@ module _ (s : List ℕ) (place : ℕ) where
   starts_at_0 e = rw (le-ltb 0 place (omega arith))
 
   pub starts_past : length s ≤ place → false ≡ starts_row s place
-  starts_past h = rw (le-ltb place (length s) h, and_false (ltb 0 place))
+  starts_past h = rw (le-ltb place (length s) h, and-false (ltb 0 place))
 
   pub starts_after : (place ≡ 0 → ⊥) → place < length s → eqb (get_or s (place - 1) 0) line_feed ≡ starts_row s place
   starts_after a b = let above : 0 < place = omega arith in rw (lt-ltb 0 place above, lt-ltb place (length s) b)
@@ -133,7 +133,7 @@ module _ (s : List ℕ) (place : ℕ) where
     where
       go : (a b : Bool) → ltb place (length s) ≡ b → (a && (b && eqb (get_or s (place - 1) 0) line_feed)) ≡ true → place < length s
       go a true l h = ltb-true place (length s) l
-      go a false l h = absurd (true≢false (sym h ∙ and_false a))
+      go a false l h = absurd (true≢false (sym h ∙ and-false a))
 
   -- b: whether a row starts there, as the code has it
   module _ (b : Bool) (is : b ≡ starts_row s place) where

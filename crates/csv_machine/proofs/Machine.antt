@@ -7,7 +7,7 @@ use mathlib.Core.List.{List, [], ◌∷◌, ◌++◌, foldl}
 use mathlib.Core.Option.{Option, none, some}
 use native.Mathlib.Omega.{arith}
 use native.Mathlib.Numerals.{add-one}
-use native.Mathlib.Nat.{add-zero, zero_add}
+use native.Mathlib.Nat.{add-zero, zero-add}
 use lib.Dec.{eqb}
 use lib.ListN.{length}
 use borrow.Author.Tests.{le-leb, eq-eqb, ne_eqb}
@@ -127,7 +127,7 @@ module _ {A K O : Type 0} (m : Machine A K O) where
         go none = refl
         go (some k) = refl
     by_lines (more {line} {rest} {second} {others} u r) =
-        rw (fold-append (progress m) (begun m) line (line_feed ∷ rest), in_header_lem 0 m.head line u, head_run_lem line u, zero_add (length line))
+        rw (fold-append (progress m) (begun m) line (line_feed ∷ rest), in_header_lem 0 m.head line u, head_run_lem line u, zero-add (length line))
         (go (run m.head_step m.head line) (λ at rows. by_rows r at rows))
       where
         told : (t : Bool) → Agree rest (second ∷ others) → (k : K)

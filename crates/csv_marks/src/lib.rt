@@ -1,10 +1,12 @@
 // Quotes about fields and a CR at a line's end: what a byte does where it stands, in a header or in a row.
+#![tactic(auto)]
+
 ghost use Rattle.std.specs.Prelude.{◌≡◌};
 ghost use Rattle.csv_marks.specs.Turns.{takes, may_end, plain_under, on_quote, on_return, on_end, on_comma, on_other, turned, moved_to, left_at, broken_at, moved_under};
 ghost use Rattle.csv_marks.specs.declared.Mark.TheVariants.{Bare, Within, Behind, Returned};
 
 // No quote is open; within a pair of quotes; behind the second of them; behind a CR.
-#[derive(Drop)]
+#[derive(Clone, Copy)]
 pub enum Mark {
     Bare,
     Within,
@@ -13,7 +15,7 @@ pub enum Mark {
 }
 
 // A byte moves the mark, goes to the contents and leaves that mark, or breaks the line.
-#[derive(Drop)]
+#[derive(Clone, Copy)]
 pub enum Act {
     To(Mark),
     Content(Mark),
@@ -21,7 +23,7 @@ pub enum Act {
 }
 
 // The mark after a byte, and how many bytes it took: one that goes to the contents is left for them. Not right where the line is broken.
-#[derive(Drop)]
+#[derive(Clone, Copy)]
 pub struct Move {
     pub mark: Mark,
     pub step: usize,

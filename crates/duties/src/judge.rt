@@ -7,7 +7,7 @@ use rules::sizes::Rule;
 use text_read::pieces;
 
 // Every row keeps every rule; or the first that does not: the row, its lowest rule, its place.
-#[derive(Drop)]
+#[derive(Clone, Copy)]
 pub enum Found {
     Kept,
     Broken(usize, u8, usize),

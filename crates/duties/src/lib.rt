@@ -1,4 +1,6 @@
 // Rolling stock duties (document 02, E13), as a whole: `entry` is public, and `exports` tells its answer to C.
+#![tactic(auto)]
+
 pub mod lines; // a line less its CR
 pub mod steps; // a row after the rows before it
 pub mod places; // a row's names put among the nodes

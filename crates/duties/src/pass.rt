@@ -9,7 +9,7 @@ use rules::sizes::Column;
 use text_read::pieces;
 
 // The rows and the nodes; or the number of a row's fault, and the row's place.
-#[derive(Drop)]
+#[derive(Clone, Copy)]
 pub enum Pass {
     Read(usize, usize),
     Fault(u8, usize),

@@ -1,7 +1,7 @@
 -- Names and parts of a text. Assumes nothing.
 use Prim.Native.Nat.{ℕ, ◌+◌, ◌-◌, ◌≤◌, ◌<◌}
 use mathlib.Core.Path.{◌≡◌, refl, sym, ap, ◌∙◌}
-use mathlib.Core.Bool.{Bool, true, false, not, ◌&&◌, and_false}
+use mathlib.Core.Bool.{Bool, true, false, not, ◌&&◌, and-false}
 use mathlib.Core.List.{List, [], ◌∷◌}
 use native.Mathlib.Omega.{arith}
 use native.Mathlib.Numerals.{add-one}
@@ -21,10 +21,10 @@ module _ (b : ℕ) where
   byte_low h = rw (lt-leb first_byte b h)
 
   pub byte_high : last_byte < b → false ≡ in_name b
-  byte_high h = rw (lt-leb b last_byte h, and_false (leb first_byte b))
+  byte_high h = rw (lt-leb b last_byte h, and-false (leb first_byte b))
 
   pub byte-quote : b ≡ quote → false ≡ in_name b
-  byte-quote e = rw (eq-eqb b quote e, and_false (leb b last_byte), and_false (leb first_byte b))
+  byte-quote e = rw (eq-eqb b quote e, and-false (leb b last_byte), and-false (leb first_byte b))
 
   pub byte_other : first_byte ≤ b → b ≤ last_byte → (b ≡ quote → ⊥) → not (eqb b comma) ≡ in_name b
   byte_other h k n = rw (le-leb first_byte b h, le-leb b last_byte k, ne_eqb b quote n)
@@ -35,7 +35,7 @@ pub name_none : (s : List ℕ) → length s < least_name → false ≡ is_name s
 name_none s h = rw (lt-leb least_name (length s) h)
 
 pub name_long : (s : List ℕ) → most_name < length s → false ≡ is_name s
-name_long s h = rw (lt-leb (length s) most_name h, and_false (leb least_name (length s)))
+name_long s h = rw (lt-leb (length s) most_name h, and-false (leb least_name (length s)))
 
 module _ (s : List ℕ) (i : ℕ) (r : Bool) (e : every in_name (drop i s) ≡ r) where
   module _ (h : i < length s) (t : Bool) (p : t ≡ in_name (get_or s i 0)) where
@@ -49,7 +49,7 @@ module _ (s : List ℕ) (i : ℕ) (r : Bool) (e : every in_name (drop i s) ≡ r
   name_end h = rw (drop_of_length-le s h) at e
 
 pub name_not : (s : List ℕ) (i : ℕ) → every in_name (drop i s) ≡ every in_name s → i < length s → (t : Bool) → t ≡ in_name (get_or s i 0) → t ≡ false → false ≡ is_name s
-name_not s i e h t p y = rw (sym (name_stop s i (every in_name s) e h t p y), and_false (leb (length s) most_name), and_false (leb least_name (length s)))
+name_not s i e h t p y = rw (sym (name_stop s i (every in_name s) e h t p y), and-false (leb (length s) most_name), and-false (leb least_name (length s)))
 
 pub name_all : (s : List ℕ) (i : ℕ) → every in_name (drop i s) ≡ every in_name s → length s ≤ i → least_name ≤ length s → length s ≤ most_name → true ≡ is_name s
 name_all s i e h n k =

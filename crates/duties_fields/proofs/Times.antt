@@ -1,7 +1,7 @@
 -- Times as texts. Assumes nothing.
 use Prim.Native.Nat.{ℕ, ◌+◌, ◌-◌, ◌*◌, ◌/◌, ◌%◌, ◌≤◌, ◌<◌}
 use mathlib.Core.Path.{◌≡◌, refl, sym, ap, ◌∙◌}
-use mathlib.Core.Bool.{Bool, true, false, ◌&&◌, and_false}
+use mathlib.Core.Bool.{Bool, true, false, ◌&&◌, and-false}
 use mathlib.Core.List.{List, [], ◌∷◌, ◌++◌}
 use native.Mathlib.Omega.{arith}
 use lib.Dec.{eqb}
@@ -47,7 +47,7 @@ same-three a b c t (x ∷ y ∷ z ∷ s) h = go (eqb a x) (eqb b y) (eqb c z)
 
 short_three : (a b c : ℕ) (t s : List ℕ) → length s < 3 → false ≡ same_list (a ∷ b ∷ c ∷ t) s
 short_three a b c t [] h = refl
-short_three a b c t (x ∷ []) h = sym (and_false (eqb a x))
+short_three a b c t (x ∷ []) h = sym (and-false (eqb a x))
 short_three a b c t (x ∷ y ∷ []) h = go (eqb a x) (eqb b y)
   where
     go : (p q : Bool) → false ≡ p && (q && false)

@@ -1,4 +1,6 @@
 // The nodes of a file of duties, in the order in which they are first seen.
+#![tactic(auto)]
+
 ghost use Rattle.std.specs.Prelude.{◌≡◌, ◌*◌, ◌+◌, ◌≤◌, ◌<◌, length, set};
 ghost use Rattle.rules.specs.Limits.{node_width};
 ghost use Rattle.rules.specs.Lists.{same_list};

@@ -1,7 +1,7 @@
 -- Tests one after the other, as the code makes them. Assumes nothing.
 use Prim.Native.Nat.{ℕ, suc, ◌+◌, ◌≤◌, ◌<◌, min}
 use mathlib.Core.Path.{◌≡◌, refl, sym, ap, ap₂, ◌∙◌}
-use mathlib.Core.Bool.{Bool, true, false, cond, ◌&&◌, ◌||◌, and_false}
+use mathlib.Core.Bool.{Bool, true, false, cond, ◌&&◌, ◌||◌, and-false}
 use mathlib.Core.List.{List, [], ◌∷◌}
 use mathlib.Core.Option.{Option, none, some}
 use native.Mathlib.Omega.{arith}
@@ -28,10 +28,10 @@ pub no_first : (a b t : Bool) → t ≡ a → t ≡ false → false ≡ a && b
 no_first a b t p n = rw (sym p ∙ n)
 
 pub no_second : (a b c t : Bool) → t ≡ b → t ≡ false → false ≡ a && (b && c)
-no_second a b c t p n = rw (sym p ∙ n, and_false a)
+no_second a b c t p n = rw (sym p ∙ n, and-false a)
 
 pub no_third : (a b c d t : Bool) → t ≡ c → t ≡ false → false ≡ a && (b && (c && d))
-no_third a b c d t p n = rw (sym p ∙ n, and_false b, and_false a)
+no_third a b c d t p n = rw (sym p ∙ n, and-false b, and-false a)
 
 pub all_four : (a b c d t u v r : Bool) → t ≡ a → t ≡ true → u ≡ b → u ≡ true → v ≡ c → v ≡ true → r ≡ d → r ≡ a && (b && (c && d))
 all_four a b c d t u v r p y q z s w e = e ∙ sym (rw (sym p ∙ y, sym q ∙ z, sym s ∙ w))
@@ -163,7 +163,7 @@ module _ (line : List ℕ) where
     count_rows h = rw (le-ltb rows most_events h)
 
     pub count_nodes : most_nodes < nodes → too_many ≡ count_fault line rows nodes room
-    count_nodes h = rw (lt-leb nodes most_nodes h, and_false (ltb rows most_events))
+    count_nodes h = rw (lt-leb nodes most_nodes h, and-false (ltb rows most_events))
 
     module _ (h : rows < most_events) (k : nodes ≤ most_nodes) (t : Bool) (p : t ≡ is_known (content_in type_column line)) where
       pub count_unknown : t ≡ false → unknown_name ≡ count_fault line rows nodes room

@@ -1,5 +1,7 @@
 // A leg's offers, as the search for the earliest timetable asks for them: the soonest at a second or after it, the one that is chosen, and the leg moved on to its next.
 // The search lends no table of its own: while it runs, a leg's last number holds the place of its choice beside that of its nominal, so that 19 is found however short the choice table is.
+#![tactic(auto)]
+
 ghost use Rattle.std.specs.Prelude.{◌≡◌, ◌<◌, length, set};
 ghost use Rattle.earliest_offer.specs.Offer.{Sought, last_at, chosen_of, chosen_at, Raisable, Raised};
 

@@ -1,7 +1,7 @@
 -- What the tables of a reading have that the search asks for. Assumes nothing.
 use Prim.Native.Nat.{ℕ, ◌+◌, ◌*◌, ◌/◌, ◌%◌, ◌≤◌, ◌<◌}
 use native.Mathlib.Omega.{arith}
-use native.Mathlib.Nat.{zero_add}
+use native.Mathlib.Nat.{zero-add}
 use mathlib.Core.Path.{◌≡◌, refl, sym, ap, ap₂, ◌∙◌, subst}
 use mathlib.Core.List.{List, [], ◌∷◌}
 use mathlib.Core.Option.{some}
@@ -49,7 +49,7 @@ place_within : (r : Row) → T (offers r.list r.nominal) → nominal_place r < l
 place_within r h = settle (place_found no_choice 0 (same r.nominal) r.list h)
   where
     settle : (i : ℕ) × (first_place (same r.nominal) r.list ≡ some (0 + i)) × (i < length r.list) × T (same r.nominal (get_or r.list i no_choice)) → nominal_place r < length r.list
-    settle k = rw (k.1, zero_add k.0) k.2
+    settle k = rw (k.1, zero-add k.0) k.2
 
 legs_nominal : (H first : ℕ) (rows : List Row) → All (KeptRow H) rows → All Nominal (legs_from first rows)
 legs_nominal H first [] h = tt

@@ -11,7 +11,7 @@ use verdict::records;
 use verdict::records::Finding;
 
 // Of a record, and of a round: kept; a row was moved on; no solution keeps it.
-#[derive(Drop)]
+#[derive(Clone, Copy)]
 pub enum Turn {
     Kept,
     Raised,
@@ -19,7 +19,7 @@ pub enum Turn {
 }
 
 // A row that has to leave later.
-#[derive(Drop)]
+#[derive(Clone, Copy)]
 pub struct Late {
     pub row: usize,
     pub by: u32,

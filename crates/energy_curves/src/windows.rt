@@ -9,7 +9,7 @@ use energy_parts::runs;
 use tables_ids::Found;
 
 // The seconds from .. from + size - 1.
-#[derive(Drop)]
+#[derive(Clone, Copy)]
 pub struct Window {
     pub from: usize,
     pub size: usize,

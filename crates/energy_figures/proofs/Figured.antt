@@ -1,7 +1,7 @@
 -- The figures that the code works out of the curve table and the runs are the figures of document 01. Assumes nothing.
 use Prim.Native.Nat.{ℕ, zero, suc, ◌+◌, ◌*◌, ◌-◌, ◌/◌, ◌%◌, ◌≤◌, ◌<◌}
 use native.Mathlib.Omega.{arith}
-use native.Mathlib.Nat.{mul-le-mul, zero_add}
+use native.Mathlib.Nat.{mul-le-mul, zero-add}
 use mathlib.Core.Path.{◌≡◌, refl, sym, ap, ap₂, ◌∙◌, subst}
 use mathlib.Core.Bool.{Bool, true, false, cond}
 use mathlib.Core.List.{List}
@@ -115,7 +115,7 @@ module _ (H : ℕ) (g : Given) (readable : Readable H g) where
 
   power_at_lem : (s t : ℕ) → s < n → t < H → power_in H P s t ≡ power samples (homes g) cs s t
   unfolding curves_seen
-  power_at_lem s t hs h = curves-at 0 H samples n (homes g) cs s t hs h ∙ ap (power samples (homes g) cs s) (zero_add t)
+  power_at_lem s t hs h = curves-at 0 H samples n (homes g) cs s t hs h ∙ ap (power samples (homes g) cs s) (zero-add t)
 
   -- a part of P, summed over the whole table: drawn and lost
   part_summed : (f : ℤ → ℕ) → sum_of f P ≡ sum_to (λ s. sum_to (λ t. f (power samples (homes g) cs s t)) H) n

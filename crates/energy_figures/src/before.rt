@@ -8,7 +8,7 @@ use energy_parts::{quarters, runs, sides};
 use rules::sizes::Horizon;
 
 // In kilojoules.
-#[derive(Drop)]
+#[derive(Clone, Copy)]
 pub struct Before {
     pub whole: u64,
     pub quarters: [i64; Horizon::QUARTERS],

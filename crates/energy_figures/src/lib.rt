@@ -1,4 +1,6 @@
 // The figures of an accepted solution: its curves, and what is worked out of them. `energy_report` asks for them after acceptance.
+#![tactic(auto)]
+
 ghost use Rattle.std.specs.Prelude.{◌≡◌, ◌*◌, ◌≤◌, length};
 ghost use Rattle.energy_figures.specs.Given as tables;
 ghost use Rattle.energy_curves.specs.Curves.{CurveTable};

@@ -1,7 +1,7 @@
 -- Where an id stands in a table's column, its record is the first of the table's records with that id. Assumes nothing.
 use Prim.Native.Nat.{ℕ, zero, suc, ◌+◌, ◌*◌}
 use native.Mathlib.Omega.{arith}
-use native.Mathlib.Nat.{add-zero, mul_comm, zero_add}
+use native.Mathlib.Nat.{add-zero, mul_comm, zero-add}
 use mathlib.Core.Path.{◌≡◌, refl, sym, ap, ◌∙◌}
 use mathlib.Core.Bool.{Bool, true, false, cond}
 use mathlib.Core.List.{List, [], ◌∷◌}
@@ -61,13 +61,13 @@ module _ {A : Type 0} (F : ℕ → A) where
         → first (λ a. eqb (id_of a) id) (tabulate n F) ≡ at_found (place_of id (column width n t))
     unfolding column
     first_found width n t e =
-        ap (first (λ a. eqb (id_of a) id)) (tabulate_ext n _ _ (λ i. ap F (sym (zero_add i))))
+        ap (first (λ a. eqb (id_of a) id)) (tabulate_ext n _ _ (λ i. ap F (sym (zero-add i))))
         ∙ first_from_lem 0 n
         ∙ ap (λ l. at_place (first_place (λ x. eqb x id) l)) (tabulate_ext n _ _ same)
         ∙ sym (found_place (first_place (λ x. eqb x id) (tabulate n (λ i. get_or t (i * width) 0))))
       where
         place : (i : ℕ) → width * (0 + i) + 0 ≡ i * width
-        place i = add-zero (width * (0 + i)) ∙ ap (λ k. width * k) (zero_add i) ∙ mul_comm width i
+        place i = add-zero (width * (0 + i)) ∙ ap (λ k. width * k) (zero-add i) ∙ mul_comm width i
 
         same : (i : ℕ) → id_of (F (0 + i)) ≡ get_or t (i * width) 0
         same i = e (0 + i) ∙ ap (λ k. get_or t k 0) (place i)

@@ -37,7 +37,7 @@ pub fn for_desk(g: Figures) -> Desk
 }
 
 // The patterns of the four doubles, for callers that compare them or hand them on.
-#[derive(Drop)]
+#[derive(Clone, Copy)]
 pub struct Bits {
     pub before: u64,
     pub drawn: u64,

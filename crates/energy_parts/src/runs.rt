@@ -10,14 +10,14 @@ use rules::sizes::{Profile, Track};
 use tables_ids::Found;
 
 // How many entries a table has, and how many of them, from the first on, have rising ids.
-#[derive(Drop)]
+#[derive(Clone, Copy)]
 pub struct Entries {
     pub count: usize,
     pub rising: usize,
 }
 
 // What a reading leaves in the tables.
-#[derive(Drop)]
+#[derive(Clone, Copy)]
 pub struct Counts {
     pub legs: usize,
     pub profiles: Entries,

@@ -5,7 +5,7 @@ ghost use Rattle.rules.specs.Limits.{most_subnets, most_horizon};
 ghost use Rattle.energy_parts.specs.Parts.{SmallPart, sides_of};
 
 // The sums of the two sides, in kilojoules.
-#[derive(Drop)]
+#[derive(Clone, Copy)]
 pub struct Sides {
     pub above: u64,
     pub below: u64,

@@ -1,4 +1,6 @@
 // The whole of an energy report but the filling: files, a solution, its verdict, and figures for an accepted one alone. The entry `energy` is made of it.
+#![tactic(auto)]
+
 ghost use Rattle.std.specs.Prelude.{◌≡◌};
 ghost use Rattle.rules.specs.Lent.{given, before, after};
 ghost use Rattle.energy_report.specs.Promise.{no_report, ReportRead};

@@ -1,4 +1,6 @@
 // What of a number stands above zero. Sums are cut at zero by it, and the small program tells a fluctuation's sign by it.
+#![tactic(auto)]
+
 ghost use Rattle.std.specs.Prelude.{◌≡◌};
 ghost use Rattle.rules.specs.Energy as energy;
 

@@ -1,7 +1,7 @@
 -- Values that are put in place of numbers one by one: what holds at the loop's head, its start, its step and its end; and what is told, from the two that are put. Assumes nothing.
 use Prim.Native.Nat.{ℕ, ◌+◌, ◌≤◌, ◌<◌, zero-le}
 use native.Mathlib.Omega.{arith}
-use native.Mathlib.Nat.{zero_add}
+use native.Mathlib.Nat.{zero-add}
 use native.Mathlib.Numerals.{add-one, add-one-le}
 use mathlib.Core.Path.{◌≡◌, refl, sym, ap, ◌∙◌}
 use mathlib.Core.List.{List, [], ◌∷◌, ◌++◌, append_assoc}
@@ -47,7 +47,7 @@ module _ (values tests : List ℕ) (fit : length values ≤ lent_values) where
   front_placed : paste (replicate lent_numbers 0) 0 values (length values) ≡ front ++ replicate lent_tests 0
   unfolding over
   front_placed =
-      rw (take-length values, zero_add (length values))
+      rw (take-length values, zero-add (length values))
       (ap (λ (l : List ℕ). values ++ l) (drop-append-le (length values) (replicate lent_values 0) (replicate lent_tests 0) fit)
       ∙ sym (append_assoc values (drop (length values) (replicate lent_values 0)) (replicate lent_tests 0)))
 

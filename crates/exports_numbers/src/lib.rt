@@ -1,4 +1,6 @@
 // Answers as the numbers that C lends: a code, then values, then 0s; and how much was tested. Every function of `exports` ends in one of these.
+#![tactic(auto)]
+
 ghost use Rattle.std.specs.Prelude.{◌+◌, ◌≤◌, ◌≡◌, length};
 ghost use Rattle.std.proofs.Math.Seq.{paste};
 ghost use Rattle.exports_numbers.specs.Numbers.{lent_numbers, lent_values};
@@ -13,7 +15,7 @@ pub mod rooms; // the room of each table
 pub mod tallies; // how much was tested
 
 // How many numbers are lent.
-#[derive(Drop)]
+#[derive(Clone, Copy)]
 pub struct Lent {}
 
 impl Lent {
@@ -30,7 +32,7 @@ pub type Numbers = [u64; Lent::NUMBERS];
 
 const UNUSED: Numbers = [0; Lent::NUMBERS];
 
-#[derive(Drop)]
+#[derive(Clone, Copy)]
 pub struct Code {}
 
 impl Code {

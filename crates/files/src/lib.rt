@@ -1,4 +1,6 @@
 // All that does not depend on a solution, in document 01's order: what is stated; timetable; profiles; 12 and 13; constraints; 15. Every entry that judges begins with it.
+#![tactic(auto)]
+
 ghost use Rattle.rules.specs.Lent.{given, before, after};
 ghost use Rattle.files.specs.Promise.{FilesRead};
 

@@ -1,7 +1,7 @@
 -- A profile looked up, and the entries of a list one after the other. Assumes nothing.
 use Prim.Native.Nat.{ℕ, zero, suc, ◌+◌, ◌*◌, ◌≤◌, ◌<◌}
 use mathlib.Core.Path.{◌≡◌, refl, ap, sym, ◌∙◌}
-use mathlib.Core.Bool.{Bool, true, false, not, cond, ◌&&◌, and_false}
+use mathlib.Core.Bool.{Bool, true, false, not, cond, ◌&&◌, and-false}
 use mathlib.Core.List.{List, [], ◌∷◌, ◌++◌}
 use mathlib.Core.Option.{Option, none, some}
 use native.Mathlib.Omega.{arith}
@@ -9,7 +9,7 @@ use native.Mathlib.Numerals.{add-one}
 use native.Mathlib.Nat.{not-suc-le-zero}
 use lib.Dec.{eqb}
 use lib.ListN.{length}
-use borrow.Author.Tests.{eq-eqb, ne_eqb, not_true, not-false}
+use borrow.Author.Tests.{eq-eqb, ne_eqb, not-true, not-false}
 use Rattle.rules.specs.Limits.{profile_width}
 use Rattle.rules.specs.Lists.{every, is_some, place_from}
 use Rattle.rules.specs.Answers.{not_there, wrong_samples}
@@ -96,7 +96,7 @@ module _ (count : ℕ → Option ℕ) (seen : Seen) (travel id : ℕ) where
         let c : Configuration = configuration departure travel id in
         let there : count id ≡ some n = count_some (count id) n (sym q ∙ e) in
         let off : eqb n travel ≡ false = ne_eqb n travel h in
-        let short : every lasting (list ++ c ∷ []) ≡ false = every_more lasting list c ∙ rw (there, off, and_false) in
+        let short : every lasting (list ++ c ∷ []) ≡ false = every_more lasting list c ∙ rw (there, off, and-false) in
         record {
           there = every_more known list c ∙ rw (there, s.there);
           wrong = ap not (sym short);
@@ -118,7 +118,7 @@ module _ (count : ℕ → Option ℕ) (seen : Seen) (travel id : ℕ) where
     where
       go : (w : Bool) → seen.wrong ≡ w → seen.wrong ≡ not (every (λ c. lasts_for c.travel (count c.profile)) (list ++ configuration departure travel id ∷ []))
       go true w =
-          let e : every (λ c. lasts_for c.travel (count c.profile)) list ≡ false = not_true _ (sym s.wrong ∙ w) in
+          let e : every (λ c. lasts_for c.travel (count c.profile)) list ≡ false = not-true _ (sym s.wrong ∙ w) in
           let q : every (λ c. lasts_for c.travel (count c.profile)) (list ++ configuration departure travel id ∷ []) ≡ false =
           every_more (λ c. lasts_for c.travel (count c.profile)) list (configuration departure travel id) ∙ rw e in
           w ∙ ap not (sym q)
@@ -172,7 +172,7 @@ module _ {table : List ℕ} {first count : ℕ} {lookup : ℕ → Option ℕ} {s
 
   pub seeing_wrong : count ≤ k → seen.wrong ≡ true → wrong_samples ≡ number_of (list_fault lookup (list_at (configuration_at table) first count))
   seeing_wrong h w =
-      let q : every (λ c. lasts_for c.travel (lookup c.profile)) (list_at (configuration_at table) first count) ≡ false = not_true _ (sym (all h).wrong ∙ w) in
+      let q : every (λ c. lasts_for c.travel (lookup c.profile)) (list_at (configuration_at table) first count) ≡ false = not-true _ (sym (all h).wrong ∙ w) in
       rw ((all h).there, q)
 
   pub seeing_all : count ≤ k → seen.wrong ≡ false → 0 ≡ number_of (list_fault lookup (list_at (configuration_at table) first count))

@@ -5,7 +5,7 @@ use mathlib.Core.Bool.{Bool, true, false, cond}
 use mathlib.Core.List.{List, [], ◌∷◌, map}
 use mathlib.Core.Option.{Option, none, some}
 use native.Mathlib.Omega.{arith}
-use native.Mathlib.Nat.{add-zero, not-suc-le-zero, zero_add}
+use native.Mathlib.Nat.{add-zero, not-suc-le-zero, zero-add}
 use lib.Dec.{eqb, ltb}
 use lib.ListN.{length, get_or, drop, length-append}
 use borrow.Author.Tests.{ltb-true, ltb-false}
@@ -160,7 +160,7 @@ module _ {legs : List ℕ} {n : ℕ} {configurations profiles : List ℕ} {m : �
   profiles-held : (i : ℕ) → i < length (profiles_from 0 curves) → profile_at profiles (0 + i) ≡ get_or (profiles_from 0 curves) i no_profile
   unfolding over
   profiles-held i h =
-      ap₂ profile_at t.profiles_hold (zero_add i)
+      ap₂ profile_at t.profiles_hold (zero-add i)
       ∙ record_is profile_width profile_numbers as_profile profile_layout no_profile (profiles_from 0 curves)
       (drop (length (flat profile_numbers (profiles_from 0 curves))) profiles) i h
 
@@ -221,7 +221,7 @@ module _ {legs : List ℕ} {n : ℕ} {configurations profiles : List ℕ} {m : �
     passing_fault h e z rows curves t =
         let found = some_fault (count_at profiles m) (list_in legs configurations i) (λ q. z (e ∙ q)) in
         let first = fault_at_lem (list_fault (count_at profiles m)) n (list_in legs configurations) 0 i _ h p.clear found in
-        rw (← tabled_faults t, first, ← e, zero_add i)
+        rw (← tabled_faults t, first, ← e, zero-add i)
 
     pub passing_end : n ≤ i → FirstFault legs n configurations profiles m Clear
     passing_end h rows curves t =

@@ -18,7 +18,7 @@ fn count_at(profiles: &[u32], i: usize) -> u32
 }
 
 // How many samples a profile has, where it is there.
-#[derive(Drop)]
+#[derive(Clone, Copy)]
 pub enum Counted {
     Samples(u32),
     Missing,
@@ -35,7 +35,7 @@ fn count_of(profiles: &[u32], m: usize, rising: usize, id: u32) -> Counted
 }
 
 // The entry before, where there is one, and whether an entry so far has a profile of another length. None has a missing one.
-#[derive(Drop)]
+#[derive(Clone, Copy)]
 pub struct Seen {
     pub any: bool,
     pub travel: u32,
@@ -44,7 +44,7 @@ pub struct Seen {
 }
 
 // An entry more, or one whose profile is missing.
-#[derive(Drop)]
+#[derive(Clone, Copy)]
 pub enum Sight {
     On(Seen),
     Gone,
@@ -155,7 +155,7 @@ fn leg_fault(
 }
 
 // The first row at fault, with 12 or 13.
-#[derive(Drop)]
+#[derive(Clone, Copy)]
 pub enum Fault {
     Row(usize, u8),
     Nothing,

@@ -1,7 +1,9 @@
 // A descriptor, read into a lent room until the room is full or there is no more. A read may give less than was asked: 0 is the end, -1 a read that failed. The small program reads its files by it.
+#![tactic(auto)]
+
 ghost use Rattle.io.specs.Counts.{IsPrefixLen};
 
-#[derive(Drop)]
+#[derive(Clone, Copy)]
 pub enum End {
     // There may be more than the room holds.
     Full,
@@ -12,7 +14,7 @@ pub enum End {
 }
 
 // How the reading ended, and how many bytes stand at the front of the room.
-#[derive(Drop)]
+#[derive(Clone, Copy)]
 pub struct Taken {
     pub end: End,
     pub length: usize,

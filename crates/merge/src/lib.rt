@@ -1,4 +1,6 @@
 // A merge as a whole (document 01, "Merged texts"): both solutions are read, then judged, and the earlier or the later choices are written as a timetable. The entry `merge` is made of it.
+#![tactic(auto)]
+
 ghost use Rattle.std.specs.Prelude.{◌≡◌};
 ghost use Rattle.rules.specs.Lent.{given, before, after};
 ghost use Rattle.merge.specs.Left.{not_written};

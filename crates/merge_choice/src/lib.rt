@@ -1,4 +1,6 @@
 // The choices of two solutions, leg by leg (document 01, "Merged texts"): which of the two a merge takes, and whether their travel times are equal.
+#![tactic(auto)]
+
 ghost use Rattle.std.specs.Prelude.{◌≡◌};
 ghost use Rattle.rules.specs.Merge.{unequal_from, chooser};
 ghost use Rattle.tables_views.specs.View.{configurations_in};
@@ -18,7 +20,7 @@ pub fn choose(direction: Direction, a: Configuration, b: Configuration) -> Confi
 }
 
 // Whether two solutions run every leg for as long as each other, or the first row where they do not.
-#[derive(Drop)]
+#[derive(Clone, Copy)]
 pub enum Travels {
     Equal,
     UnequalAt(usize),

@@ -1,4 +1,6 @@
 // Two solutions over files that were read, in document 01's order: both are read, then the first's verdict, the second's, 17, 16. The order stands here and nowhere else; `merge` follows it.
+#![tactic(auto)]
+
 ghost use Rattle.std.specs.Prelude.{◌≡◌, ◌&&◌, ◌≤◌, leb, length};
 ghost use Rattle.rules.specs.Limits.{most_text};
 ghost use Rattle.solution_verdict.specs.Left.{Choosable};

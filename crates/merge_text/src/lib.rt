@@ -1,5 +1,7 @@
 // Merged texts (document 01): from two accepted solutions, the earlier or the later choice at each leg, written as a timetable into a lent buffer.
 // What does not fit is not written, and still counted: `merge` learns from one number whether it fitted.
+#![tactic(auto)]
+
 ghost use Rattle.rules.specs.Merge.{text_of};
 ghost use Rattle.text_write.specs.Written.{Written};
 ghost use Rattle.merge_text.specs.Merges.{merged_in, rows_text};

@@ -18,7 +18,7 @@ use rules::answers::{File, Refusal};
 use rules::sizes::{Profile, Text};
 
 // Samples that were read, and the place behind the last one's space.
-#[derive(Drop)]
+#[derive(Clone, Copy)]
 pub struct Many {
     pub l: Listed,
     pub next: usize,
@@ -42,7 +42,7 @@ fn samples_run(past: Past, l: Listed, part: &[u8], from: usize, samples: &mut [i
 }
 
 // A state, and the place of the byte that it waits for.
-#[derive(Drop)]
+#[derive(Clone, Copy)]
 pub struct Moved {
     pub state: State,
     pub next: usize,
@@ -89,7 +89,7 @@ fn quicken(state: State, mark: Mark, part: &[u8], from: usize, samples: &mut [i3
 
 // How far a text is read: the place of the next byte, how many bytes are the header's, the mark, and where the byte falls behind the header. Before its end the
 // state is the header's fault, which is what a text that ends there has.
-#[derive(Drop)]
+#[derive(Clone, Copy)]
 pub struct Reader {
     pub next: u32,
     pub head: usize,
@@ -98,7 +98,7 @@ pub struct Reader {
 }
 
 // A state under a mark, and the place of the byte that it waits for.
-#[derive(Drop)]
+#[derive(Clone, Copy)]
 pub struct Crossed {
     pub state: State,
     pub mark: Mark,
@@ -236,7 +236,7 @@ pub fn feed(reader: Reader, part: &[u8], profiles: &mut [u32], samples: &mut [i3
 }
 
 // What a text says: its refusal, or how many profiles and samples it has.
-#[derive(Drop)]
+#[derive(Clone, Copy)]
 pub enum Rows {
     Refused(Refusal),
     Read(u32, u32),

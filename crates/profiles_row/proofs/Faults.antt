@@ -9,7 +9,7 @@ use lib.Dec.{leb, ltb, eqb}
 use lib.ListN.{length, take, drop, length-append, length-map}
 use lib.Seq.{take-append-le, take_all, get_or-append_seam}
 use lib.IntN.{ℤ, nat_abs}
-use borrow.Author.Tests.{lt-ltb, le-ltb, le-leb, lt-leb, leb-true, not_true, not-false}
+use borrow.Author.Tests.{lt-ltb, le-ltb, le-leb, lt-leb, leb-true, not-true, not-false}
 use Rattle.rules.specs.Limits.{most_kw, most_id, most_profiles, most_sampled, most_samples, profile_width}
 use Rattle.rules.specs.Lists.{any, every, over}
 use Rattle.rules.specs.Answers.{Judged, wrong, right, out_of_range, too_many, already_seen, no_room}
@@ -103,7 +103,7 @@ takes_row past l profiles samples = ltb past.profiles (profiles / profile_width)
 module _ (past : Past) (l : Listed) (profiles : List ℕ) (room : ℕ) where
   pub fault_wide : l.wide ≡ true → Faults past l profiles room out_of_range
   fault_wide w profiles₀ samples₀ next samples before id done lent c g =
-      let r : in_range id done ≡ false = not_true (in_range id done) (sym g.wide ∙ w) in
+      let r : in_range id done ≡ false = not-true (in_range id done) (sym g.wide ∙ w) in
       rw r
 
   module _ (w : l.wide ≡ false) where

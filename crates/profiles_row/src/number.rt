@@ -5,7 +5,7 @@ ghost use Rattle.profiles_row.specs.Near.{cap, Pushes, Ends};
 
 use rules::sizes::Id;
 
-#[derive(Drop)]
+#[derive(Clone, Copy)]
 pub enum Number {
     Empty,
     Zero,
@@ -17,14 +17,14 @@ impl Number {
 }
 
 // A digit more, or a needless leading zero.
-#[derive(Drop)]
+#[derive(Clone, Copy)]
 pub enum Pushed {
     To(Number),
     Broken,
 }
 
 // What the number says, where it has a digit.
-#[derive(Drop)]
+#[derive(Clone, Copy)]
 pub enum Ended {
     Value(u32),
     Broken,

@@ -11,7 +11,7 @@ use rules::sizes::{Id, Profile, ProfileMade, Sample};
 
 // The rows that are closed: how many, how many samples they have, how many ids rise from the first on and the last of these;
 // and where the open row starts.
-#[derive(Drop)]
+#[derive(Clone, Copy)]
 pub struct Past {
     pub place: u32,
     pub profiles: u32,
@@ -21,7 +21,7 @@ pub struct Past {
 }
 
 // The open row past its id: how many samples are closed, and whether a number is out of range.
-#[derive(Drop)]
+#[derive(Clone, Copy)]
 pub struct Listed {
     pub id: u32,
     pub count: u32,
@@ -47,7 +47,7 @@ pub fn list_of(id: u32) -> Listed
 }
 
 // How many ids rise from the first on, and the last of these.
-#[derive(Drop)]
+#[derive(Clone, Copy)]
 pub struct Rise {
     pub rising: u32,
     pub last: u32,

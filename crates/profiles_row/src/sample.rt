@@ -8,7 +8,7 @@ use crate::row::{Listed, Past};
 use rules::sizes::{Sample, SampleMade};
 
 // The open sample past its point: what stands before it, and the digits since.
-#[derive(Drop)]
+#[derive(Clone, Copy)]
 pub struct Tail {
     pub negative: bool,
     pub whole: u32,

@@ -1,4 +1,6 @@
 // Whole samples of a list at once, and a whole id in quotes: numbers in registers, the state touched behind them alone. They are the fast ways of `profiles`; what is neither is left for `profiles_state::state::step`.
+#![tactic(auto)]
+
 ghost use Rattle.std.specs.Prelude.{◌≤◌, ◌<◌, length, false};
 ghost use Rattle.profiles_sample.specs.Quick.{Runs, Points, Spaces, Fractions, Signs, Samples};
 ghost use Rattle.profiles_sample.specs.Heads.{Joins, Heads};
@@ -8,7 +10,7 @@ use profiles_row::number::{Ended, Number};
 use profiles_row::sample::Tail;
 
 // Digits after others: the number that they make, and the place behind them.
-#[derive(Drop)]
+#[derive(Clone, Copy)]
 pub struct Run {
     pub value: u32,
     pub next: usize,
@@ -35,7 +37,7 @@ fn digit_run(part: &[u8], from: usize, value: u32) -> Run
 }
 
 // A whole number and its point: the number, and the place behind the point.
-#[derive(Drop)]
+#[derive(Clone, Copy)]
 pub enum Pointed {
     At(u32, usize),
     Miss,
@@ -77,7 +79,7 @@ fn whole_at(part: &[u8], from: usize) -> Pointed
 }
 
 // A sample up to the space behind it, and the space's place.
-#[derive(Drop)]
+#[derive(Clone, Copy)]
 pub enum Spaced {
     At(Tail, usize),
     Miss,
@@ -139,7 +141,7 @@ fn unsigned_at(part: &[u8], from: usize, negative: bool) -> Spaced
 }
 
 // Whether a sample begins with a minus, and the place of its first digit.
-#[derive(Drop)]
+#[derive(Clone, Copy)]
 pub struct Sign {
     pub negative: bool,
     pub next: usize,
@@ -172,7 +174,7 @@ pub fn sample_at(part: &[u8], from: usize) -> Spaced
 }
 
 // An id in quotes, its comma and the quote that opens the list: the id, and the place behind that quote.
-#[derive(Drop)]
+#[derive(Clone, Copy)]
 pub enum Headed {
     At(u32, usize),
     Miss,

@@ -5,7 +5,7 @@ use mathlib.Core.Bool.{Bool, true, false, cond, ◌&&◌}
 use mathlib.Core.List.{List, [], ◌∷◌}
 use mathlib.Core.Option.{Option, none, some, map}
 use native.Mathlib.Omega.{arith}
-use native.Mathlib.Nat.{add-zero, zero_add}
+use native.Mathlib.Nat.{add-zero, zero-add}
 use lib.Dec.{leb, ltb, eqb}
 use lib.ListN.{length}
 use lib.IntN.{ℤ}
@@ -81,7 +81,7 @@ past-point : (negative : Bool) (n : ℕ) (s : List ℕ) → run sample_step (fra
 past-point negative n s = fraction_run negative n 0 0 s (omega arith) ∙ go (pieces_of point s)
   where
     go : {ps : List (List ℕ)} → Pieces point s ps → in_kw negative n (thousandths_from 0 0 s) ≡ fraction_of negative n ps
-    go alone = rw (zero_add (length s))
+    go alone = rw (zero-add (length s))
     go (several h) = rw (point_digits h, never)
 
 -- a decimal of which some of the whole number was read

@@ -55,7 +55,7 @@ fn broken(state: State) -> State
 }
 
 // After a byte that is not plain, and how many bytes it took: one that goes to the contents is left for them.
-#[derive(Drop)]
+#[derive(Clone, Copy)]
 pub struct Passed {
     pub state: State,
     pub mark: Mark,

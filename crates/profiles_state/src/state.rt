@@ -13,7 +13,7 @@ use rules::answers::Refusal;
 use rules::sizes::Profile;
 
 // Where the next byte falls: into an id, the whole part of a sample, its digits past the point; or after the first fault.
-#[derive(Drop)]
+#[derive(Clone, Copy)]
 pub enum State {
     Id(Past, Number),
     Whole(Past, Listed, bool, Number),

@@ -2,7 +2,7 @@
 use Prim.Native.Nat.{ℕ, zero, suc, ◌+◌, ◌*◌, ◌-◌, ◌^◌, ◌/◌, ◌%◌, ◌≤◌, ◌<◌}
 use mathlib.Core.Path.{◌≡◌, refl, ap, sym, ◌∙◌}
 use mathlib.Core.List.{List, [], ◌∷◌, ◌++◌, append-nil}
-use mathlib.Core.Bool.{Bool, true, false, not, ◌&&◌, and_false}
+use mathlib.Core.Bool.{Bool, true, false, not, ◌&&◌, and-false}
 use mathlib.Core.Option.{some}
 use native.Mathlib.Omega.{arith}
 use native.Mathlib.Nat.{pow-suc, div-lt_iff_lt-mul, le_refl}
@@ -23,7 +23,7 @@ pub digit_below : (b : ℕ) → b < digit_zero → is_digit b ≡ false
 digit_below b h = rw (lt-leb digit_zero b h)
 
 pub digit_above : (b : ℕ) → digit_nine < b → is_digit b ≡ false
-digit_above b h = rw (lt-leb b digit_nine h, and_false (leb digit_zero b))
+digit_above b h = rw (lt-leb b digit_nine h, and-false (leb digit_zero b))
 
 pub digit_range : (b : ℕ) → T (is_digit b) → (digit_zero ≤ b) × (b ≤ digit_nine)
 digit_range b h = let k : T (leb digit_zero b) × T (leb b digit_nine) = and_both (leb digit_zero b) (leb b digit_nine) h in (leb→le digit_zero b k.0, leb→le b digit_nine k.1)

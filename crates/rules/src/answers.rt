@@ -6,7 +6,7 @@ ghost use Rattle.rules.specs.Tally.{no_tests, counted, Countable};
 use crate::kinds::Kind;
 
 // The files, by document 01's numbers; 0 where a refusal lies in none.
-#[derive(Drop)]
+#[derive(Clone, Copy)]
 pub struct File {}
 
 impl File {
@@ -25,7 +25,7 @@ impl File {
     pub const DUTIES: u8 = 6;
 }
 
-#[derive(Drop)]
+#[derive(Clone, Copy)]
 pub struct Refusal {
     pub number: u8,
     pub file: u8,
@@ -82,7 +82,7 @@ impl Refusal {
     }
 }
 
-#[derive(Drop)]
+#[derive(Clone, Copy)]
 pub struct Violation {
     pub kind: u8,
     pub position: u32,
@@ -105,7 +105,7 @@ impl Violation {
     }
 }
 
-#[derive(Drop)]
+#[derive(Clone, Copy)]
 pub enum Answer {
     Accepted,
     Violated(Violation),
@@ -113,7 +113,7 @@ pub enum Answer {
 }
 
 // The first row of the duties, from 0, that breaks a rule, its lowest rule, and its first byte.
-#[derive(Drop)]
+#[derive(Clone, Copy)]
 pub struct BrokenRule {
     pub row: u32,
     pub rule: u8,
@@ -129,7 +129,7 @@ impl BrokenRule {
 }
 
 // What is answered of the duties (document 02, E13): accepted, with so many nodes; the first broken row; a refusal.
-#[derive(Drop)]
+#[derive(Clone, Copy)]
 pub enum Told {
     Accepted(u32),
     Broken(BrokenRule),
@@ -137,7 +137,7 @@ pub enum Told {
 }
 
 // How much was tested: six counts, one per kind from 0 to 5, and their total.
-#[derive(Drop)]
+#[derive(Clone, Copy)]
 pub struct Tally {
     pub kinds: [u32; Tally::KINDS],
     pub total: u32,
@@ -169,7 +169,7 @@ impl Tally {
 }
 
 // A verdict: the answer, and how much was tested for it.
-#[derive(Drop)]
+#[derive(Clone, Copy)]
 pub struct Ruling {
     pub answer: Answer,
     pub tally: Tally,

@@ -1,21 +1,21 @@
 // The energies of an accepted solution, and the record that the operator's desk tool takes.
 
 // The greatest quarter sum in kilojoules, and the first quarter that has it.
-#[derive(Drop)]
+#[derive(Clone, Copy)]
 pub struct Peak {
     pub kj: u64,
     pub quarter: u32,
 }
 
 // Before recuperation, and drawn.
-#[derive(Drop)]
+#[derive(Clone, Copy)]
 pub struct Peaks {
     pub before: Peak,
     pub drawn: Peak,
 }
 
 // Whole kilojoules, exact; the fluctuation is in kilowatts.
-#[derive(Drop)]
+#[derive(Clone, Copy)]
 pub struct Figures {
     pub before: u64,
     pub drawn: u64,
@@ -35,7 +35,7 @@ impl Figures {
 }
 
 // Before, drawn and lost in MWh, the drawn peak in MW.
-#[derive(Drop)]
+#[derive(Clone, Copy)]
 pub struct Desk {
     pub before: f64,
     pub drawn: f64,

@@ -3,7 +3,7 @@ ghost use Rattle.std.specs.Prelude.{◌≡◌, ◌<◌, length, get_or};
 ghost use Rattle.rules.specs.Kinds.{kind_table, no_kind};
 
 // The keys of records, one bit each, so that a set of keys is one number.
-#[derive(Drop)]
+#[derive(Clone, Copy)]
 pub struct Key {}
 
 impl Key {
@@ -31,7 +31,7 @@ impl Key {
 }
 
 // The editions that a file may be of, by number: they differ in the name of kind 4's key.
-#[derive(Drop)]
+#[derive(Clone, Copy)]
 pub struct Edition {}
 
 impl Edition {
@@ -43,7 +43,7 @@ impl Edition {
 }
 
 // What an inequality measures a leg by.
-#[derive(Drop)]
+#[derive(Clone, Copy)]
 pub struct Anchor {}
 
 impl Anchor {
@@ -62,14 +62,14 @@ impl Anchor {
 }
 
 // The time of a leg by an anchor. There is none where nobody knows the anchor, or the type that it asks for; an inequality about no time cannot hold.
-#[derive(Drop)]
+#[derive(Clone, Copy)]
 pub enum Time {
     At(u64),
     Unknown,
 }
 
 // A kind: the keys of its records, how many inequalities it has, and the anchors of both legs in each.
-#[derive(Drop)]
+#[derive(Clone, Copy)]
 pub struct Kind {
     pub keys: u16,
     pub inequalities: u8,

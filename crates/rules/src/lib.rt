@@ -1,4 +1,6 @@
 // The law book of Wagontulip: the types of document 01 with their limits, and in ../specs what they mean and what the entries promise. Every crate is held to it.
+#![tactic(auto)]
+
 pub mod sizes; // the types with their limits, widths and constructors
 pub mod kinds; // the five kinds of constraint, in one table
 pub mod answers; // refusals, violations, the answer

@@ -3,14 +3,14 @@ use crate::answers::{Answer, Tally, Told};
 use crate::figures::{Desk, Figures};
 
 // What `check` gives back: the answer, and how much was tested for it, which is nothing on a refusal.
-#[derive(Drop)]
+#[derive(Clone, Copy)]
 pub struct Checked {
     pub answer: Answer,
     pub tally: Tally,
 }
 
 // What `energy` gives back: short of acceptance all figures are 0.
-#[derive(Drop)]
+#[derive(Clone, Copy)]
 pub struct Report {
     pub answer: Answer,
     pub tally: Tally,
@@ -19,7 +19,7 @@ pub struct Report {
 }
 
 // What `merge` gives back: the length is that of the text it wrote, and 0 short of acceptance; a violation has its verdict's tally, and a text none.
-#[derive(Drop)]
+#[derive(Clone, Copy)]
 pub struct Merged {
     pub answer: Answer,
     pub tally: Tally,
@@ -27,7 +27,7 @@ pub struct Merged {
 }
 
 // What `earliest` gives back: the length is that of the timetable it wrote, the tally that of the proposal's verdict; both are 0 on a refusal.
-#[derive(Drop)]
+#[derive(Clone, Copy)]
 pub struct Proposed {
     pub answer: Answer,
     pub tally: Tally,
@@ -35,13 +35,13 @@ pub struct Proposed {
 }
 
 // What `check_duties` gives back.
-#[derive(Drop)]
+#[derive(Clone, Copy)]
 pub struct Duties {
     pub answer: Told,
 }
 
 // Which of two choices `merge` takes at each leg. An enum, so that there is no wrong one.
-#[derive(Drop)]
+#[derive(Clone, Copy)]
 pub enum Direction {
     Earlier,
     Later,

@@ -4,12 +4,12 @@ ghost use Rattle.rules.specs.Limits as law;
 ghost use Rattle.rules.specs.Made.{horizon_made, configuration_made, leg_made, profile_made, sample_made};
 
 // H, the seconds of the day that a timetable may fill.
-#[derive(Drop)]
+#[derive(Clone, Copy)]
 pub struct Horizon {
     pub seconds: u32,
 }
 
-#[derive(Drop)]
+#[derive(Clone, Copy)]
 pub enum HorizonMade {
     Within(Horizon),
     OutOfRange,
@@ -39,7 +39,7 @@ impl Horizon {
 }
 
 // The ids of legs, trains, tracks, stations, profiles and subnets.
-#[derive(Drop)]
+#[derive(Clone, Copy)]
 pub struct Id {}
 
 impl Id {
@@ -47,7 +47,7 @@ impl Id {
 }
 
 // A text of any of the files.
-#[derive(Drop)]
+#[derive(Clone, Copy)]
 pub struct Text {}
 
 impl Text {
@@ -55,14 +55,14 @@ impl Text {
 }
 
 // One way to run a leg: `d_t_p` in a text, three numbers in the table.
-#[derive(Drop)]
+#[derive(Clone, Copy)]
 pub struct Configuration {
     pub departure: u32,
     pub travel: u32,
     pub profile: u32,
 }
 
-#[derive(Drop)]
+#[derive(Clone, Copy)]
 pub enum ConfigurationMade {
     Within(Configuration),
     OutOfRange,
@@ -112,7 +112,7 @@ impl Configuration {
 }
 
 // The configuration that a solution chose for a leg: the same three numbers, in a table of its own.
-#[derive(Drop)]
+#[derive(Clone, Copy)]
 pub struct Choice {}
 
 impl Choice {
@@ -120,7 +120,7 @@ impl Choice {
 }
 
 // A row of the timetable: its five ids, where its configurations start, how many it has, and the nominal's place among them.
-#[derive(Drop)]
+#[derive(Clone, Copy)]
 pub struct Leg {
     pub id: u32,
     pub train: u32,
@@ -132,7 +132,7 @@ pub struct Leg {
     pub nominal: u32,
 }
 
-#[derive(Drop)]
+#[derive(Clone, Copy)]
 pub enum LegMade {
     Within(Leg),
     OutOfRange,
@@ -214,14 +214,14 @@ impl Leg {
 }
 
 // A row of the profiles: its id, where its samples start, and how many it has.
-#[derive(Drop)]
+#[derive(Clone, Copy)]
 pub struct Profile {
     pub id: u32,
     pub first: u32,
     pub count: u32,
 }
 
-#[derive(Drop)]
+#[derive(Clone, Copy)]
 pub enum ProfileMade {
     Within(Profile),
     OutOfRange,
@@ -265,12 +265,12 @@ impl Profile {
 }
 
 // The average power of one second, in kilowatts.
-#[derive(Drop)]
+#[derive(Clone, Copy)]
 pub struct Sample {
     pub kw: i32,
 }
 
-#[derive(Drop)]
+#[derive(Clone, Copy)]
 pub enum SampleMade {
     Within(Sample),
     OutOfRange,
@@ -298,7 +298,7 @@ impl Sample {
 }
 
 // A record of one of the five lists: kind, the rows of its two legs, its least and greatest seconds, its connection type.
-#[derive(Drop)]
+#[derive(Clone, Copy)]
 pub struct Constraint {
     pub kind: u32,
     pub first: u32,
@@ -337,7 +337,7 @@ impl Constraint {
 }
 
 // A subnet has no table: a track names it by its place among the subnets.
-#[derive(Drop)]
+#[derive(Clone, Copy)]
 pub struct Subnet {}
 
 impl Subnet {
@@ -345,7 +345,7 @@ impl Subnet {
 }
 
 // A track and the place of its subnet.
-#[derive(Drop)]
+#[derive(Clone, Copy)]
 pub struct Track {
     pub id: u32,
     pub subnet: u32,
@@ -363,7 +363,7 @@ impl Track {
 }
 
 // A row of the rolling stock duties: one event of a duty.
-#[derive(Drop)]
+#[derive(Clone, Copy)]
 pub struct Event {}
 
 impl Event {
@@ -387,7 +387,7 @@ impl Event {
 }
 
 // The columns of the duties, from 0.
-#[derive(Drop)]
+#[derive(Clone, Copy)]
 pub struct Column {}
 
 impl Column {
@@ -415,7 +415,7 @@ impl Column {
 }
 
 // The rules of the duties, by their numbers; 0 where none is broken.
-#[derive(Drop)]
+#[derive(Clone, Copy)]
 pub struct Rule {}
 
 impl Rule {
@@ -435,7 +435,7 @@ impl Rule {
 }
 
 // A node of the duties: where its name first stands in the text, and how long it is.
-#[derive(Drop)]
+#[derive(Clone, Copy)]
 pub struct Node {}
 
 impl Node {
@@ -448,7 +448,7 @@ impl Node {
 }
 
 // A name in the duties: its least and greatest length, its least and greatest byte.
-#[derive(Drop)]
+#[derive(Clone, Copy)]
 pub struct Name {}
 
 impl Name {
@@ -462,7 +462,7 @@ impl Name {
 }
 
 // The seconds of a day, an hour and a minute.
-#[derive(Drop)]
+#[derive(Clone, Copy)]
 pub struct Clock {}
 
 impl Clock {
@@ -474,7 +474,7 @@ impl Clock {
 }
 
 // What a lent table holds after a refusal: a number that no field can have.
-#[derive(Drop)]
+#[derive(Clone, Copy)]
 pub struct Fill {}
 
 impl Fill {

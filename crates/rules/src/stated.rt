@@ -8,14 +8,14 @@ use crate::sizes::{Horizon, HorizonMade};
 use crate::tokens::{Lists, Rules};
 
 // Each number as the caller gives it.
-#[derive(Drop)]
+#[derive(Clone, Copy)]
 pub struct Stated {
     pub horizon: u32,
     pub edition: u32,
 }
 
 // Whether all of it is known, or the first refusal.
-#[derive(Drop)]
+#[derive(Clone, Copy)]
 pub enum Known {
     Whole,
     Refused(Refusal),

@@ -2,7 +2,7 @@
 use crate::sizes::Constraint;
 
 // What a token is. A string that the text's end cuts, and one with a forbidden byte, have classes of their own.
-#[derive(Drop)]
+#[derive(Clone, Copy)]
 pub enum Class {
     OpenBrace,
     CloseBrace,
@@ -18,7 +18,7 @@ pub enum Class {
 }
 
 // What is read next: of the document, of one of its lists, of a record, of a list of tracks.
-#[derive(Drop)]
+#[derive(Clone, Copy)]
 pub enum Phase {
     Document,
     FirstName,
@@ -41,7 +41,7 @@ pub enum Phase {
 }
 
 // What a token does in a phase.
-#[derive(Drop)]
+#[derive(Clone, Copy)]
 pub enum Action {
     // It may not stand here.
     Broken,
@@ -64,7 +64,7 @@ pub enum Action {
 }
 
 // The lists by number: the five kinds, then the subnets. A set of lists is one number, a bit for each.
-#[derive(Drop)]
+#[derive(Clone, Copy)]
 pub struct Lists {}
 
 impl Lists {
@@ -76,7 +76,7 @@ impl Lists {
 }
 
 // What a caller states about a file.
-#[derive(Drop)]
+#[derive(Clone, Copy)]
 pub struct Rules {
     // The lists that must be present.
     pub required: u8,
@@ -85,7 +85,7 @@ pub struct Rules {
 }
 
 // How far the reader is: the phase, the list and the lists seen, the key and the keys seen, the record so far.
-#[derive(Drop)]
+#[derive(Clone, Copy)]
 pub struct State {
     pub rules: Rules,
     pub phase: Phase,

@@ -5,7 +5,7 @@ use mathlib.Core.Bool.{Bool, true, false, not, ◌&&◌}
 use mathlib.Core.List.{List, [], ◌∷◌, ◌++◌}
 use native.Mathlib.Omega.{arith}
 use lib.Dec.{eqb}
-use borrow.Author.Tests.{eqb-false, not_true}
+use borrow.Author.Tests.{eqb-false, not-true}
 use Rattle.rules.specs.Bytes.{bytes}
 use Rattle.rules.specs.Lists.{any, every}
 use Rattle.rules.specs.Answers.{good}
@@ -31,7 +31,7 @@ unfolding distinct_test
 tested_distinct [] h = tt
 tested_distinct (n ∷ ns) h = (
   all_map (λ m. eqb n m ≡ false) (λ m. n ≡ m → ⊥) (λ m. eqb-false n m) ns
-      (none_passes (eqb n) ns (not_true _ (and_first (not (any (eqb n) ns)) (distinct_test ns) h))),
+      (none_passes (eqb n) ns (not-true _ (and_first (not (any (eqb n) ns)) (distinct_test ns) h))),
   tested_distinct ns (and_second (not (any (eqb n) ns)) (distinct_test ns) h),
 )
 

@@ -4,7 +4,7 @@ use mathlib.Core.Path.{◌≡◌, refl, sym, ap, subst, ◌∙◌}
 use mathlib.Core.Bool.{Bool, true, false, cond}
 use mathlib.Core.List.{List, [], ◌∷◌, ◌++◌, map, append-nil, append_assoc}
 use native.Mathlib.Omega.{arith}
-use native.Mathlib.Nat.{add-zero, zero_add, add_assoc}
+use native.Mathlib.Nat.{add-zero, zero-add, add_assoc}
 use lib.Dec.{eqb}
 use lib.Bits.{bit_or}
 use lib.ListN.{length, length-append}
@@ -159,8 +159,8 @@ module _ (legs : List ℕ) where
           ∙ rest now
           ∙ grown_twice d (map (constraint_of legs l.list) l.records) (constraints_in legs ls) [] (tracks_from (d.opened + 0) (subnets_in ls))
           0 (length (subnets_in ls)) [] (flat (flat ids_of) (subnets_in ls))
-          ∙ simp (add-zero, zero_add)
+          ∙ simp (add-zero, zero-add)
 
   pub document_means : (v : Value) → OkLists legs 0 v → after_lists legs empty v ≡ document_of legs v
   unfolding document_of
-  document_means v ok = lists_add v 0 ok empty ∙ rw zero_add
+  document_means v ok = lists_add v 0 ok empty ∙ rw zero-add

@@ -6,7 +6,7 @@ use mathlib.Core.List.{List, [], ◌∷◌}
 use native.Mathlib.Omega.{arith}
 use lib.Dec.{eqb}
 use lib.Bits.{bit_and, bit_or, and_zero_r}
-use borrow.Author.Tests.{eqb-true, eqb-false, not_true}
+use borrow.Author.Tests.{eqb-true, eqb-false, not-true}
 use Rattle.rules.specs.Answers.{bad_json, Reading, good}
 use Rattle.rules.specs.Kinds.{unknown, connection_type, list_named, key_in, type_named}
 use Rattle.rules.specs.Tokens.{Token}
@@ -82,7 +82,7 @@ module _ (E : ℕ) (legs : List ℕ) (constraints tracks : ℕ) (D : Document) (
     list_left is e =
         let list : ℕ = list_named t.word in
         let said = list-said legs constraints tracks next D st d t list e in
-        let named = not_true (eqb list unknown) said.0 in
+        let named = not-true (eqb list unknown) said.0 in
         let k = behind (in_list list st) d plain said.2 in
         record {
           left = record { list = list; then = k.left };
@@ -109,7 +109,7 @@ module _ (E : ℕ) (legs : List ℕ) (constraints tracks : ℕ) (D : Document) (
         let edition : st.rules.edition ≡ E = ap (λ (r : Rules). r.edition) plain in
         let said = key_said legs constraints tracks next D st d t key e in
         let none : key ≡ unknown → bit_and (keys_of st.list) key ≡ 0 = λ e. ap (bit_and (keys_of st.list)) e ∙ and_zero_r (keys_of st.list) in
-        let known : key ≡ unknown → ⊥ = λ e. eqb-false (bit_and (keys_of st.list) key) 0 (not_true _ said.0) (none e) in
+        let known : key ≡ unknown → ⊥ = λ e. eqb-false (bit_and (keys_of st.list) key) 0 (not-true _ said.0) (none e) in
         let k = behind (at_key key st) d plain said.2 in
         let is_key : key ≡ key_of k.left.member = sym k.ok.0 in
         record {
@@ -149,7 +149,7 @@ module _ (E : ℕ) (legs : List ℕ) (constraints tracks : ℕ) (D : Document) (
     type_left is e =
         let n : ℕ = type_named t.word in
         let said = type_said legs constraints tracks next D st d t n e in
-        let named = not_true (eqb n unknown) said.1 in
+        let named = not-true (eqb n unknown) said.1 in
         let k = behind (with_entry (entered connection_type n st.entry) st) d plain said.2 in
         record {
           left = record { member = type n; then = k.left };

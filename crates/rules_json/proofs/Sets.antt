@@ -7,7 +7,7 @@ use native.Mathlib.Omega.{arith}
 use lib.Dec.{eqb}
 use lib.Bits.{bit_and, bit_or, or_step, or_zero_l, or_comm, or_self, or_add_and, and_comm, and_zero_l}
 use lib.Arith.{bin_ind}
-use borrow.Author.Tests.{eqb-true, eqb-false, eq-eqb, ne_eqb, not_true, not-false}
+use borrow.Author.Tests.{eqb-true, eqb-false, eq-eqb, ne_eqb, not-true, not-false}
 use Rattle.rules.specs.Lists.{any, every}
 use Rattle.rules.specs.Verdict.{All}
 use Rattle.rules.proofs.Truth.{all_map}
@@ -104,7 +104,7 @@ module _ (table : List ℕ) (bit : ℕ → ℕ)
   -- and what is out differs from what came in
   differs : (seen a b : ℕ) → Among table a → bit_and seen (bit a) ≡ 0 → bit_and (bit_or seen (bit a)) (bit b) ≡ 0 → a ≡ b → ⊥
   differs seen a b in-a out-a out-b same =
-      eqb-false (bit a) 0 (not_true _ (passed (λ a. not (eqb (bit a) 0)) table a some-bit in-a))
+      eqb-false (bit a) 0 (not-true _ (passed (λ a. not (eqb (bit a) 0)) table a some-bit in-a))
       (sym (has_now seen (bit a) out-a) ∙ ap (λ (k : ℕ). bit_and (bit_or seen (bit a)) (bit k)) same ∙ out-b)
 
   -- ---- distinct, and new one after the other
@@ -203,7 +203,7 @@ module _ (table : List ℕ) (bit : ℕ → ℕ)
             let both = or_add_and (bit w) (union bit 0 ns) in
             let turned = and_comm (bit w) (union bit 0 ns) in
             let none : bit w ≡ 0 = omega arith in
-            absurd (eqb-false (bit w) 0 (not_true _ (passed (λ a. not (eqb (bit a) 0)) table w some-bit in-w)) none)
+            absurd (eqb-false (bit w) 0 (not-true _ (passed (λ a. not (eqb (bit a) 0)) table w some-bit in-w)) none)
 
         present : (ws : List ℕ) → All (Among table) ws → All (λ w. Within (bit w) (union bit 0 ns)) ws → All (Among ns) ws
         present [] h k = tt

@@ -1,7 +1,7 @@
 -- 1, 21 and 2, for any texts: H out of range, an edition that is not known, and a text that is too long to be written as an example. Assumes nothing.
 use Prim.Native.Nat.{ℕ, ◌≤◌, ◌<◌}
 use mathlib.Core.Path.{◌≡◌}
-use mathlib.Core.Bool.{and_false}
+use mathlib.Core.Bool.{and-false}
 use mathlib.Core.List.{List}
 use mathlib.Core.Logic.{◌⊎◌, inl, inr}
 use lib.ListN.{length, replicate, length-replicate}
@@ -27,7 +27,7 @@ use Rattle.rules_theorems.proofs.GoodFiles.{good_known}
 pub horizon_out : (S : Stated) (x : Texts) (room : Rooms) → (S.horizon < least_horizon) ⊎ (most_horizon < S.horizon) → files_of S x room ≡ refused (refusal bad_horizon no_file 0)
 unfolding files_of known
 horizon_out S x room (inl h) = rw (lt-leb least_horizon S.horizon h)
-horizon_out S x room (inr h) = rw (lt-leb S.horizon most_horizon h, and_false)
+horizon_out S x room (inr h) = rw (lt-leb S.horizon most_horizon h, and-false)
 
 -- 21: neither edition, where H is in range
 pub edition_out : (S : Stated) (x : Texts) (room : Rooms) → least_horizon ≤ S.horizon → S.horizon ≤ most_horizon → (KnownEdition S.edition → ⊥)

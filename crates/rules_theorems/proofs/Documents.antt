@@ -8,7 +8,7 @@ use native.Mathlib.Omega.{arith}
 use lib.Dec.{leb, ltb, eqb}
 use lib.Bits.{bit_and}
 use lib.ListN.{length}
-use borrow.Author.Tests.{eqb-true, eqb-false, leb-true, ltb-true, not_true}
+use borrow.Author.Tests.{eqb-true, eqb-false, leb-true, ltb-true, not-true}
 use Rattle.rules.specs.Limits.{most_text, most_id, most_seconds, most_constraints, most_subnets, most_tracks}
 use Rattle.rules.specs.Lists.{any, is_some}
 use Rattle.rules.specs.Answers.{refusal, too_long, out_of_range, too_many, already_seen, bad_json, unknown_name, repeated_or_missing, not_there, no_room, constraints_file, refused, good}
@@ -69,7 +69,7 @@ module _ (legs : List ℕ) (constraints tracks : ℕ) where
     list_name_keeps word ids =
         tested unknown_name (not (eqb (list_named word) unknown)) _ refl (λ named.
         tested repeated_or_missing (eqb (bit_and st.lists (list_bit (list_named word))) 0) _ refl (λ new.
-        stays (record { in_lists = list-known word (not_true _ named); ids = ids })))
+        stays (record { in_lists = list-known word (not-true _ named); ids = ids })))
 
     document_ends_keeps : Outside d → Good (document_ends legs constraints tracks st d t)
     unfolding document_ends
@@ -176,7 +176,7 @@ module _ (legs : List ℕ) (constraints tracks : ℕ) where
           tested bad_json (eqb st.key connection_type) _ refl (λ is.
           tested unknown_name (not (eqb (type_named word) unknown)) _ refl (λ named.
           stays (value_given legs constraints st.list connection_type st.keys st.entry d (at_key_lem connection_type is) (type_named word) refl
-          (type_fits legs (type_named word) (type_known word (not_true _ named))))))
+          (type_fits legs (type_named word) (type_known word (not-true _ named))))))
 
       leg_value_keeps : eqb st.key first_leg || eqb st.key second_leg ≡ true → Good (leg_value legs constraints tracks st d t)
       unfolding leg_value
@@ -204,7 +204,7 @@ module _ (legs : List ℕ) (constraints tracks : ℕ) where
             tables = record {
               constraints_lawful = tables.constraints_lawful;
               tracks_lawful = tables.tracks_lawful;
-              ids_lawful = id_added (number_of t) d.ids (leb-true _ _ low) (not_true _ new) tables.ids_lawful;
+              ids_lawful = id_added (number_of t) d.ids (leb-true _ _ low) (not-true _ new) tables.ids_lawful;
               subnets_in_limit = tables.subnets_in_limit;
             };
             holds = id_given legs constraints st.list st.keys (number_of t) st.entry d (at_key_lem subnet_id is);
@@ -255,7 +255,7 @@ module _ (legs : List ℕ) (constraints tracks : ℕ) where
           tables = record {
             constraints_lawful = tables.constraints_lawful;
             tracks_lawful = track_added d.opened tracks (number_of t) d.tracks (leb-true _ _ low)
-                (listing.inside.open_subnet listing.of_subnet) (not_true _ new) (ltb-true _ _ limit) (ltb-true _ _ room) tables.tracks_lawful;
+                (listing.inside.open_subnet listing.of_subnet) (not-true _ new) (ltb-true _ _ limit) (ltb-true _ _ room) tables.tracks_lawful;
             ids_lawful = tables.ids_lawful;
             subnets_in_limit = tables.subnets_in_limit;
           };

@@ -4,7 +4,7 @@ use mathlib.Core.Path.{◌≡◌}
 use mathlib.Core.Bool.{false, not}
 use mathlib.Core.List.{List, [], ◌∷◌, ◌++◌, append-nil, append_assoc}
 use lib.Dec.{T, eqb}
-use borrow.Author.Tests.{eqb-false, not_true}
+use borrow.Author.Tests.{eqb-false, not-true}
 use Rattle.rules.specs.Lists.{any}
 use Rattle.rules.specs.Verdict.{All}
 use Rattle.rules.proofs.Truth.{is_true, all_map}
@@ -42,4 +42,4 @@ new_distinct {A = A} key xs new = each_keeps (λ before x. T (not (any (λ b. eq
     more before x unseen distinct =
         pairs_more (λ a b. key a ≡ key b → ⊥) before x distinct
         (all_map (λ b. eqb (key b) (key x) ≡ false) (λ b. key b ≡ key x → ⊥) (λ b. eqb-false (key b) (key x)) before
-        (none_passes (λ b. eqb (key b) (key x)) before (not_true _ (is_true _ unseen))))
+        (none_passes (λ b. eqb (key b) (key x)) before (not-true _ (is_true _ unseen))))

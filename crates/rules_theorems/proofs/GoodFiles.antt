@@ -1,7 +1,7 @@
 -- Files and choices are read without refusal exactly where each of document 01's steps goes well. Assumes nothing.
 use Prim.Native.Nat.{ℕ, suc, ◌/◌, ◌≤◌}
 use mathlib.Core.Path.{◌≡◌, refl, ap, sym, ◌∙◌}
-use mathlib.Core.Bool.{Bool, true, false, cond, ◌&&◌, ◌||◌, or_true}
+use mathlib.Core.Bool.{Bool, true, false, cond, ◌&&◌, ◌||◌, or-true}
 use mathlib.Core.List.{List, [], ◌∷◌, map}
 use mathlib.Core.Logic.{inl, inr}
 use mathlib.Core.Option.{Option, none, some}
@@ -62,7 +62,7 @@ edition_good e n k = go (eqb e table_edition) refl k
 
 good_edition : (e : ℕ) → KnownEdition e → edition_of e ≡ good e
 good_edition e (inl p) = rw (eq-eqb e table_edition p)
-good_edition e (inr p) = rw (eq-eqb e example_edition p, or_true)
+good_edition e (inr p) = rw (eq-eqb e example_edition p, or-true)
 
 -- what is stated is known exactly where both are
 known_good : (S s : Stated) → known S ≡ good s → (least_horizon ≤ S.horizon) × (S.horizon ≤ most_horizon) × KnownEdition S.edition

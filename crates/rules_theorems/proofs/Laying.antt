@@ -3,7 +3,7 @@ use Prim.Native.Nat.{ℕ, zero, suc, ◌+◌, ◌*◌, ◌-◌, ◌/◌, ◌%◌
 use native.Mathlib.Omega.{arith}
 use native.Mathlib.Nat.{mul-le-mul_right, mod-lt, div-add-mod', div-lt_iff_lt-mul, add-zero}
 use mathlib.Core.Path.{◌≡◌, refl, sym, ap, ap₂, ◌∙◌, subst}
-use mathlib.Core.Bool.{Bool, true, false, cond, ◌&&◌, and_false}
+use mathlib.Core.Bool.{Bool, true, false, cond, ◌&&◌, and-false}
 use mathlib.Core.List.{List, [], ◌∷◌}
 use mathlib.Core.Option.{Option, none, some}
 use lib.Dec.{leb, ltb, eqb}
@@ -135,7 +135,7 @@ module _ (from size : ℕ) where
   pub run_past : (u t : ℕ) (xs P : List ℤ) → from + size ≤ t → laid_run from size u t xs P ≡ P
   run_past u t [] P h = refl
   run_past u t (x ∷ xs) P h =
-      rw (le-ltb t (from + size) h, and_false (leb from t)) (run_past u (suc t) xs P (omega arith))
+      rw (le-ltb t (from + size) h, and-false (leb from t)) (run_past u (suc t) xs P (omega arith))
 
   pub one_in : (u t : ℕ) (x : ℤ) (P : List ℤ) → from ≤ t → t < from + size → laid_one from size u t x P ≡ add_at P (u * size + (t - from)) x
   one_in u t x P h k = rw (le-leb from t h, lt-ltb t (from + size) k)

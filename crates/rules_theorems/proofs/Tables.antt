@@ -5,7 +5,7 @@ use mathlib.Core.Bool.{Bool, true, false, cond, ◌&&◌, ◌||◌}
 use mathlib.Core.List.{List, [], ◌∷◌, ◌++◌, map, append_assoc}
 use mathlib.Core.Option.{some}
 use native.Mathlib.Omega.{arith}
-use native.Mathlib.Nat.{add-zero, zero_add}
+use native.Mathlib.Nat.{add-zero, zero-add}
 use lib.Dec.{T, eqb, eqb→eq}
 use lib.ListN.{length, get_or, length-append}
 use lib.Seq.{take-append_seam, drop-append_seam}
@@ -50,7 +50,7 @@ nominal_there r h = settle (place_found no_choice 0 (same r.nominal) r.list h)
   where
     settle : (i : ℕ) × (first_place (same r.nominal) r.list ≡ some (0 + i)) × (i < length r.list) × T (same r.nominal (get_or r.list i no_choice))
         → get_or r.list (nominal_place r) no_choice ≡ r.nominal
-    settle k = rw (k.1, zero_add k.0) (sym (same_eq r.nominal (get_or r.list k.0 no_choice) k.3))
+    settle k = rw (k.1, zero-add k.0) (sym (same_eq r.nominal (get_or r.list k.0 no_choice) k.3))
 
 -- ---- rows of tables
 

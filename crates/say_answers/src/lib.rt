@@ -1,5 +1,7 @@
 // The three answers in words, on standard output. What is written of numbers, times, names and bytes is crate `say_words`'; the sentences stand here. The small program calls these for every group;
 // nothing here decides anything.
+#![tactic(auto)]
+
 pub mod say; // standard output
 pub mod refusals; // refused: number and meaning, file, place, row
 pub mod readings; // accepted: how much was read

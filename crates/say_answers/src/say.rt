@@ -11,7 +11,7 @@ const LINE: usize = 128;
 const MARK: u8 = b'%';
 
 // How a number stands in a sentence, by the letter after the mark.
-#[derive(Drop)]
+#[derive(Clone, Copy)]
 struct Letter {}
 
 impl Letter {

@@ -1,4 +1,6 @@
 // How much was read, counted off the tables: they are lent filled with a number that no field can have, so the entries end at the first of it. The small program says it of every acceptance.
+#![tactic(auto)]
+
 ghost use Rattle.std.specs.Prelude.{◌≡◌, ◌/◌, ◌<◌, length};
 ghost use Rattle.rules.specs.Limits.{unsigned_fill};
 ghost use Rattle.text_read.specs.Places.{up_to};

@@ -1,5 +1,7 @@
 // What a program says to people, as bytes: every function writes at a place of a lent buffer, as crate `text_write` does, and answers the place after the
 // whole text. `say_answers` puts it into sentences.
+#![tactic(auto)]
+
 pub mod numbers; // whole numbers, with two or three digits at least
 pub mod times; // seconds, and the clock that goes past midnight
 pub mod energies; // kilojoules as MWh, and those of a quarter hour as MW

@@ -7,7 +7,7 @@ use rules::kinds::Kind;
 use rules::sizes::Configuration;
 use verdict::records;
 
-#[derive(Drop)]
+#[derive(Clone, Copy)]
 pub struct Bound {
     // The arrival, and not the departure.
     pub arrival: bool,

@@ -13,14 +13,14 @@ use small_input::files::Loaded;
 use small_input::words::Words;
 use small_input::{arguments, files, rooms};
 
-#[derive(Drop)]
+#[derive(Clone, Copy)]
 pub enum Asked {
     Verdict,
     Energies,
 }
 
 // What a group's word asks for.
-#[derive(Drop)]
+#[derive(Clone, Copy)]
 pub enum Entry {
     OfSolution(Asked),
     OfTwo(Direction),
@@ -44,7 +44,7 @@ pub fn entry_at(at: usize) -> Entry {
 }
 
 // What every group gives beside its solutions: H, the edition, and how long each of the three texts is.
-#[derive(Drop)]
+#[derive(Clone, Copy)]
 struct Draft {
     h: Given,
     edition: Given,
@@ -82,7 +82,7 @@ fn read_draft(at: usize, timetable: &mut [u8], profiles: &mut [u8], constraints:
 }
 
 // What is stated, where an entry can be called.
-#[derive(Drop)]
+#[derive(Clone, Copy)]
 enum Ready {
     At(Stated),
     No,

@@ -4,6 +4,8 @@
 //     merge-earlier H EDITION TIMETABLE PROFILES CONSTRAINTS FIRST SECOND OUT
 //     merge-later H EDITION TIMETABLE PROFILES CONSTRAINTS FIRST SECOND OUT
 // and each group is answered in turn: the label, what was found, and a last line that a script can read.
+#![tactic(auto)]
+
 mod groups; // the groups
 
 ghost use Rattle.std.specs.Prelude.{◌+◌, ◌<◌, ◌^◌};

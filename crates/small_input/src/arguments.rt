@@ -7,7 +7,7 @@ use text_read::numbers::Whole;
 const WORD: usize = 32;
 
 // H or the edition, as it was given. A number past every id is neither an H nor an edition for the checker, too.
-#[derive(Drop)]
+#[derive(Clone, Copy)]
 pub enum Given {
     Number(u32),
     NoNumber,

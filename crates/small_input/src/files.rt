@@ -6,7 +6,7 @@ use input::{End, Taken};
 use say_answers::say;
 
 // The bytes at the front of a room, and whether they are the whole file.
-#[derive(Drop)]
+#[derive(Clone, Copy)]
 pub struct Loaded {
     pub whole: bool,
     pub length: usize,

@@ -7,7 +7,7 @@ use rules::sizes::{Fill, Horizon, Subnet};
 
 const KIB: usize = 1_024;
 
-#[derive(Drop)]
+#[derive(Clone, Copy)]
 pub struct Room {}
 
 impl Room {

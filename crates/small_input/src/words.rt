@@ -2,7 +2,7 @@
 ghost use Rattle.std.specs.Prelude.{◌≡◌, leb};
 
 // The places of a group's words, counted from the group's own word, and how many words a group has.
-#[derive(Drop)]
+#[derive(Clone, Copy)]
 pub struct Words {}
 
 impl Words {

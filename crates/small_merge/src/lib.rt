@@ -1,4 +1,6 @@
 // `merge-earlier H EDITION TIMETABLE PROFILES CONSTRAINTS FIRST SECOND OUT`, and `merge-later`: the merged timetable goes to OUT and the report to standard output.
+#![tactic(auto)]
+
 use checker::{display, merges};
 use rules::answers::{Answer, File, Tally};
 use rules::outcomes::Direction;

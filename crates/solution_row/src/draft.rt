@@ -8,21 +8,21 @@ use rules::sizes::Leg;
 use timetable_row::line::LAST;
 
 // Whether a row so far differs from the draft's, and where the first that does starts.
-#[derive(Drop)]
+#[derive(Clone, Copy)]
 pub struct Compared {
     pub differs: bool,
     pub place: u32,
 }
 
 // An id that no row before has, where one is known.
-#[derive(Drop)]
+#[derive(Clone, Copy)]
 pub enum Fresh {
     Id(u32),
     Unknown,
 }
 
 // The first fault's number and place, or how many choices there are.
-#[derive(Drop)]
+#[derive(Clone, Copy)]
 pub enum Choices {
     Fault(u8, u32),
     Read(u32),

@@ -1,4 +1,6 @@
 // A solution over files that were read: its choices are read, and judged. Check and energy ask it once, a merge twice.
+#![tactic(auto)]
+
 ghost use Rattle.solution_verdict.specs.Left.{Choosable, Chooses, Ready, Judges};
 
 use rules::answers::{Refusal, Ruling};
@@ -6,7 +8,7 @@ use solution::reader;
 use solution_row::draft::Choices;
 use tables_lent::Counts;
 
-#[derive(Drop)]
+#[derive(Clone, Copy)]
 pub enum Chosen {
     Whole,
     Refused(Refusal),

@@ -1,11 +1,13 @@
 // Where an id stands in a flat table of records, each of which begins with its id; and whether an id is new. Ids mostly rise from record to record, so what rises is searched by halves, and the rest
 // record by record. The readers and the energies look up by it.
+#![tactic(auto)]
+
 ghost use Rattle.std.specs.Prelude.{◌≡◌, ◌≤◌, eqb, take, drop};
 ghost use Rattle.rules.specs.Lists.{place_from};
 ghost use Rattle.tables_ids.specs.Column.{Records, Rising, Sought, Ascending, Last, Parted, column, found_of, place_of, is_new};
 
 // The place of a record, or none.
-#[derive(Drop)]
+#[derive(Clone, Copy)]
 pub enum Found {
     At(usize),
     Nothing,

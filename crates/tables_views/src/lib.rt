@@ -1,5 +1,7 @@
 // Reading the flat tables of document 01 record by record. What lies past the end of a table reads as 0, so nothing is asked of a caller. Whatever works on tables that were read does it by these:
 // 12 to 15, the verdict, the energies, the merges.
+#![tactic(auto)]
+
 ghost use Rattle.std.specs.Prelude.{◌≡◌, ◌<◌};
 ghost use Rattle.tables_views.specs.View.{entry_at, leg_at, configuration_at, profile_at, constraint_at, track_at};
 

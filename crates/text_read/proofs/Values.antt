@@ -3,11 +3,11 @@ use Prim.Native.Nat.{ℕ, ◌≤◌, ◌<◌, min}
 use mathlib.Core.Path.{◌≡◌, refl, ap, ◌∙◌}
 use mathlib.Core.List.{List, [], ◌∷◌}
 use mathlib.Core.Option.{some}
-use mathlib.Core.Bool.{Bool, true, false, not, and_false}
+use mathlib.Core.Bool.{Bool, true, false, not, and-false}
 use native.Mathlib.Omega.{arith}
 use lib.Dec.{eqb}
 use lib.ListN.{length, get_or, drop}
-use borrow.Author.Tests.{le-leb, lt-leb, not_true, not-false}
+use borrow.Author.Tests.{le-leb, lt-leb, not-true, not-false}
 use Rattle.rules.specs.Lists.{lead, every}
 use Rattle.rules.specs.Limits.{most_id}
 use Rattle.rules.specs.Bytes.{digit_zero, is_digit, value_from, plain, whole_of}
@@ -43,7 +43,7 @@ module _ (s : List ℕ) (r : Ran) (e : r ≡ ran_from 0 0 (drop 0 s)) where
   not_digits h = lead-not-every is_digit s (omega (arith, ap (λ (x : Ran). x.next) e))
 
   pub whole_broken : r.next < length s → Malformed ≡ whole_held (whole_of s)
-  whole_broken h = rw (not_digits h, and_false (plain s))
+  whole_broken h = rw (not_digits h, and-false (plain s))
 
   module _ (t : Bool) (p : t ≡ plain s) (n : not t ≡ false) (h : length s ≤ r.next) where
     whole_some : whole_of s ≡ some (value_from 0 s)
@@ -58,7 +58,7 @@ module _ (s : List ℕ) (r : Ran) (e : r ≡ ran_from 0 0 (drop 0 s)) where
         rw v (held_number (value_from 0 s) (omega arith) ∙ rw whole_some)
 
 pub whole_not-plain : (s : List ℕ) (t : Bool) → t ≡ plain s → not t ≡ true → Malformed ≡ whole_held (whole_of s)
-whole_not-plain s t p n = rw (← p, not_true t n)
+whole_not-plain s t p n = rw (← p, not-true t n)
 
 -- ---- `plain`, by the length and the first byte
 

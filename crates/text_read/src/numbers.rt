@@ -6,7 +6,7 @@ ghost use Rattle.text_read.specs.Held.{past_id, ran_from, whole_held};
 use rules::sizes::Id;
 
 // What a text says as a whole number.
-#[derive(Drop)]
+#[derive(Clone, Copy)]
 pub enum Whole {
     Number(u32),
     // Past the greatest id.
@@ -15,7 +15,7 @@ pub enum Whole {
 }
 
 // A run of digits: its value, and the place after it.
-#[derive(Drop)]
+#[derive(Clone, Copy)]
 pub struct Ran {
     pub value: u32,
     pub next: usize,

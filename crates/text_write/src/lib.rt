@@ -1,5 +1,7 @@
 // Bytes and whole numbers, written at a place of a lent buffer. Each function answers the place after the whole text, as if there were room:
 // so a caller knows afterwards how long the text is, and whether it fits. Merged timetables and the words of an answer are written by it.
+#![tactic(auto)]
+
 ghost use Rattle.std.specs.Prelude.{◌≡◌, ◌&&◌, ◌+◌, min, ◌∷◌, [], leb};
 ghost use Rattle.rules.specs.Limits.{most_text};
 ghost use Rattle.rules.specs.Bytes.{spelled};

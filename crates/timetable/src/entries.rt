@@ -13,7 +13,7 @@ use timetable_row::number::Number;
 use timetable_row::{line, number};
 
 // The row after entries, and the place behind the last one's space.
-#[derive(Drop)]
+#[derive(Clone, Copy)]
 pub struct Listed {
     pub line: Line,
     pub next: usize,

@@ -16,7 +16,7 @@ use timetable_row::number::Number;
 use timetable_row::{line, number};
 
 // After so many bytes, so many of them the header's: the mark, the open number, and the rest of the state.
-#[derive(Drop)]
+#[derive(Clone, Copy)]
 pub struct Reader {
     pub read: usize,
     pub head: usize,
@@ -26,7 +26,7 @@ pub struct Reader {
 }
 
 // A row, and the place up to which a part is read.
-#[derive(Drop)]
+#[derive(Clone, Copy)]
 pub struct Run {
     pub next: usize,
     pub number: Number,
@@ -34,7 +34,7 @@ pub struct Run {
 }
 
 // The rows and configurations of a text, or its first fault.
-#[derive(Drop)]
+#[derive(Clone, Copy)]
 pub enum Rows {
     Fault(u8, u32),
     Read(u32, u32),

@@ -1,9 +1,11 @@
 // A whole entry of a list, where one stands: three numbers, each with the byte that closes it; and a whole number in quotes. They are the fast ways of `timetable`; what is neither is a miss, and goes byte by byte.
+#![tactic(auto)]
+
 ghost use Rattle.std.specs.Prelude.{◌≡◌, cond, ◌+◌, ◌^◌, ◌≤◌, ◌<◌, eqb, length};
 ghost use Rattle.timetable_entry.specs.Spots.{number_bytes, Cuts, Spots, Quotes};
 
 // A number and the place behind the byte that closes it.
-#[derive(Drop)]
+#[derive(Clone, Copy)]
 pub enum Cut {
     At(u32, usize),
     Miss,
@@ -83,7 +85,7 @@ pub fn quoted_at(part: &[u8], from: usize) -> Cut
 }
 
 // An entry's three numbers, and the place behind its space.
-#[derive(Drop)]
+#[derive(Clone, Copy)]
 pub enum Spotted {
     Entry(u32, u32, u32, usize),
     Miss,

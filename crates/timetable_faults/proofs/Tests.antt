@@ -8,7 +8,7 @@ use native.Mathlib.Nat.{sub-zero}
 use lib.Dec.{leb, ltb, eqb}
 use lib.ListN.{length, get_or, drop}
 use lib.Seq.{get_or-drop, drop-drop}
-use borrow.Author.Tests.{not_true, not-false, le-leb, lt-leb, lt-ltb, le-ltb, eq-eqb, ne_eqb}
+use borrow.Author.Tests.{not-true, not-false, le-leb, lt-leb, lt-ltb, le-ltb, eq-eqb, ne_eqb}
 use Rattle.rules.specs.Limits.{leg_width}
 use Rattle.rules.specs.Lists.{any}
 use Rattle.rules.specs.Answers.{out_of_range, too_many, already_seen, nominal_not_listed, no_room, Test, ◌needs◌}
@@ -66,10 +66,10 @@ module _ (a b c e : Bool) (nominal entries : ℕ) where
   in_turn = out_of_range needs a ∷ too_many needs b ∷ already_seen needs c ∷ nominal_not_listed needs ltb nominal entries ∷ no_room needs e ∷ []
 
   pub lowest_range : (r : Bool) → r ≡ not a → r ≡ true → out_of_range ≡ lowest in_turn
-  lowest_range r q t = rw (not_true a (sym q ∙ t))
+  lowest_range r q t = rw (not-true a (sym q ∙ t))
 
   pub lowest_count : (r k : Bool) → r ≡ not a → r ≡ false → k ≡ not b → k ≡ true → too_many ≡ lowest in_turn
-  lowest_count r k q t p u = rw (not-false a (sym q ∙ t), not_true b (sym p ∙ u))
+  lowest_count r k q t p u = rw (not-false a (sym q ∙ t), not-true b (sym p ∙ u))
 
   pub lowest_seen : (r k s : Bool) → r ≡ not a → r ≡ false → k ≡ not b → k ≡ false → s ≡ c → s ≡ false → already_seen ≡ lowest in_turn
   lowest_seen r k s q t p u i v = rw (not-false a (sym q ∙ t), not-false b (sym p ∙ u), ← i, v)
@@ -78,7 +78,7 @@ module _ (a b c e : Bool) (nominal entries : ℕ) where
   lowest_nominal r k s q t p u i v h = rw (not-false a (sym q ∙ t), not-false b (sym p ∙ u), ← i, v, le-ltb nominal entries h)
 
   pub lowest_room : (r k s f : Bool) → r ≡ not a → r ≡ false → k ≡ not b → k ≡ false → s ≡ c → s ≡ true → nominal < entries → f ≡ not e → f ≡ true → no_room ≡ lowest in_turn
-  lowest_room r k s f q t p u i v h j w = rw (not-false a (sym q ∙ t), not-false b (sym p ∙ u), ← i, v, lt-ltb nominal entries h, not_true e (sym j ∙ w))
+  lowest_room r k s f q t p u i v h j w = rw (not-false a (sym q ∙ t), not-false b (sym p ∙ u), ← i, v, lt-ltb nominal entries h, not-true e (sym j ∙ w))
 
   pub lowest-none : (r k s f : Bool) → r ≡ not a → r ≡ false → k ≡ not b → k ≡ false → s ≡ c → s ≡ true → nominal < entries → f ≡ not e → f ≡ false → 0 ≡ lowest in_turn
   lowest-none r k s f q t p u i v h j w = rw (not-false a (sym q ∙ t), not-false b (sym p ∙ u), ← i, v, lt-ltb nominal entries h, not-false e (sym j ∙ w))

@@ -1,4 +1,6 @@
 // The number by which a timetable's row that is over is at fault: its tests, in the order of their numbers. The draft's reader asks it, and a solution's shares its laws.
+#![tactic(auto)]
+
 ghost use Rattle.std.specs.Prelude.{◌≡◌, not};
 ghost use Rattle.timetable_row.specs.RowOver.{is_new, room_holds, line_tests, lowest};
 

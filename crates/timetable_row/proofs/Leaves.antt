@@ -1,7 +1,7 @@
 -- The small functions of a line: a law for each of their returns. Assumes nothing.
 use Prim.Native.Nat.{ℕ, zero, suc, ◌+◌, ◌*◌, ◌-◌, ◌/◌, ◌≤◌, ◌<◌}
 use mathlib.Core.Path.{◌≡◌, refl, sym, ap, ◌∙◌}
-use mathlib.Core.Bool.{Bool, true, false, cond, and_false}
+use mathlib.Core.Bool.{Bool, true, false, cond, and-false}
 use mathlib.Core.List.{List, [], ◌∷◌, ◌++◌}
 use native.Mathlib.Omega.{arith}
 use native.Mathlib.Nat.{add-zero}
@@ -54,7 +54,7 @@ module _ (d t p h : ℕ) where
   Finds m = is_made m ≡ in_range h (configuration d t p)
 
   past : h < d + t → Finds OutOfRange
-  past q = rw (lt-leb (d + t) h q, and_false, and_false)
+  past q = rw (lt-leb (d + t) h q, and-false, and-false)
 
   by_profile : least_travel ≤ t → t ≤ most_travel → d + t ≤ h → Finds tests_profile
   by_profile a b c = rw (le-leb least_travel t a, le-leb t most_travel b, le-leb (d + t) h c) (go (ltb most_id p) refl)
@@ -90,7 +90,7 @@ module _ (d t p h : ℕ) where
   by_high a = go (ltb most_travel t) refl
     where
       go : (x : Bool) → ltb most_travel t ≡ x → Finds (cond x OutOfRange tests-horizon)
-      go true e = rw (lt-leb t most_travel (ltb-true most_travel t e), and_false)
+      go true e = rw (lt-leb t most_travel (ltb-true most_travel t e), and-false)
       go false e = by_horizon a (ltb-false most_travel t e)
 
   -- THE LAW: the constructor makes what is in range

@@ -8,7 +8,7 @@ ghost use Rattle.timetable_row.specs.RowOver.{range_holds, counts_hold, leg_held
 
 use rules::sizes::{Configuration, ConfigurationMade, Id, Leg, LegMade};
 
-#[derive(Drop)]
+#[derive(Clone, Copy)]
 pub struct Line {
     // The first fault's number, or 0.
     pub fault: u8,

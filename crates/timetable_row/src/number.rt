@@ -3,7 +3,7 @@
 ghost use Rattle.std.specs.Prelude.{◌≡◌, ◌+◌, ◌*◌, drop};
 ghost use Rattle.timetable_row.specs.Digits.{held, digits_from, first_from, taken_from, is_empty, value_of};
 
-#[derive(Drop)]
+#[derive(Clone, Copy)]
 pub enum Number {
     Empty,
     Zero,
@@ -11,7 +11,7 @@ pub enum Number {
 }
 
 // A number so far, and the place after its digits.
-#[derive(Drop)]
+#[derive(Clone, Copy)]
 pub struct Taken {
     pub number: Number,
     pub next: usize,

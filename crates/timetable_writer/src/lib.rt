@@ -1,4 +1,6 @@
 // The header and the rows of a timetable, written out of the draft's tables. `merge_text` puts the chosen nominal into each row.
+#![tactic(auto)]
+
 ghost use Rattle.std.specs.Prelude.{◌++◌, ◌∷◌, []};
 ghost use Rattle.rules.specs.Bytes.{spelled};
 ghost use Rattle.rules.specs.Timetable.{timetable_header};

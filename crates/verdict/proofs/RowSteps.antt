@@ -5,7 +5,7 @@ use mathlib.Core.Path.{◌≡◌, sym, ap, ap₂, ◌∙◌}
 use mathlib.Core.Bool.{Bool, true, false, not, cond, ◌||◌}
 use mathlib.Core.List.{List}
 use lib.ListN.{drop}
-use borrow.Author.Tests.{not_true, not-false}
+use borrow.Author.Tests.{not-true, not-false}
 use Rattle.rules.specs.Tally.{counted}
 use Rattle.rules.specs.Energy.{tabulate}
 use Rattle.rules.specs.Kinds.{not_offered}
@@ -86,4 +86,4 @@ module _ (n : ℕ) (legs configurations choices : List ℕ) where
       pub row-fails : not b ≡ true → (file : ℕ) (r : Answer) → r ≡ answer_of file (violated (row_test i false))
           → record { answer = r; tally = u } ≡ ruling file v
       row-fails e file r er =
-          ap₂ (λ (x : Answer) (y : Tally). record { answer = x; tally = y }) er eu ∙ sym (ap (ruling file) (next_row ∙ ap after (not_true b e)))
+          ap₂ (λ (x : Answer) (y : Tally). record { answer = x; tally = y }) er eu ∙ sym (ap (ruling file) (next_row ∙ ap after (not-true b e)))

@@ -1,4 +1,6 @@
 // The verdict over the tables: first each row in order, then the constraint table in order, up to the first inequality that fails; and how many tests that took, of each kind. `solution_verdict` asks it about a solution that was read.
+#![tactic(auto)]
+
 ghost use Rattle.std.specs.Prelude.{◌≡◌};
 ghost use Rattle.rules.specs.Verdict.{verdict, ruling};
 ghost use Rattle.tables_views.specs.View.{offers_in, constraints_in, configurations_in};

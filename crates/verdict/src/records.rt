@@ -13,7 +13,7 @@ use rules::kinds::{Anchor, Key, Kind, Time};
 use rules::sizes::{Configuration, Constraint};
 
 // The inequalities of a record that were tested: all of them hold, or the last fails, with its shortfall.
-#[derive(Drop)]
+#[derive(Clone, Copy)]
 pub enum Finding {
     Kept(u8),
     Fails(u8, u64),

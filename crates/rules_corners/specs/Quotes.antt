@@ -3,8 +3,6 @@ use Rattle.std.specs.Prelude.{ℕ, ◌≡◌, refl, List, [], ◌∷◌, ◌++�
 use Prim.Native.String.{String}
 use Rattle.rules.specs.Answers.{bad_header, bad_row, out_of_range, already_seen, nominal_not_listed, differs, timetable_file, profiles_file, solution_file}
 use Rattle.rules.specs.Bytes.{bytes}
-use Rattle.rules.specs.Timetable.{timetable_header}
-use Rattle.rules.specs.Profiles.{profiles_header}
 use Rattle.rules.specs.Verdict.{All}
 use Rattle.rules.specs.Computed.{computed}
 use Rattle.rules.specs.Examples.{draft, profiles, rows, curves, dwell20, quoted_header, quoted_draft, quoted_profiles}

@@ -1,7 +1,7 @@
 -- A file that reads in one edition and its twin in another read as the same document, and so the files with them, and all that the entries answer and leave. Assumes nothing.
 use Prim.Native.Nat.{ℕ, suc, ◌≤◌}
-use mathlib.Core.Path.{◌≡◌, refl, sym, ap, ◌∙◌}
-use mathlib.Core.List.{List, [], ◌∷◌, ◌++◌}
+use mathlib.Core.Path.{◌≡◌, refl, ap}
+use mathlib.Core.List.{List, [], ◌∷◌}
 use native.Mathlib.Omega.{arith}
 use lib.ListN.{length}
 use lib.IntN.{ℤ}
@@ -13,9 +13,9 @@ use Rattle.rules.specs.Entries.{Tables, rooms_of, all_read, checked, reported, b
 use Rattle.rules.specs.declared.stated.Stated.{Stated}
 use Rattle.rules.specs.declared.sizes.Configuration.{Configuration}
 use Rattle.rules_theorems.proofs.GoodFiles.{files_good, good_files}
-use Rattle.rules_json.specs.Value.{Member, number, type, track_list, Listed, Value}
+use Rattle.rules_json.specs.Value.{number, type, track_list, Value}
 use Rattle.rules_json.specs.Twins.{relaid, Twin, TwinTexts}
-use Rattle.rules_json.specs.Written.{Piece, bytes_of, Writes, close_brace, close_bracket, more, items, track_pieces, said_pieces, member_pieces, record_pieces, list_pieces, pieces, Laid, done, white, next, Writing}
+use Rattle.rules_json.specs.Written.{Piece, Writes, close_brace, close_bracket, more, items, track_pieces, said_pieces, member_pieces, record_pieces, list_pieces, pieces, Laid, done, white, next}
 use Rattle.rules_json.proofs.Completeness.{complete}
 use Rattle.rules_json.proofs.Soundness.{sound}
 

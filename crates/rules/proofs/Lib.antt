@@ -8,3 +8,7 @@ pub mod Numbers
 pub mod TokenLaws
 pub mod KindRule
 pub mod StatedLaws
+-- The worked examples, computed
+pub mod Examples
+pub mod DutyExamples
+pub mod EarliestExamples

@@ -6,7 +6,6 @@ use Rattle.rules.specs.declared.answers.Answer.{Answer}
 use Rattle.rules.specs.declared.answers.Answer.TheVariants.{Accepted, Violated, Refused}
 use Rattle.rules.specs.declared.answers.BrokenRule.{BrokenRule}
 use Rattle.rules.specs.declared.answers.Told.{Told}
-use Rattle.rules.specs.declared.answers.Told.TheVariants as Told
 
 -- 1: H out of range
 abbrev pub bad_horizon : ℕ

@@ -5,7 +5,7 @@ use Rattle.std.proofs.Math.Option
 use Rattle.std.proofs.Math.Option.{Option, none, some}
 use Rattle.std.specs.Int.Bits.{bit_and, bit_or}
 use Rattle.rules.specs.Limits.{most_text, most_id, most_seconds, most_constraints, most_subnets, most_tracks}
-use Rattle.rules.specs.Lists.{any, only, first, first_place, is_some}
+use Rattle.rules.specs.Lists.{any, only, first_place, is_some}
 use Rattle.rules.specs.Answers.{refusal, too_long, out_of_range, too_many, already_seen, bad_json, unknown_name, repeated_or_missing, not_there, no_subnet, no_room, constraints_file, Reading, refused, good, Test, ◌needs◌}
 use Rattle.rules.specs.Bytes.{whole_of}
 use Rattle.rules.specs.Timetable.{Row}

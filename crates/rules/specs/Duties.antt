@@ -8,7 +8,6 @@ use Rattle.rules.specs.Answers.{Judged, wrong, judge, Test, ◌needs◌, Reading
 use Rattle.rules.specs.Bytes.{bytes, whole_of, split_on, start_of, contents_of, digit_zero, comma, quote}
 use Rattle.rules.specs.Rows.{header_of, csv_of, RowFault, or_else, place_of_row}
 use Rattle.rules.specs.Entries.{filled}
-use Rattle.rules.specs.declared.answers.Refusal.{Refusal}
 use Rattle.rules.specs.declared.answers.Told.{Told}
 use Rattle.rules.specs.declared.answers.Told.TheVariants.{Accepted, Broken, Refused}
 

@@ -1,6 +1,6 @@
 -- The examples of document 01 ("Examples to hold the definitions to"). The marked ones stand in one table with one statement, from texts to answers, and the checker
--- computes them; then come the unmarked ones, and one for each error that document 01 says tempts.
-use Rattle.std.specs.Prelude.{ℕ, ◌-◌, ◌*◌, ◌^◌, ◌≡◌, refl, Bool, true, false, List, [], ◌∷◌, ◌++◌, replicate, length, ℤ, pos}
+-- computes them in ../proofs/Examples.antt; then come the unmarked ones, and one for each error that document 01 says tempts.
+use Rattle.std.specs.Prelude.{ℕ, ◌-◌, ◌*◌, ◌^◌, ◌≡◌, Bool, true, false, List, [], ◌∷◌, ◌++◌, replicate, length, ℤ, pos}
 use Prim.Native.String.{String}
 use Rattle.rules.specs.Limits.{constraint_width}
 use Rattle.rules.specs.Answers.{refusal, violation, bad_horizon, bad_header, bad_row, out_of_range, unknown_name, no_subnet, no_room, unknown_edition, no_file, timetable_file, profiles_file, constraints_file, solution_file}
@@ -10,11 +10,8 @@ use Rattle.rules.specs.Profiles.{profiles_header}
 use Rattle.rules.specs.Kinds.{not_offered, headway, dwell, turnaround, connection, table_edition, example_edition}
 use Rattle.rules.specs.Stated.{stated}
 use Rattle.rules.specs.Reading.{Texts}
-use Rattle.rules.specs.Verdict.{All}
 use Rattle.rules.specs.Merge.{earlier, later}
 use Rattle.rules.specs.Entries.{Tables, checked, reported, merged}
-use Rattle.rules.specs.Display.{row_at}
-use Rattle.rules.specs.Computed.{computed}
 use Rattle.rules.specs.declared.stated.Stated.{Stated}
 use Rattle.rules.specs.declared.sizes.Configuration.{Configuration}
 use Rattle.rules.specs.declared.figures.Peaks.{Peaks}
@@ -192,11 +189,6 @@ marked =
     ∷ ranges (configuration 0 3_601 7) false
     ∷ []
 
--- THE STATEMENT: every marked example holds
-marked_hold : All Right marked
-unfolding computed
-marked_hold = (refl, (refl, (refl, (refl, (refl, (refl, ((refl, refl), ((refl, refl), (refl, (refl, (refl, (refl, (refl, (refl, tt))))))))))))))
-
 -- ---- the unmarked ones, and what tempts
 
 abbrev pub dwell_twice : String
@@ -252,10 +244,6 @@ unmarked =
     ∷ answers draft profiles (listed headway3 dwell_twice by_arrivals one_subnet) draft (Refused (refusal no_room constraints_file 351))
     ∷ []
 
-unmarked_hold : All Right unmarked
-unfolding computed
-unmarked_hold = (refl, (refl, (refl, (refl, (refl, (refl, (refl, (refl, (refl, (refl, tt))))))))))
-
 -- ---- quoted fields and CR LF (document 02, E1)
 
 -- the draft as a spreadsheet writes it: every field in quotes, every line ended by CR LF
@@ -296,17 +284,6 @@ quotes =
     ∷ answers draft (bytes "\"profile_id,power_consumptions\"\n7,0.5 1.0 0.25 -0.4\n") dwell20 draft (Refused (refusal bad_header profiles_file 0))
     ∷ answers draft (bytes "\"profile\"_id,power_consumptions\n") dwell20 draft (Refused (refusal bad_header profiles_file 0))
     ∷ []
-
-quotes_hold : All Right quotes
-unfolding computed
-quotes_hold = (refl, (refl, (refl, (refl, (refl, (refl, (refl, (refl, (refl, (refl, (refl, (refl, (refl, tt)))))))))))))
-
--- for display a row keeps its quotes, and loses one CR before its LF; a row without LF keeps all
-shown : (row_at (bytes "h\r\n\"a\"\r\nb\r\r\nc\r") [] timetable_file 3 ≡ bytes "\"a\"")
-    × (row_at (bytes "h\r\n\"a\"\r\nb\r\r\nc\r") [] timetable_file 8 ≡ bytes "b\r")
-    × (row_at (bytes "h\r\n\"a\"\r\nb\r\r\nc\r") [] timetable_file 12 ≡ bytes "c\r")
-unfolding computed
-shown = (refl, refl, refl)
 
 -- ---- two editions (document 02, E4)
 
@@ -350,10 +327,6 @@ editions =
     ∷ states (stated 100 (2 ^ 32 - 1)) [] [] (Refused (refusal unknown_edition no_file 0))
     ∷ states (stated 0 3) [] [] (Refused (refusal bad_horizon no_file 0))
     ∷ []
-
-editions_hold : All Right editions
-unfolding computed
-editions_hold = (refl, (refl, (refl, (refl, (refl, (refl, (refl, (refl, (refl, (refl, (refl, (refl, (refl, (refl, tt))))))))))))))
 
 -- ---- how much was tested (document 02, E6)
 
@@ -400,7 +373,3 @@ countings =
     ∷ merge_counts dwell22 draft solution15 (2 ∷ 0 ∷ 0 ∷ 1 ∷ 0 ∷ 0 ∷ []) 3
     ∷ merge_counts dwell20 solution15 solution45 (0 ∷ 0 ∷ 0 ∷ 0 ∷ 0 ∷ 0 ∷ []) 0
     ∷ []
-
-countings_hold : All Right countings
-unfolding computed
-countings_hold = (refl, (refl, (refl, (refl, (refl, (refl, (refl, (refl, (refl, (refl, (refl, (refl, (refl, (refl, (refl, (refl, (refl, (refl, tt))))))))))))))))))

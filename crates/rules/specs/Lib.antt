@@ -19,11 +19,9 @@ pub mod Earliest
 pub mod Display
 pub mod Entries
 pub mod Duties
--- The worked examples, computed.
+-- The worked examples: what ../proofs computes.
 pub mod Computed
 pub mod Examples
-pub mod DutyExamples
-pub mod EarliestExamples
 -- What the code's constructors answer, and the numbers that its constants are.
 pub mod Made
 pub mod Ties

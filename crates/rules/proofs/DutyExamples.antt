@@ -1,6 +1,5 @@
 -- Rolling stock duties, worked: rows of document 004's Table 8, each rule broken, and the refusals beside them. The checker computes them.
-use Rattle.std.specs.Prelude.{ℕ, ◌≡◌, refl, List, [], ◌∷◌, ◌++◌, replicate, length, ℤ, pos, negsuc}
-use Prim.Native.String.{String}
+use Rattle.std.specs.Prelude.{ℕ, ◌≡◌, refl, List, [], ◌∷◌, ◌++◌, replicate, length, pos, negsuc}
 use Rattle.rules.specs.Limits.{unsigned_fill, signed_fill}
 use Rattle.rules.specs.Answers.{refusal, broken_rule, bad_header, bad_row, out_of_range, unknown_name, no_room, duties_file}
 use Rattle.rules.specs.Bytes.{bytes}

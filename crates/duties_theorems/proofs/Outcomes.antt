@@ -1,7 +1,7 @@
 -- Any outcomes of `check_duties`: the answer is the input's alone; accepted means that every row keeps every rule, and then the balances add up to zero; all else fills both tables. Assumes nothing.
 use Prim.Native.Nat.{ℕ, ◌/◌, min}
 use mathlib.Core.Path.{◌≡◌, refl, sym, ap, ap₂, ◌∙◌}
-use mathlib.Core.List.{List, [], ◌∷◌, ◌++◌, map}
+use mathlib.Core.List.{List, [], ◌∷◌, map}
 use mathlib.Core.Logic.{◌↔◌}
 use mathlib.Core.Option.{Option, none, some}
 use native.Mathlib.Omega.{arith}

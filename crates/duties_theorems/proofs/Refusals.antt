@@ -15,7 +15,7 @@ use Rattle.rules.specs.Bytes.{line_feed, split_on, less_return}
 use Rattle.rules.specs.Rows.{RowFault, heads, on_row, rows_from, headed, csv_of}
 use Rattle.rules.specs.Duties.{duties_names, Event, form_of, is_known, with_nodes, nodes_of, judge_form, row_of, events_of, broken, node_room, duties_judged, duties_from, duties_checked}
 use Rattle.rules.specs.declared.answers.Refusal.{Refusal}
-use Rattle.rules.specs.declared.answers.Told.TheVariants.{Accepted, Broken, Refused}
+use Rattle.rules.specs.declared.answers.Told.TheVariants.{Refused}
 use Rattle.duties_theorems.specs.Refusals.{numbers, OfDuties}
 use Rattle.duties_theorems.specs.Outcomes.{Outcome}
 

@@ -13,7 +13,7 @@ use Rattle.rules.specs.Answers.{refusal, no_solution, no_room, no_file, solution
 use Rattle.rules.specs.Timetable.{Row}
 use Rattle.rules.specs.Constraints.{ordered}
 use Rattle.rules.specs.Reading.{Texts, Files, files_of}
-use Rattle.rules.specs.Verdict.{offered, accepted, answer_of}
+use Rattle.rules.specs.Verdict.{offered, answer_of}
 use Rattle.rules.specs.Merge.{chosen, text_of}
 use Rattle.rules.specs.Earliest.{earliest}
 use Rattle.rules.specs.Entries.{Tables, rooms_of, verdict_of, Proposed, propose_fitted, proposed, all_read, checked}

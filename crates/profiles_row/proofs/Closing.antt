@@ -24,14 +24,14 @@ use Rattle.profiles_row.specs.declared.row.Past.{Past}
 use Rattle.profiles_row.specs.declared.row.Listed.{Listed}
 use Rattle.profiles_row.specs.declared.sample.Tail.{Tail}
 use Rattle.profiles_row.specs.Near.{cap}
-use Rattle.profiles_row.specs.Sample.{most_digits, kw_aMw, kw_aTenth, kw_of}
+use Rattle.profiles_row.specs.Sample.{most_digits, kw_a_mw, kw_a_tenth, kw_of}
 use Rattle.profiles_row.specs.Row.{in_range, Digits, Closes, ClosesTo}
 use Rattle.rules.proofs.Lists.{every_more, over-more}
 use Rattle.profiles_row.proofs.Tables.{samples_length}
 
 -- ---- kW
 
-pub scaled_one : (digits value : ℕ) → digits ≡ 1 → 1 ≤ digits → digits ≤ most_digits → value * kw_aTenth ≡ value * 10 ^ (most_digits - digits)
+pub scaled_one : (digits value : ℕ) → digits ≡ 1 → 1 ≤ digits → digits ≤ most_digits → value * kw_a_tenth ≡ value * 10 ^ (most_digits - digits)
 scaled_one digits value e a b = rw e
 
 pub scaled_two : (digits value : ℕ) → digits ≡ 2 → 1 ≤ digits → digits ≤ most_digits → value * 10 ≡ value * 10 ^ (most_digits - digits)
@@ -41,10 +41,10 @@ pub scaled_three : (digits value : ℕ) → (digits ≡ 1 → ⊥) → (digits �
 scaled_three digits value x y a b = let q : digits ≡ 3 = omega arith in rw q (omega arith)
 
 module _ (whole digits value thousandths : ℕ) (e : 1 ≤ digits → digits ≤ most_digits → thousandths ≡ value * 10 ^ (most_digits - digits)) where
-  pub kw_above : most_kw < whole * kw_aMw + thousandths → 1 ≤ digits → digits ≤ most_digits → suc most_kw ≡ min (kw_of whole digits value) (suc most_kw)
+  pub kw_above : most_kw < whole * kw_a_mw + thousandths → 1 ≤ digits → digits ≤ most_digits → suc most_kw ≡ min (kw_of whole digits value) (suc most_kw)
   kw_above h a b = rw (← e a b) (omega arith)
 
-  pub kw_within : whole * kw_aMw + thousandths ≤ most_kw → 1 ≤ digits → digits ≤ most_digits → whole * kw_aMw + thousandths ≡ min (kw_of whole digits value) (suc most_kw)
+  pub kw_within : whole * kw_a_mw + thousandths ≤ most_kw → 1 ≤ digits → digits ≤ most_digits → whole * kw_a_mw + thousandths ≡ min (kw_of whole digits value) (suc most_kw)
   kw_within h a b = rw (← e a b) (omega arith)
 
 -- what is told apart up to the cap is told apart up to the limit

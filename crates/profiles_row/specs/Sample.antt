@@ -11,11 +11,11 @@ abbrev pub most_digits : ℕ
 most_digits = 3
 
 -- a megawatt in kW, and a tenth of one
-abbrev pub kw_aMw : ℕ
-kw_aMw = 1_000
+abbrev pub kw_a_mw : ℕ
+kw_a_mw = 1_000
 
-abbrev pub kw_aTenth : ℕ
-kw_aTenth = 100
+abbrev pub kw_a_tenth : ℕ
+kw_a_tenth = 100
 
 -- the open whole number, after a minus or not; past the point, what stood before it, and the count and the value of the digits since
 pub data Sample : Type 0 where
@@ -48,7 +48,7 @@ sample_step (fraction negative n count value) b = fraction_step negative n count
 
 -- in kW
 abbrev pub kw_of : (whole count value : ℕ) → ℕ
-kw_of n count value = n * kw_aMw + value * 10 ^ (most_digits - count)
+kw_of n count value = n * kw_a_mw + value * 10 ^ (most_digits - count)
 
 abbrev pub sample_end : Sample → Option ℤ
 sample_end (whole negative m) = none

@@ -1,7 +1,7 @@
 // A sample in kW, and its place in the table.
 ghost use Rattle.std.specs.Prelude.{◌≡◌, suc, ◌*◌, ◌^◌, ◌-◌, ◌≤◌, ◌<◌, min, set};
 ghost use Rattle.rules.specs.Limits.{most_text, most_kw};
-ghost use Rattle.profiles_row.specs.Sample.{most_digits, kw_aTenth, kw_of};
+ghost use Rattle.profiles_row.specs.Sample.{most_digits, kw_a_tenth, kw_of};
 ghost use Rattle.profiles_row.specs.Row.{ClosesTo};
 
 use crate::row::{Listed, Past};
@@ -30,7 +30,7 @@ impl Tail {
 
 // The digits past the point as thousandths.
 fn scaled(digits: u32, value: u32) -> u64
-    ensures size { result ≤ value * kw_aTenth }
+    ensures size { result ≤ value * kw_a_tenth }
     ensures value { 1 ≤ digits → digits ≤ most_digits → result ≡ value * 10 ^ (most_digits - digits) }
 {
     if digits == 1 {

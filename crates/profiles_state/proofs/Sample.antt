@@ -16,7 +16,7 @@ use Rattle.rules.specs.Made.{signed}
 use Rattle.csv_machine.specs.Fold.{run}
 use Rattle.csv_machine.specs.Number.{Number, empty, zero, digits, number_step, number_end}
 use Rattle.csv_machine.proofs.Number.{no_step, number_is_whole}
-use Rattle.profiles_row.specs.Sample.{most_digits, kw_aMw, Sample, whole, fraction, fresh, negated, whole_step, sample_step, sample_end, kw_of}
+use Rattle.profiles_row.specs.Sample.{most_digits, kw_a_mw, Sample, whole, fraction, fresh, negated, whole_step, sample_step, sample_end, kw_of}
 use Rattle.profiles_state.proofs.Pieces.{Has, here, later, Pieces, alone, several, pieces_of, then_none}
 
 -- ---- past the point
@@ -27,7 +27,7 @@ thousandths_from count value s =
     cond (leb 1 (count + length s) && (leb (count + length s) most_digits && every is_digit s)) (some (value_from value s * 10 ^ (most_digits - (count + length s)))) none
 
 abbrev in_kw : Bool → ℕ → Option ℕ → Option ℤ
-in_kw negative n o = o >>= (λ k. some (signed negative (n * kw_aMw + k)))
+in_kw negative n o = o >>= (λ k. some (signed negative (n * kw_a_mw + k)))
 
 never : (x y : Bool) → x && (y && false) ≡ false
 never true true = refl
@@ -180,7 +180,7 @@ decimal_signed negative [] = refl
 decimal_signed negative (w ∷ []) = rw (number_is_whole w, then_none)
 decimal_signed negative (w ∷ f ∷ []) = rw (number_is_whole w) (go (whole_of w) (thousandths_of f))
   where
-    go : (x y : Option ℕ) → x >>= (λ n. in_kw negative n y) ≡ map (signed negative) (x >>= (λ n. y >>= (λ k. some (n * kw_aMw + k))))
+    go : (x y : Option ℕ) → x >>= (λ n. in_kw negative n y) ≡ map (signed negative) (x >>= (λ n. y >>= (λ k. some (n * kw_a_mw + k))))
     go none y = refl
     go (some n) none = refl
     go (some n) (some k) = refl

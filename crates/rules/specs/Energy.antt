@@ -4,7 +4,7 @@ use Rattle.std.proofs.Math.Option.{Option, none, some}
 use Rattle.std.specs.Int.Signed.{le_z}
 use Rattle.std.specs.Float.{binary64}
 use Rattle.std.specs.Float.Ieee.{round}
-use Rattle.rules.specs.Limits.{quarter_seconds, most_quarters, kj_aMwh, kj_aMw}
+use Rattle.rules.specs.Limits.{quarter_seconds, most_quarters, kj_a_mwh, kj_a_mw}
 use Rattle.rules.specs.Lists.{sum_of}
 use Rattle.rules.specs.Timetable.{Row}
 use Rattle.rules.specs.Profiles.{Curve, curve_of}
@@ -167,8 +167,8 @@ quotient kj by = round binary64 false kj by
 unfoldable pub desk_of : Figures → Desk
 desk_of g =
     record {
-      before = quotient g.before kj_aMwh;
-      drawn = quotient g.drawn kj_aMwh;
-      lost = quotient g.lost kj_aMwh;
-      peak = quotient g.peaks.drawn.kj kj_aMw;
+      before = quotient g.before kj_a_mwh;
+      drawn = quotient g.drawn kj_a_mwh;
+      lost = quotient g.lost kj_a_mwh;
+      peak = quotient g.peaks.drawn.kj kj_a_mw;
     }

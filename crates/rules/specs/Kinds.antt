@@ -219,8 +219,8 @@ no_anchor = 0
 abbrev pub by_d : ℕ
 by_d = 1
 
-abbrev pub by_dT : ℕ
-by_dT = 2
+abbrev pub by_d_t : ℕ
+by_d_t = 2
 
 abbrev pub by_x : ℕ
 by_x = 3
@@ -230,10 +230,10 @@ latest = 4
 
 abbrev pub kind_table : List Kind
 kind_table =
-    kind_row (first_leg + second_leg + min_headway) 2 (by_d ∷ by_d ∷ by_dT ∷ by_dT ∷ [])
-    ∷ kind_row (first_leg + second_leg) 1 (by_dT ∷ by_d ∷ no_anchor ∷ no_anchor ∷ [])
-    ∷ kind_row (first_leg + second_leg + min_dwell) 1 (by_dT ∷ by_d ∷ no_anchor ∷ no_anchor ∷ [])
-    ∷ kind_row (first_leg + second_leg + min_turnaround) 1 (by_dT ∷ by_d ∷ no_anchor ∷ no_anchor ∷ [])
+    kind_row (first_leg + second_leg + min_headway) 2 (by_d ∷ by_d ∷ by_d_t ∷ by_d_t ∷ [])
+    ∷ kind_row (first_leg + second_leg) 1 (by_d_t ∷ by_d ∷ no_anchor ∷ no_anchor ∷ [])
+    ∷ kind_row (first_leg + second_leg + min_dwell) 1 (by_d_t ∷ by_d ∷ no_anchor ∷ no_anchor ∷ [])
+    ∷ kind_row (first_leg + second_leg + min_turnaround) 1 (by_d_t ∷ by_d ∷ no_anchor ∷ no_anchor ∷ [])
     ∷ kind_row (first_leg + second_leg + min_connection + max_connection + connection_type) 2 (by_x ∷ by_d ∷ latest ∷ by_d ∷ [])
     ∷ []
 
@@ -243,7 +243,7 @@ kind_table =
 abbrev pub measured : (anchor type : ℕ) → Configuration → Time
 measured anchor type x =
     cond (eqb anchor by_d) (At (departure x))
-    (cond (eqb anchor by_dT) (At (arrival x)) (cond (eqb anchor by_x) (anchored type x) (cond (eqb anchor latest) (anchored type x) Unknown)))
+    (cond (eqb anchor by_d_t) (At (arrival x)) (cond (eqb anchor by_x) (anchored type x) (cond (eqb anchor latest) (anchored type x) Unknown)))
 
 -- the least seconds, where the kind has further keys than those of its two legs
 abbrev pub with_least : (keys low : ℕ) → ℕ → ℕ

@@ -132,8 +132,8 @@ byte_fill = 0
 abbrev pub most_kj : ℕ
 most_kj = 2_359_296_000_000
 
-abbrev pub kj_aMwh : ℕ
-kj_aMwh = 3_600_000
+abbrev pub kj_a_mwh : ℕ
+kj_a_mwh = 3_600_000
 
-abbrev pub kj_aMw : ℕ
-kj_aMw = 900_000
+abbrev pub kj_a_mw : ℕ
+kj_a_mw = 900_000

@@ -3,7 +3,7 @@ use Rattle.std.specs.Prelude.{ℕ, ◌+◌, ◌-◌, ◌*◌, ◌≡◌, refl, c
 use Prim.Native.String.{String}
 use Rattle.std.specs.Float.{binary64}
 use Rattle.std.specs.Float.Ieee.{to_bits, round}
-use Rattle.rules.specs.Limits.{least_horizon, most_horizon, quarter_seconds, most_quarters, most_kw, most_kj, kj_aMwh, kj_aMw, signed_fill}
+use Rattle.rules.specs.Limits.{least_horizon, most_horizon, quarter_seconds, most_quarters, most_kw, most_kj, kj_a_mwh, kj_a_mw, signed_fill}
 use Rattle.rules.specs.Answers.{bad_horizon, out_of_range, no_room, no_file, timetable_file}
 use Rattle.rules.specs.Bytes.{bytes, spelled}
 use Rattle.rules.specs.Timetable.{timetable_header}
@@ -173,11 +173,11 @@ horizons =
     ∷ tops (since 2) most_quarters 1 2
     ∷ tops steady most_quarters 1 0
     -- doubles: 0; one kJ; the greatest energy is 655,360 MWh; 20 MW for a quarter
-    ∷ desks 0 kj_aMwh 0
-    ∷ desks 1 kj_aMwh 4_508_846_701_240_351_161
-    ∷ desks most_kj kj_aMwh 4_693_876_711_626_899_456
-    ∷ desks 1 kj_aMw 4_517_853_900_495_092_153
-    ∷ desks (quarter_seconds * most_kw) kj_aMw 4_626_322_717_216_342_016
+    ∷ desks 0 kj_a_mwh 0
+    ∷ desks 1 kj_a_mwh 4_508_846_701_240_351_161
+    ∷ desks most_kj kj_a_mwh 4_693_876_711_626_899_456
+    ∷ desks 1 kj_a_mw 4_517_853_900_495_092_153
+    ∷ desks (quarter_seconds * most_kw) kj_a_mw 4_626_322_717_216_342_016
     ∷ []
 
 horizons_hold : All Right horizons

@@ -1,6 +1,6 @@
 -- Energies with three decimals, rounded down.
 use Rattle.std.specs.Prelude.{ℕ, ◌*◌, ◌/◌, ◌%◌, List, ◌∷◌, ◌++◌}
-use Rattle.rules.specs.Limits.{kj_aMwh, kj_aMw}
+use Rattle.rules.specs.Limits.{kj_a_mwh, kj_a_mw}
 use Rattle.rules.specs.Bytes.{bytes, point, spelled}
 use Rattle.rules.specs.declared.figures.Peak.{Peak}
 use Rattle.say_words.specs.Numbers.{three_digits}
@@ -12,15 +12,15 @@ decimals_of unit n = spelled (n / unit) ++ point ∷ three_digits (n % unit * 1_
 
 -- a unit of which a thousand fit a `u64`
 abbrev pub most_unit : ℕ
-most_unit = kj_aMwh
+most_unit = kj_a_mwh
 
 -- kilojoules in megawatt hours
 abbrev pub mwh_of : (kj : ℕ) → List ℕ
-mwh_of = decimals_of kj_aMwh
+mwh_of = decimals_of kj_a_mwh
 
 -- the kilojoules of a quarter hour as its average megawatts
 abbrev pub mw_of : (kj : ℕ) → List ℕ
-mw_of = decimals_of kj_aMw
+mw_of = decimals_of kj_a_mw
 
 -- a peak quarter within H: its energy, its average power and its time
 unfoldable pub peak_text : (H : ℕ) → (p : Peak) → List ℕ

@@ -7,7 +7,7 @@ use lib.Dec.{eqb}
 use mir.Syntax.{w32, w64}
 use mir.Val.{Fits}
 use borrow.Author.Tests.{eq-eqb, ne_eqb}
-use Rattle.rules.specs.Kinds.{by_arrival, by_departure, departure, arrival, anchored, by_d, by_dT, by_x, latest, measured}
+use Rattle.rules.specs.Kinds.{by_arrival, by_departure, departure, arrival, anchored, by_d, by_d_t, by_x, latest, measured}
 use Rattle.rules.specs.declared.kinds.Time.{Time}
 use Rattle.rules.specs.declared.kinds.Time.TheVariants.{At, Unknown}
 use Rattle.rules.specs.declared.sizes.Configuration.{Configuration}
@@ -35,23 +35,23 @@ module _ (type : ℕ) (c : Configuration) where
     by_d_lem e = rw (eq-eqb anchor by_d e)
 
     module _ (n : anchor ≡ by_d → ⊥) where
-      pub by_dt : anchor ≡ by_dT → At (arrival c) ≡ measured anchor type c
-      by_dt e = rw (ne_eqb anchor by_d n, eq-eqb anchor by_dT e)
+      pub by_dt : anchor ≡ by_d_t → At (arrival c) ≡ measured anchor type c
+      by_dt e = rw (ne_eqb anchor by_d n, eq-eqb anchor by_d_t e)
 
       -- x is what was found of the type
-      module _ (m : anchor ≡ by_dT → ⊥) where
+      module _ (m : anchor ≡ by_d_t → ⊥) where
         pub by_x_lem : anchor ≡ by_x → (x : Time) → x ≡ anchored type c → x ≡ measured anchor type c
-        by_x_lem e x ex = rw (ne_eqb anchor by_d n, ne_eqb anchor by_dT m, eq-eqb anchor by_x e) ex
+        by_x_lem e x ex = rw (ne_eqb anchor by_d n, ne_eqb anchor by_d_t m, eq-eqb anchor by_x e) ex
 
         module _ (o : anchor ≡ by_x → ⊥) where
           pub by_latest_x : anchor ≡ latest → (x : Time) → x ≡ anchored type c → x ≡ measured anchor type c
-          by_latest_x e x ex = rw (ne_eqb anchor by_d n, ne_eqb anchor by_dT m, ne_eqb anchor by_x o, eq-eqb anchor latest e) ex
+          by_latest_x e x ex = rw (ne_eqb anchor by_d n, ne_eqb anchor by_d_t m, ne_eqb anchor by_x o, eq-eqb anchor latest e) ex
 
           pub by_none : (anchor ≡ latest → ⊥) → Unknown ≡ measured anchor type c
-          by_none p = rw (ne_eqb anchor by_d n, ne_eqb anchor by_dT m, ne_eqb anchor by_x o, ne_eqb anchor latest p)
+          by_none p = rw (ne_eqb anchor by_d n, ne_eqb anchor by_d_t m, ne_eqb anchor by_x o, ne_eqb anchor latest p)
 
     time_le : (t : ℕ) → measured anchor type c ≡ At t → t ≤ arrival c
-    time_le t = go (eqb anchor by_d) (eqb anchor by_dT) (eqb anchor by_x) (eqb anchor latest)
+    time_le t = go (eqb anchor by_d) (eqb anchor by_d_t) (eqb anchor by_x) (eqb anchor latest)
       where
         go : (d a x l : Bool)
             → cond d (At (departure c)) (cond a (At (arrival c)) (cond x (anchored type c) (cond l (anchored type c) Unknown))) ≡ At t → t ≤ arrival c

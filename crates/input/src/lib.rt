@@ -1,7 +1,9 @@
-// A descriptor, read into a lent room until the room is full or there is no more. A read may give less than was asked: 0 is the end, -1 a read that failed. The small program reads its files by it.
+// A reader, read into a lent room until the room is full or there is no more. A read may give less than was asked: 0 is the end, an error a read that failed. The small program reads its files by it.
 #![tactic(auto)]
 
-ghost use Rattle.io.specs.Counts.{IsPrefixLen};
+ghost use Rattle.input.specs.Counts.{IsPrefixLen};
+
+use std::io::Read;
 
 #[derive(Clone, Copy)]
 pub enum End {
@@ -20,19 +22,17 @@ pub struct Taken {
     pub length: usize,
 }
 
-pub fn read_all(fd: i32, room: &mut [u8]) -> Taken
+pub fn read_all(reader: &mut impl Read, room: &mut [u8]) -> Taken
     ensures { IsPrefixLen result.length room.new }
 {
     let mut done = 0;
     while done < room.len() {
-        let got = libc::read(fd, &mut room[done..]);
-        if got < 0 {
+        let Ok(more) = reader.read(&mut room[done..]) else {
             return Taken {
                 end: End::Broken,
                 length: done,
             };
-        }
-        let more = io::count(got, &room[done..]);
+        };
         if more == 0 {
             return Taken {
                 end: End::Ended,

@@ -14,7 +14,7 @@ use borrow.Author.Tests.{le-leb, eq-eqb, ne_eqb}
 use Rattle.rules.specs.Limits.{most_text}
 use Rattle.rules.specs.Lists.{◌>>=◌, is_some}
 use Rattle.rules.specs.Answers.{refusal, bad_header, bad_row, Reading, refused, Judged, wrong, right}
-use Rattle.rules.specs.Bytes.{line_feed, split_on, less_return}
+use Rattle.rules.specs.Bytes.{line_feed, less_return}
 use Rattle.rules.specs.Rows.{heads, on_row, last_line, rows_from, headed, csv_of}
 use Rattle.rules.proofs.Truth.{by_case}
 use Rattle.csv_machine.specs.Fold.{fold, run}

@@ -6,7 +6,7 @@ use mathlib.Core.List.{List, [], ◌∷◌}
 use mathlib.Core.Option.{Option, none, some}
 use native.Mathlib.Omega.{arith}
 use lib.Dec.{eqb}
-use borrow.Author.Tests.{eqb-true, eq-eqb, ne_eqb}
+use borrow.Author.Tests.{eqb-true, ne_eqb}
 use Rattle.rules.specs.Lists.{◌>>=◌, is_some, every, same_list, same_lists}
 use Rattle.rules.specs.Bytes.{carriage_return, comma, split_on, joined, less_return, contents_of}
 use Rattle.rules.specs.Rows.{are_names, heads}

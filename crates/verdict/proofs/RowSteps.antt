@@ -2,10 +2,9 @@
 use Prim.Native.Nat.{ℕ, suc, ◌+◌, ◌≤◌, ◌<◌}
 use native.Mathlib.Numerals.{add-one}
 use mathlib.Core.Path.{◌≡◌, sym, ap, ap₂, ◌∙◌}
-use mathlib.Core.Bool.{Bool, true, false, not, cond, ◌||◌}
+use mathlib.Core.Bool.{Bool, true, false, cond, ◌||◌}
 use mathlib.Core.List.{List}
 use lib.ListN.{drop}
-use borrow.Author.Tests.{not-true, not-false}
 use Rattle.rules.specs.Tally.{counted}
 use Rattle.rules.specs.Energy.{tabulate}
 use Rattle.rules.specs.Kinds.{not_offered}
@@ -79,11 +78,11 @@ module _ (n : ℕ) (legs configurations choices : List ℕ) where
           ∙ ap₂ (λ os cs. verdict_from t (row_tests i os cs)) (tabulate_from n (list_in legs configurations) i h) (tabulate_from n (configuration_at choices) i h)
           ∙ ap after (sym eb)
 
-      pub row_passes : not b ≡ false → v ≡ rows_left u (i + 1)
-      row_passes e = next_row ∙ ap after (not-false b e) ∙ ap₂ rows_left (sym eu) (sym (add-one i))
+      pub row_passes : b ≡ true → v ≡ rows_left u (i + 1)
+      row_passes e = next_row ∙ ap after e ∙ ap₂ rows_left (sym eu) (sym (add-one i))
 
       -- r is the violation that was made of it
-      pub row-fails : not b ≡ true → (file : ℕ) (r : Answer) → r ≡ answer_of file (violated (row_test i false))
+      pub row-fails : b ≡ false → (file : ℕ) (r : Answer) → r ≡ answer_of file (violated (row_test i false))
           → record { answer = r; tally = u } ≡ ruling file v
       row-fails e file r er =
-          ap₂ (λ (x : Answer) (y : Tally). record { answer = x; tally = y }) er eu ∙ sym (ap (ruling file) (next_row ∙ ap after (not-true b e)))
+          ap₂ (λ (x : Answer) (y : Tally). record { answer = x; tally = y }) er eu ∙ sym (ap (ruling file) (next_row ∙ ap after e))

@@ -72,10 +72,6 @@ spelling_more {n} {digits} {k} {left} s h =
       is = rw (e, laid) (sym (spelled_fewer s.fuel left (drop (suc k) digits) s.enough h) ∙ s.is);
     }
 
--- a digit laid leaves the places as many as they were
-pub laid_wide : {n : ℕ} {digits : List ℕ} {k left : ℕ} → Spelling n digits k left → (b : ℕ) → most_digits ≤ length (set digits k b)
-laid_wide {n} {digits} {k} {left} s b = omega (arith, length-set digits k b, s.wide)
-
 -- the first digit in front of them: from its place on, the digits are the number
 spelling_all : {n : ℕ} {digits : List ℕ} {k left : ℕ} → Spelling n digits k left → left < 10
     → take (most_digits - k) (drop k (set digits k (digit_zero + left))) ≡ spelled n

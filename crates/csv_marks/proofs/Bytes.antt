@@ -9,7 +9,7 @@ use Rattle.rules.specs.Bytes.{line_feed, carriage_return, quote, comma}
 use Rattle.csv_marks.specs.declared.Mark.{Mark}
 use Rattle.csv_marks.specs.declared.Mark.TheVariants.{Bare, Within, Behind, Returned}
 use Rattle.csv_marks.specs.declared.Act.{Act}
-use Rattle.csv_marks.specs.declared.Act.TheVariants.{To, Content, Broken}
+use Rattle.csv_marks.specs.declared.Act.TheVariants.{To, Content}
 use Rattle.csv_marks.specs.Turns.{plain_under, on_quote, on_return, on_end, on_comma, on_other, turned}
 use Rattle.csv_marks.proofs.Follow.{never_plain}
 

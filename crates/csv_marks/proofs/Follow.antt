@@ -1,12 +1,12 @@
 -- What a byte does under a mark is what the machine of quotes and CR does, whatever the contents. Assumes nothing.
 use Prim.Native.Nat.{ℕ}
 use mathlib.Core.Path.{◌≡◌, refl, ap, sym, subst, ◌∙◌}
-use mathlib.Core.Bool.{Bool, true, false, not, cond, true≢false, false≢true}
+use mathlib.Core.Bool.{Bool, true, false, cond, true≢false, false≢true}
 use mathlib.Core.Option.{Option, none, some}
 use lib.Dec.{eqb}
 use borrow.Author.Tests.{eqb-true}
 use Rattle.rules.specs.Bytes.{line_feed, carriage_return, quote, comma}
-use Rattle.csv_machine.specs.Marks.{bare, within, behind, Marked, on, returned, under, mark_step, mark_close}
+use Rattle.csv_machine.specs.Marks.{bare, within, Marked, on, returned, under, mark_step, mark_close}
 use Rattle.csv_marks.specs.declared.Mark.{Mark}
 use Rattle.csv_marks.specs.declared.Mark.TheVariants.{Bare, Within, Behind, Returned}
 use Rattle.csv_marks.specs.declared.Act.{Act}

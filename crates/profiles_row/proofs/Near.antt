@@ -17,27 +17,41 @@ use Rattle.profiles_row.specs.Near.{cap, empty_near, zero_near, digits_near, nex
 module _ (b : ℕ) (l : digit_zero ≤ b) (h : b ≤ digit_nine) where
   first_zero : b ≡ digit_zero → Pushes Empty b (To Zero)
   first_zero z empty empty_near = rw (digit_in b l h, eq-eqb b digit_zero z) (next_near zero_near)
+  first_zero z zero x = elim x [ ]
+  first_zero z (digits _) x = elim x [ ]
 
   first_digit : (b ≡ digit_zero → ⊥) → Pushes Empty b (To (Digits (b - digit_zero)))
   first_digit z empty empty_near = let q : b - digit_zero ≡ min (b - digit_zero) cap = omega arith in rw (digit_in b l h, ne_eqb b digit_zero z) (next_near (digits_near q))
+  first_digit z zero x = elim x [ ]
+  first_digit z (digits _) x = elim x [ ]
 
   needless : Pushes Zero b Broken
   needless zero zero_near = next_broken
+  needless empty x = elim x [ ]
+  needless (digits _) x = elim x [ ]
 
   next_digit : (v w : ℕ) → w ≡ min (v * 10 + (b - digit_zero)) cap → Pushes (Digits v) b (To (Digits w))
   next_digit v w e (digits n) (digits_near q) =
       let k : w ≡ min (n * 10 + (b - digit_zero)) cap = omega arith in rw (digit_in b l h) (next_near (digits_near k))
+  next_digit v w e empty x = elim x [ ]
+  next_digit v w e zero x = elim x [ ]
 
 -- ---- the end
 
 no_end : Ends Empty Unfit
 no_end empty empty_near = end-broken
+no_end zero x = elim x [ ]
+no_end (digits _) x = elim x [ ]
 
 zero_end : Ends Zero (Value 0)
 zero_end zero zero_near = let q : 0 ≡ min 0 cap = omega arith in end_near q
+zero_end empty x = elim x [ ]
+zero_end (digits _) x = elim x [ ]
 
 digits_end : (v : ℕ) → Ends (Digits v) (Value v)
 digits_end v (digits n) (digits_near q) = end_near q
+digits_end v empty x = elim x [ ]
+digits_end v zero x = elim x [ ]
 
 -- ---- by the code's number
 

@@ -87,6 +87,7 @@ module _ (past : Past) (n : Number) (b : ℕ) where
       where
         go : (o : Option Whole) → NearNext Broken o → o >>= (λ next. some (in_id next)) ≡ none
         go none next_broken = refl
+        go (some _) x = elim x [ ]
 
     pub id_digits_lem : (w : Number) → r ≡ To w → (at : ℕ) → Free at (Id past n) b (Id past w)
     id_digits_lem w e at profiles samples profiles₀ samples₀ reached (in_id_lem {before = before} {m = m} q c s k) =
@@ -97,6 +98,7 @@ module _ (past : Past) (n : Number) (b : ℕ) where
             → Holds profiles₀ samples₀ (suc at) (Id past w) profiles samples
             (taken (length profiles₀ / profile_width) (length samples₀) past.place at before (o >>= (λ next. some (in_id next))))
         go (some m') (next_near k') = in_id_lem {past = past} (omega arith) c s k'
+        go none x = elim x [ ]
 
   -- a byte that is neither a digit nor a comma
   pub id_low : (b ≡ comma → ⊥) → b < digit_zero → (at : ℕ) → Free at (Id past n) b (Stopped bad_row past.place)
@@ -114,6 +116,7 @@ module _ (past : Past) (n : Number) (b : ℕ) where
       where
         go : (o : Option ℕ) → NearEnd Unfit o → o >>= (λ id. some (in_list id [] (whole false empty))) ≡ none
         go none end-broken = refl
+        go (some _) x = elim x [ ]
 
     module _ (v : ℕ) (e : r ≡ Value v) (l : Listed) (f : (l.id ≡ v) × ((l.count ≡ 0) × (l.wide ≡ ltb most_id v))) where
       wide_id : (id : ℕ) → v ≡ min id cap → l.wide ≡ not (leb id most_id && true)
@@ -144,6 +147,7 @@ module _ (past : Past) (n : Number) (b : ℕ) where
                 entered = λ x y. rw append-nil s;
               })
               empty_near
+          go none x = elim x [ ]
 
 -- ---- the whole part of a sample
 
@@ -205,6 +209,7 @@ module _ (past : Past) (l : Listed) (negative : Bool) (n : Number) (b : ℕ) whe
       where
         go : (o : Option Whole) → NearNext Broken o → o >>= (λ next. some (whole negative next)) ≡ none
         go none next_broken = refl
+        go (some _) x = elim x [ ]
 
     pub whole_digits : (w : Number) → r ≡ To w → (at : ℕ) → Free at inside b (InWhole past l negative w)
     whole_digits w e =
@@ -212,6 +217,7 @@ module _ (past : Past) (l : Listed) (negative : Bool) (n : Number) (b : ℕ) whe
       where
         go : (o : Option Whole) → NearNext (To w) o → Lands past l (InWhole past l negative w) (o >>= (λ next. some (whole negative next)))
         go (some m) (next_near k) profiles₀ samples₀ at profiles samples before id done c g = in_whole {past = past} {l = l} c g k
+        go none x profiles₀ samples₀ at profiles samples before id done c g = elim x [ ]
 
   pub whole_low : (b ≡ point → ⊥) → (b ≡ minus → ⊥) → b < digit_zero → (at : ℕ) → Free at inside b (Stopped bad_row past.place)
   whole_low p q h = whole_stop (λ m k. rw (digit_below b h, ne_eqb b point p, ne_eqb b minus q))
@@ -228,6 +234,7 @@ module _ (past : Past) (l : Listed) (negative : Bool) (n : Number) where
       where
         go : (o : Option ℕ) → NearEnd Unfit o → o >>= (λ w. some (fraction negative w 0 0)) ≡ none
         go none end-broken = refl
+        go (some _) x = elim x [ ]
 
     abbrev begun : ℕ → Tail
     begun v = record { negative = negative; whole = v; digits = 0; value = 0 }
@@ -239,6 +246,7 @@ module _ (past : Past) (l : Listed) (negative : Bool) (n : Number) where
         go : (o : Option ℕ) → NearEnd (Value v) o → Lands past l (Fraction past l (begun v)) (o >>= (λ w. some (fraction negative w 0 0)))
         go (some w) (end_near q) profiles₀ samples₀ at profiles samples before id done c g =
             in_fraction {past = past} {l = l} {t = begun v} c g (record { same_whole = q; counted = refl; same_value = refl; few = omega arith })
+        go none x profiles₀ samples₀ at profiles samples before id done c g = elim x [ ]
 
   -- a second minus, or one after a digit
   pub minus_again : negative ≡ true → (at : ℕ) → Free at (InWhole past l negative n) minus (Stopped bad_row past.place)
@@ -252,12 +260,16 @@ module _ (past : Past) (l : Listed) (negative : Bool) (n : Number) where
     where
       go : (m : Whole) → Near Zero m → negated false m ≡ none
       go zero zero_near = refl
+      go empty x = elim x [ ]
+      go (digits _) x = elim x [ ]
 
   pub minus_digits : (v : ℕ) → negative ≡ false → n ≡ Digits v → (at : ℕ) → Free at (InWhole past l negative n) minus (Stopped bad_row past.place)
   minus_digits v e q = minus_late (rw (e, q) go)
     where
       go : (m : Whole) → Near (Digits v) m → negated false m ≡ none
       go (digits w) (digits_near k) = refl
+      go empty x = elim x [ ]
+      go zero x = elim x [ ]
 
   pub minus-first : negative ≡ false → n ≡ Empty → (at : ℕ) → Free at (InWhole past l negative n) minus (InWhole past l true Empty)
   minus-first e q =
@@ -265,6 +277,8 @@ module _ (past : Past) (l : Listed) (negative : Bool) (n : Number) where
     where
       go : (m : Whole) → Near Empty m → Lands past l (InWhole past l true Empty) (negated false m)
       go empty empty_near profiles₀ samples₀ at profiles samples before id done c g = in_whole {past = past} {l = l} c g empty_near
+      go zero x profiles₀ samples₀ at profiles samples before id done c g = elim x [ ]
+      go (digits _) x profiles₀ samples₀ at profiles samples before id done c g = elim x [ ]
 
 pub ruleset ways =
     (id_broken, id_digits_lem, id_low, id_high, id_unfit, id_whole, whole_broken, whole_digits, whole_low, whole_high, point_unfit, point_value, minus_again, minus_zero, minus_digits, minus-first, same_byte)

@@ -2,15 +2,16 @@
 use crate::say;
 use rules::figures::{Figures, Peak};
 
-fn peak(name: &[u8], h: u32, p: Peak) {
-    say::text(name);
-    say::peak(h, p);
-    say::text(b"\n");
+fn peak(rt: &impl Print, name: &[u8], h: u32, p: Peak) {
+    say::text(rt, name);
+    say::peak(rt, h, p);
+    say::text(rt, b"\n");
 }
 
 // The fluctuation is the greatest less the least, which is never below 0.
-fn totals(g: Figures) {
+fn totals(rt: &impl Print, g: Figures) {
     say::sentence(
+        rt,
         b"before recuperation: %n kJ, %e MWh\n\
           drawn: %n kJ, %e MWh\n\
           lost: %n kJ, %e MWh\n\
@@ -28,9 +29,9 @@ fn totals(g: Figures) {
 }
 
 // H says when a last, shorter quarter ends.
-pub fn tell(h: u32, g: Figures) {
+pub fn tell(rt: &impl Print, h: u32, g: Figures) {
     let peaks = g.peaks;
-    totals(g);
-    peak(b"peak quarter before recuperation: ", h, peaks.before);
-    peak(b"peak quarter drawn: ", h, peaks.drawn);
+    totals(rt, g);
+    peak(rt, b"peak quarter before recuperation: ", h, peaks.before);
+    peak(rt, b"peak quarter drawn: ", h, peaks.drawn);
 }

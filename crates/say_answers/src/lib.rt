@@ -13,6 +13,7 @@ use rules::answers::{Answer, Tally};
 
 // All of an answer but its last lines, by the tables as the checker left them; `row` is the row that a refusal shows.
 pub fn tell(
+    rt: &impl Print,
     answer: Answer,
     row: &[u8],
     legs: &[u32],
@@ -24,24 +25,24 @@ pub fn tell(
 ) {
     match answer {
         Answer::Accepted => {
-            readings::accepted(legs, configurations, profiles, constraints, tracks)
+            readings::accepted(rt, legs, configurations, profiles, constraints, tracks)
         }
-        Answer::Violated(v) => violations::violated(v, legs, constraints, choices),
-        Answer::Refused(r) => refusals::refused(r, row),
+        Answer::Violated(v) => violations::violated(rt, v, legs, constraints, choices),
+        Answer::Refused(r) => refusals::refused(rt, r, row),
     }
 }
 
 // Of a verdict, how much was tested for it; then the last line.
-pub fn close(answer: Answer, tally: Tally) {
+pub fn close(rt: &impl Print, answer: Answer, tally: Tally) {
     match answer {
         Answer::Accepted => {
-            tallies::tell(tally);
-            say::answer(b"accepted")
+            tallies::tell(rt, tally);
+            say::answer(rt, b"accepted")
         }
         Answer::Violated(_) => {
-            tallies::tell(tally);
-            say::answer(b"violated")
+            tallies::tell(rt, tally);
+            say::answer(rt, b"violated")
         }
-        Answer::Refused(_) => say::answer(b"refused"),
+        Answer::Refused(_) => say::answer(rt, b"refused"),
     }
 }

@@ -3,17 +3,21 @@ use crate::say;
 use rules::sizes::{Configuration, Constraint, Leg, Profile, Track};
 
 // An acceptance of nothing must not look like one of something.
-fn nothing_seen(legs: usize, constraints: usize) {
+fn nothing_seen(rt: &impl Print, legs: usize, constraints: usize) {
     if legs == 0 {
-        say::text(b"there are no legs: no choice was looked at\n");
+        say::text(rt, b"there are no legs: no choice was looked at\n");
     }
     if constraints == 0 {
-        say::text(b"there are no constraints: no inequality was looked at\n");
+        say::text(
+            rt,
+            b"there are no constraints: no inequality was looked at\n",
+        );
     }
 }
 
 // The tables as the checker left them.
 pub fn accepted(
+    rt: &impl Print,
     legs: &[u32],
     configurations: &[u32],
     profiles: &[u32],
@@ -24,6 +28,7 @@ pub fn accepted(
     let m = say_counts::entries(constraints, Constraint::WIDTH);
     let curves = say_counts::entries(profiles, Profile::WIDTH);
     say::sentence(
+        rt,
         b"accepted: every choice is offered in the draft, and every inequality holds\n\
           read: legs %c, configurations %c, profiles %c, samples %c, constraints %c, tracks in subnets %c\n",
         &[
@@ -35,5 +40,5 @@ pub fn accepted(
             say_counts::entries(tracks, Track::WIDTH) as u64,
         ],
     );
-    nothing_seen(n, m);
+    nothing_seen(rt, n, m);
 }

@@ -2,21 +2,22 @@
 use crate::say;
 use rules::answers::Refusal;
 
-fn show_row(row: &[u8]) {
+fn show_row(rt: &impl Print, row: &[u8]) {
     if row.len() == 0 {
         return;
     }
-    say::text(b"row: ");
-    say::bytes(row);
-    say::text(b"\n");
+    say::text(rt, b"row: ");
+    say::bytes(rt, row);
+    say::text(rt, b"\n");
 }
 
 // `row`: the row at the refusal's file and place; empty where there is none.
-pub fn refused(r: Refusal, row: &[u8]) {
+pub fn refused(rt: &impl Print, r: Refusal, row: &[u8]) {
     let number = r.number as u64;
     say::sentence(
+        rt,
         b"refused %n: %m\nfile: %f, place: %n\n",
         &[number, number, r.file as u64, r.place as u64],
     );
-    show_row(row);
+    show_row(rt, row);
 }

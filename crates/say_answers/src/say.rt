@@ -1,5 +1,4 @@
 // Standard output: texts, and sentences with what is written of numbers, times and names.
-use libc::STDOUT_FILENO;
 use rules::figures::Peak;
 use say_words::{energies, names, numbers, tallies, times};
 use text_read::pieces;
@@ -40,8 +39,9 @@ impl Letter {
 // A kind, a file, a refusal's number and a byte are below it.
 const BYTES: u64 = 256;
 
-pub fn text(s: &[u8]) {
-    io::write_all(STDOUT_FILENO, s);
+// What cannot be written is let go: the program tells it nowhere.
+pub fn text(rt: &impl Print, s: &[u8]) {
+    let _ = rt.write_all(s);
 }
 
 // A number as the word of a letter, at the front of a line; the place after it. Another letter has no word.
@@ -62,30 +62,30 @@ fn put(line: &mut [u8], letter: u8, n: u64) -> usize {
 }
 
 // The front of a line.
-fn front(line: &[u8], end: usize) {
+fn front(rt: &impl Print, line: &[u8], end: usize) {
     if end <= line.len() {
-        text(&line[0..end]);
+        text(rt, &line[0..end]);
     }
 }
 
 // A number as the word of a letter.
-fn word(letter: u8, n: u64) {
+fn word(rt: &impl Print, letter: u8, n: u64) {
     let mut line = [0u8; LINE];
     let end = put(&mut line, letter, n);
-    front(&line, end);
+    front(rt, &line, end);
 }
 
 // The same, but in words where there are none.
-fn counted(letter: u8, n: u64) {
+fn counted(rt: &impl Print, letter: u8, n: u64) {
     if letter == Letter::COUNT && n == 0 {
-        text(b"none");
+        text(rt, b"none");
         return;
     }
-    word(letter, n);
+    word(rt, letter, n);
 }
 
 // A sentence with a mark and a letter for each number.
-pub fn sentence(s: &[u8], numbers: &[u64]) {
+pub fn sentence(rt: &impl Print, s: &[u8], numbers: &[u64]) {
     let mut start = 0;
     let mut k = 0;
     while k < numbers.len() {
@@ -93,60 +93,60 @@ pub fn sentence(s: &[u8], numbers: &[u64]) {
         if s.len() <= mark {
             return;
         }
-        text(&s[start..mark]);
+        text(rt, &s[start..mark]);
         start = mark + 1;
         if s.len() <= start {
             return;
         }
-        counted(s[start], numbers[k]);
+        counted(rt, s[start], numbers[k]);
         start += 1;
         k += 1;
     }
-    text(&s[start..]);
+    text(rt, &s[start..]);
 }
 
-pub fn peak(h: u32, p: Peak) {
+pub fn peak(rt: &impl Print, h: u32, p: Peak) {
     let mut line = [0u8; LINE];
     let end = energies::put_peak(&mut line, 0, h, p);
-    front(&line, end);
+    front(rt, &line, end);
 }
 
-pub fn formula(kind: u8, inequality: u8) {
+pub fn formula(rt: &impl Print, kind: u8, inequality: u8) {
     let mut line = [0u8; LINE];
     let end = names::put_formula(&mut line, 0, kind, inequality);
-    front(&line, end);
+    front(rt, &line, end);
 }
 
-pub fn tests(kind: u8, count: u32) {
+pub fn tests(rt: &impl Print, kind: u8, count: u32) {
     let mut line = [0u8; LINE];
     let end = tallies::put_count(&mut line, 0, kind, count);
-    front(&line, end);
+    front(rt, &line, end);
 }
 
 // Bytes of a file, or of a word that a person gave.
-pub fn bytes(s: &[u8]) {
+pub fn bytes(rt: &impl Print, s: &[u8]) {
     let mut i = 0;
     while i < s.len() {
-        word(Letter::BYTE, s[i] as u64);
+        word(rt, Letter::BYTE, s[i] as u64);
         i += 1;
     }
 }
 
 // Above every result.
-pub fn label() {
-    text(b"no violation shown is not no violation\n");
+pub fn label(rt: &impl Print) {
+    text(rt, b"no violation shown is not no violation\n");
 }
 
 // The last line of a group, which a script can read.
-pub fn answer(word: &[u8]) {
-    text(b"answer: ");
-    text(word);
-    text(b"\n");
+pub fn answer(rt: &impl Print, word: &[u8]) {
+    text(rt, b"answer: ");
+    text(rt, word);
+    text(rt, b"\n");
 }
 
 // Where nothing was answered, why.
-pub fn no_answer(why: &[u8]) {
-    text(why);
-    text(b"\n");
-    answer(b"none");
+pub fn no_answer(rt: &impl Print, why: &[u8]) {
+    text(rt, why);
+    text(rt, b"\n");
+    answer(rt, b"none");
 }

@@ -1,6 +1,6 @@
 // The groups: what a group's word asks for, its files read, and the entry called.
 ghost use Rattle.std.specs.Prelude.{◌+◌, ◌<◌, ◌^◌};
-ghost use Rattle.io.specs.Counts.{IsPrefixLen};
+ghost use Rattle.input.specs.Counts.{IsPrefixLen};
 ghost use Rattle.small_input.specs.Words.{of_solution, of_two};
 
 use rules::answers::File;
@@ -12,6 +12,7 @@ use small_input::arguments::Given;
 use small_input::files::Loaded;
 use small_input::words::Words;
 use small_input::{arguments, files, rooms};
+use std::rt::{Env, Files};
 
 #[derive(Clone, Copy)]
 pub enum Asked {
@@ -27,17 +28,17 @@ pub enum Entry {
     Unknown,
 }
 
-pub fn entry_at(at: usize) -> Entry {
-    if arguments::is_word(at, b"check") {
+pub fn entry_at(rt: &impl Env, at: usize) -> Entry {
+    if arguments::is_word(rt, at, b"check") {
         return Entry::OfSolution(Asked::Verdict);
     }
-    if arguments::is_word(at, b"energy") {
+    if arguments::is_word(rt, at, b"energy") {
         return Entry::OfSolution(Asked::Energies);
     }
-    if arguments::is_word(at, b"merge-earlier") {
+    if arguments::is_word(rt, at, b"merge-earlier") {
         return Entry::OfTwo(Direction::Earlier);
     }
-    if arguments::is_word(at, b"merge-later") {
+    if arguments::is_word(rt, at, b"merge-later") {
         return Entry::OfTwo(Direction::Later);
     }
     Entry::Unknown
@@ -60,17 +61,23 @@ fn are_whole(t: Loaded, p: Loaded, c: Loaded) -> bool {
 }
 
 // The draft of the group whose word is argument `at`.
-fn read_draft(at: usize, timetable: &mut [u8], profiles: &mut [u8], constraints: &mut [u8]) -> Draft
+fn read_draft(
+    rt: &(impl Files + Env + Print),
+    at: usize,
+    timetable: &mut [u8],
+    profiles: &mut [u8],
+    constraints: &mut [u8],
+) -> Draft
     requires { at + of_solution < 2 ^ 64 }
     ensures prefix_len { IsPrefixLen result.timetable timetable.new }
     ensures prefix_len_2 { IsPrefixLen result.profiles profiles.new }
     ensures prefix_len_3 { IsPrefixLen result.constraints constraints.new }
 {
-    let h = arguments::number(at + Words::HORIZON);
-    let edition = arguments::number(at + Words::EDITION);
-    let t = files::load(at + Words::TIMETABLE, File::TIMETABLE, timetable);
-    let p = files::load(at + Words::PROFILES, File::PROFILES, profiles);
-    let c = files::load(at + Words::CONSTRAINTS, File::CONSTRAINTS, constraints);
+    let h = arguments::number(rt, at + Words::HORIZON);
+    let edition = arguments::number(rt, at + Words::EDITION);
+    let t = files::load(rt, at + Words::TIMETABLE, File::TIMETABLE, timetable);
+    let p = files::load(rt, at + Words::PROFILES, File::PROFILES, profiles);
+    let c = files::load(rt, at + Words::CONSTRAINTS, File::CONSTRAINTS, constraints);
     Draft {
         h,
         edition,
@@ -89,24 +96,25 @@ enum Ready {
 }
 
 // Where H or the edition is no number, or a file was not read whole, there is no answer.
-fn ready_at(h: Given, edition: Given, whole: bool) -> Ready {
+fn ready_at(rt: &impl Print, h: Given, edition: Given, whole: bool) -> Ready {
     let Given::Number(horizon) = h else {
-        say::no_answer(b"H is no whole number");
+        say::no_answer(rt, b"H is no whole number");
         return Ready::No;
     };
     let Given::Number(edition) = edition else {
-        say::no_answer(b"the edition is no whole number");
+        say::no_answer(rt, b"the edition is no whole number");
         return Ready::No;
     };
     if whole {
         return Ready::At(Stated { horizon, edition });
     }
-    say::answer(b"none");
+    say::answer(rt, b"none");
     Ready::No
 }
 
 // The verdict on a solution, or its energies.
 fn show_solution<'a>(
+    rt: &impl Print,
     asked: Asked,
     ready: Ready,
     timetable: &'a [u8],
@@ -118,13 +126,14 @@ fn show_solution<'a>(
         return;
     };
     match asked {
-        Asked::Verdict => checks::judge(stated, timetable, profiles, constraints, solution),
-        Asked::Energies => energies::report(stated, timetable, profiles, constraints, solution),
+        Asked::Verdict => checks::judge(rt, stated, timetable, profiles, constraints, solution),
+        Asked::Energies => energies::report(rt, stated, timetable, profiles, constraints, solution),
     }
 }
 
 // A merge, which goes to the file that argument `out` names.
 fn merge_two<'a>(
+    rt: &(impl Files + Env + Print),
     direction: Direction,
     ready: Ready,
     timetable: &'a [u8],
@@ -136,6 +145,7 @@ fn merge_two<'a>(
 ) {
     if let Ready::At(stated) = ready {
         small_merge::merge(
+            rt,
             direction,
             stated,
             timetable,
@@ -148,31 +158,32 @@ fn merge_two<'a>(
     }
 }
 
-fn solution_ready(d: Draft, s: Loaded) -> Ready {
+fn solution_ready(rt: &impl Print, d: Draft, s: Loaded) -> Ready {
     let h = d.h;
     let edition = d.edition;
-    ready_at(h, edition, d.whole && s.whole)
+    ready_at(rt, h, edition, d.whole && s.whole)
 }
 
-fn two_ready(d: Draft, first: Loaded, second: Loaded) -> Ready {
+fn two_ready(rt: &impl Print, d: Draft, first: Loaded, second: Loaded) -> Ready {
     let h = d.h;
     let edition = d.edition;
-    ready_at(h, edition, d.whole && first.whole && second.whole)
+    ready_at(rt, h, edition, d.whole && first.whole && second.whole)
 }
 
 // The group whose word is argument `at`.
-pub fn answer_solution(at: usize, asked: Asked)
+pub fn answer_solution(rt: &(impl Files + Env + Print), at: usize, asked: Asked)
     requires { at + of_solution < 2 ^ 64 }
 {
     let mut timetable = rooms::text();
     let mut profiles = rooms::text();
     let mut constraints = rooms::text();
     let mut solution = rooms::text();
-    let d = read_draft(at, &mut timetable, &mut profiles, &mut constraints);
-    let s = files::load(at + Words::SOLUTION, File::SOLUTION, &mut solution);
+    let d = read_draft(rt, at, &mut timetable, &mut profiles, &mut constraints);
+    let s = files::load(rt, at + Words::SOLUTION, File::SOLUTION, &mut solution);
     show_solution(
+        rt,
         asked,
-        solution_ready(d, s),
+        solution_ready(rt, d, s),
         &timetable[..d.timetable],
         &profiles[..d.profiles],
         &constraints[..d.constraints],
@@ -181,7 +192,7 @@ pub fn answer_solution(at: usize, asked: Asked)
 }
 
 // The same for the group of a merge.
-pub fn answer_two(at: usize, direction: Direction)
+pub fn answer_two(rt: &(impl Files + Env + Print), at: usize, direction: Direction)
     requires { at + of_two < 2 ^ 64 }
 {
     let out = at + Words::OUT;
@@ -190,16 +201,18 @@ pub fn answer_two(at: usize, direction: Direction)
     let mut constraints = rooms::text();
     let mut first = rooms::text();
     let mut second = rooms::text();
-    let d = read_draft(at, &mut timetable, &mut profiles, &mut constraints);
-    let a = files::load(at + Words::SOLUTION, File::SOLUTION, &mut first);
+    let d = read_draft(rt, at, &mut timetable, &mut profiles, &mut constraints);
+    let a = files::load(rt, at + Words::SOLUTION, File::SOLUTION, &mut first);
     let b = files::load(
+        rt,
         at + Words::SECOND_SOLUTION,
         File::SECOND_SOLUTION,
         &mut second,
     );
     merge_two(
+        rt,
         direction,
-        two_ready(d, a, b),
+        two_ready(rt, d, a, b),
         &timetable[..d.timetable],
         &profiles[..d.profiles],
         &constraints[..d.constraints],

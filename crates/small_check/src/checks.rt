@@ -15,6 +15,7 @@ pub fn refused_row<'a>(answer: Answer, timetable: &'a [u8], solution: &'a [u8]) 
 
 // Every table is lent full of a number that no field can have.
 pub fn judge<'a>(
+    rt: &impl Print,
     stated: Stated,
     timetable: &'a [u8],
     profiles: &[u8],
@@ -45,6 +46,7 @@ pub fn judge<'a>(
     let answer = checked.answer;
     let tally = checked.tally;
     say_answers::tell(
+        rt,
         answer,
         refused_row(answer, timetable, solution),
         &legs,
@@ -54,5 +56,5 @@ pub fn judge<'a>(
         &tracks,
         &choices,
     );
-    say_answers::close(answer, tally);
+    say_answers::close(rt, answer, tally);
 }

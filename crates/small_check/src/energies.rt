@@ -7,14 +7,15 @@ use rules::stated::Stated;
 use small_input::rooms;
 
 // Only an accepted solution has energies.
-fn show_figures(answer: Answer, h: u32, g: Figures) {
+fn show_figures(rt: &impl Print, answer: Answer, h: u32, g: Figures) {
     if let Answer::Accepted = answer {
-        say_answers::energies::tell(h, g);
+        say_answers::energies::tell(rt, h, g);
     }
 }
 
 // Every table but the curves is lent full of a number that no field can have.
 pub fn report<'a>(
+    rt: &impl Print,
     stated: Stated,
     timetable: &'a [u8],
     profiles: &[u8],
@@ -47,6 +48,7 @@ pub fn report<'a>(
     let answer = report.answer;
     let tally = report.tally;
     say_answers::tell(
+        rt,
         answer,
         checks::refused_row(answer, timetable, solution),
         &legs,
@@ -56,6 +58,6 @@ pub fn report<'a>(
         &tracks,
         &choices,
     );
-    show_figures(answer, stated.horizon, report.figures);
-    say_answers::close(answer, tally);
+    show_figures(rt, answer, stated.horizon, report.figures);
+    say_answers::close(rt, answer, tally);
 }

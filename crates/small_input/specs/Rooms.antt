@@ -15,6 +15,13 @@ table_room = 12 * kib
 abbrev pub sample_room : ℕ
 sample_room = 8 * kib
 
+-- a path, and the 0 that ends it
+abbrev pub path_room : ℕ
+path_room = 4 * kib
+
+abbrev pub merged_room : ℕ
+merged_room = 64 * kib
+
 -- H numbers for each subnet, at most
 abbrev pub most_curves : ℕ
 most_curves = most_subnets * most_horizon

@@ -1,5 +1,9 @@
 // The words of a group.
+ghost use Rattle.input.specs.Counts.{IsPrefixLen};
+
 use rules::sizes::Id;
+use std::env::FillError;
+use std::rt::Env;
 use text_read::numbers;
 use text_read::numbers::Whole;
 
@@ -13,15 +17,35 @@ pub enum Given {
     NoNumber,
 }
 
-pub fn is_word(at: usize, name: &[u8]) -> bool {
+// How many arguments there are, the program's own name among them.
+pub fn count(rt: &impl Env) -> usize {
+    for at in 0..usize::MAX {
+        if let Err(FillError::NotPresent) = rt.arg(at, &mut []) {
+            return at;
+        }
+    }
+    usize::MAX
+}
+
+// An argument at the front of a room, and its length: 0 where it is missing or longer than the room.
+pub fn read(rt: &impl Env, at: usize, room: &mut [u8]) -> usize
+    ensures { IsPrefixLen result room.new }
+{
+    match rt.arg(at, room) {
+        Ok(length) => length,
+        Err(_) => 0,
+    }
+}
+
+pub fn is_word(rt: &impl Env, at: usize, name: &[u8]) -> bool {
     let mut word = [0u8; WORD];
-    let length = os::arg(at, &mut word);
+    let length = read(rt, at, &mut word);
     text_read::words::spells(&word[..length], name)
 }
 
-pub fn number(at: usize) -> Given {
+pub fn number(rt: &impl Env, at: usize) -> Given {
     let mut word = [0u8; WORD];
-    let length = os::arg(at, &mut word);
+    let length = read(rt, at, &mut word);
     match numbers::read_whole(&word[..length]) {
         Whole::Number(n) => Given::Number(n),
         Whole::Beyond => Given::Number(Id::MOST + 1),

@@ -1,9 +1,13 @@
 // Files, read whole or not at all, and written.
-ghost use Rattle.io.specs.Counts.{IsPrefixLen};
+ghost use Rattle.input.specs.Counts.{IsPrefixLen};
 
 use crate::rooms::Room;
+use crate::{arguments, rooms};
 use input::{End, Taken};
 use say_answers::say;
+use std::fs::{File, OpenFile, OpenOptions};
+use std::io::Write;
+use std::rt::{Env, Files};
 
 // The bytes at the front of a room, and whether they are the whole file.
 #[derive(Clone, Copy)]
@@ -12,87 +16,100 @@ pub struct Loaded {
     pub length: usize,
 }
 
-// A file that cannot be opened is one that cannot be read.
-fn read_named(path: &[u8], room: &mut [u8]) -> Taken
+// A file that cannot be opened is one that cannot be read; nor is one whose name is no UTF-8, which has no path.
+fn read_named(rt: &impl Files, path: &[u8], room: &mut [u8]) -> Taken
     ensures { IsPrefixLen result.length room.new }
 {
-    let fd = os::open_read(path);
-    if fd < 0 {
-        return Taken {
-            end: End::Broken,
-            length: 0,
-        };
+    let Ok(name) = str::from_utf8(path) else {
+        return nothing_taken();
+    };
+    let Ok(mut file) = File::open(rt, name) else {
+        return nothing_taken();
+    };
+    input::read_all(&mut file, room)
+}
+
+fn nothing_taken() -> Taken
+    ensures { result.length ≡ 0 }
+{
+    Taken {
+        end: End::Broken,
+        length: 0,
     }
-    let taken = input::read_all(fd, room);
-    libc::close(fd);
-    taken
 }
 
-fn say_name(file: u8, path: &[u8]) {
-    say::sentence(b"%f: ", &[file as u64]);
-    say::bytes(path);
+fn say_name(rt: &impl Print, file: u8, path: &[u8]) {
+    say::sentence(rt, b"%f: ", &[file as u64]);
+    say::bytes(rt, path);
 }
 
-fn too_long() {
+fn too_long(rt: &impl Print) {
     say::sentence(
+        rt,
         b" is longer than the %n bytes that this program takes\n",
         &[Room::MOST_TEXT as u64],
     );
 }
 
 // Whether a file can be judged; says what is wrong with one that cannot. A room is one byte greater than a text may be.
-fn is_whole(end: End, file: u8, path: &[u8]) -> bool {
+fn is_whole(rt: &impl Print, end: End, file: u8, path: &[u8]) -> bool {
     match end {
         End::Ended => true,
         End::Broken => {
-            say_name(file, path);
-            say::text(b" could not be read\n");
+            say_name(rt, file, path);
+            say::text(rt, b" could not be read\n");
             false
         }
         End::Full => {
-            say_name(file, path);
-            too_long();
+            say_name(rt, file, path);
+            too_long(rt);
             false
         }
     }
 }
 
 // The file that argument `at` names.
-pub fn load(at: usize, file: u8, room: &mut [u8]) -> Loaded
+pub fn load(rt: &(impl Files + Env + Print), at: usize, file: u8, room: &mut [u8]) -> Loaded
     ensures { IsPrefixLen result.length room.new }
 {
-    let mut path = io::buffer();
-    let length = os::arg(at, &mut path);
-    let taken = read_named(&path[..length], room);
+    let mut path = rooms::path();
+    let length = arguments::read(rt, at, &mut path);
+    let taken = read_named(rt, &path[..length], room);
     let end = taken.end;
     Loaded {
-        whole: is_whole(end, file, &path[..length]),
+        whole: is_whole(rt, end, file, &path[..length]),
         length: taken.length,
     }
 }
 
 // Whether the file is new and has the whole text. One that is there already, as an input may be, is left as it is.
-fn write_named(path: &[u8], text: &[u8]) -> bool {
-    let fd = os::create(path);
-    if fd < 0 {
+fn write_named(rt: &impl Files, path: &[u8], text: &[u8]) -> bool {
+    let Ok(name) = str::from_utf8(path) else {
         return false;
-    }
-    let whole = io::write_all(fd, text);
-    let closed = libc::close(fd);
-    whole && closed == 0
+    };
+    let Ok(mut file) = OpenOptions::new()
+        .write(true)
+        .create_new(true)
+        .open(rt, name)
+    else {
+        return false;
+    };
+    let whole = file.write_all(text).is_ok();
+    let kept = file.sync_all().is_ok();
+    whole && kept
 }
 
 // Writes the file that argument `at` names, says so, and answers whether it has the whole text.
-pub fn store(at: usize, text: &[u8]) -> bool {
-    let mut path = io::buffer();
-    let length = os::arg(at, &mut path);
-    let whole = write_named(&path[..length], text);
-    say::text(b"merged timetable: ");
-    say::bytes(&path[..length]);
+pub fn store(rt: &(impl Files + Env + Print), at: usize, text: &[u8]) -> bool {
+    let mut path = rooms::path();
+    let length = arguments::read(rt, at, &mut path);
+    let whole = write_named(rt, &path[..length], text);
+    say::text(rt, b"merged timetable: ");
+    say::bytes(rt, &path[..length]);
     if whole {
-        say::sentence(b", bytes %n\n", &[text.len() as u64]);
+        say::sentence(rt, b", bytes %n\n", &[text.len() as u64]);
     } else {
-        say::text(b" could not be written, or is there already\n");
+        say::text(rt, b" could not be written, or is there already\n");
     }
     whole
 }

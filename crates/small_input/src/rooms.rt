@@ -1,7 +1,7 @@
 // Room for whatever texts of 16 KiB can hold, so that the program never answers 16. The shortest row of a timetable has 22 bytes, an entry of a list 6,
 // the shortest row of the profiles 6, a sample 4, a record 36; track numbers are distinct.
 ghost use Rattle.std.specs.Prelude.{◌≡◌, length};
-ghost use Rattle.small_input.specs.Rooms.{text_room, table_room, sample_room, most_curves};
+ghost use Rattle.small_input.specs.Rooms.{text_room, table_room, sample_room, most_curves, path_room, merged_room};
 
 use rules::sizes::{Fill, Horizon, Subnet};
 
@@ -20,6 +20,12 @@ impl Room {
     pub const TABLE: usize = 12 * KIB;
 
     pub const SAMPLES: usize = 8 * KIB;
+
+    // Any path, with the 0 that ends it.
+    pub const PATH: usize = 4 * KIB;
+
+    // A merged text.
+    pub const MERGED: usize = 64 * KIB;
 
     // The greatest curves that there are.
     pub const CURVES: usize = Subnet::MOST * Horizon::MOST as usize;
@@ -43,6 +49,18 @@ pub fn samples() -> [i32; Room::SAMPLES]
     ensures { sample_room ≡ length result }
 {
     [Fill::SIGNED; Room::SAMPLES]
+}
+
+pub fn path() -> [u8; Room::PATH]
+    ensures { path_room ≡ length result }
+{
+    [0; Room::PATH]
+}
+
+pub fn merged() -> [u8; Room::MERGED]
+    ensures { merged_room ≡ length result }
+{
+    [0; Room::MERGED]
 }
 
 // The one large array of this program. It is zeros, which are made in place: any other number would be made beside it, and two such arrays do not stand on a

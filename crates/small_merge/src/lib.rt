@@ -7,6 +7,7 @@ use rules::outcomes::Direction;
 use rules::stated::Stated;
 use say_answers::say;
 use small_input::{files, rooms};
+use std::rt::{Env, Files};
 
 // The row that a refusal shows, in whichever of the three texts; empty for another answer.
 fn refused_row<'a>(
@@ -40,26 +41,34 @@ fn shown_choices<'a>(answer: Answer, first: &'a [u32], second: &'a [u32]) -> &'a
 }
 
 // Writes an accepted merge to the file that argument `out` names. Where that fails there is no answer.
-fn hand_over(out: usize, text: &[u8], length: usize) {
-    if length <= text.len() && files::store(out, &text[0..length]) {
-        say::answer(b"accepted");
+fn hand_over(rt: &(impl Files + Env + Print), out: usize, text: &[u8], length: usize) {
+    if length <= text.len() && files::store(rt, out, &text[0..length]) {
+        say::answer(rt, b"accepted");
     } else {
-        say::answer(b"none");
+        say::answer(rt, b"none");
     }
 }
 
 // A merge that is written is a text and no verdict: nothing is said of tests.
-fn close(answer: Answer, tally: Tally, out: usize, text: &[u8], length: usize) {
+fn close(
+    rt: &(impl Files + Env + Print),
+    answer: Answer,
+    tally: Tally,
+    out: usize,
+    text: &[u8],
+    length: usize,
+) {
     match answer {
-        Answer::Accepted => hand_over(out, text, length),
-        Answer::Violated(_) => say_answers::close(answer, tally),
-        Answer::Refused(_) => say_answers::close(answer, tally),
+        Answer::Accepted => hand_over(rt, out, text, length),
+        Answer::Violated(_) => say_answers::close(rt, answer, tally),
+        Answer::Refused(_) => say_answers::close(rt, answer, tally),
     }
 }
 
 // Every table is lent full of a number that no field can have. The text has room for any merge: a merged row differs from the draft's in its nominal alone,
 // which stands in its list too, so it is not twice as long.
 pub fn merge<'a>(
+    rt: &(impl Files + Env + Print),
     direction: Direction,
     stated: Stated,
     timetable: &'a [u8],
@@ -77,7 +86,7 @@ pub fn merge<'a>(
     let mut tracks = rooms::table();
     let mut choices = rooms::table();
     let mut second_choices = rooms::table();
-    let mut text = io::large_buffer();
+    let mut text = rooms::merged();
     let merged = merges::merge(
         direction,
         stated,
@@ -99,6 +108,7 @@ pub fn merge<'a>(
     let answer = merged.answer;
     let tally = merged.tally;
     say_answers::tell(
+        rt,
         answer,
         refused_row(answer, timetable, first, second),
         &legs,
@@ -108,5 +118,5 @@ pub fn merge<'a>(
         &tracks,
         shown_choices(answer, &choices, &second_choices),
     );
-    close(answer, tally, out, &text, merged.length);
+    close(rt, answer, tally, out, &text, merged.length);
 }

@@ -1,4 +1,5 @@
 // Files, read whole or not at all, and written.
+ghost use Rattle.std.specs.Prelude.{◌≡◌};
 ghost use Rattle.input.specs.Counts.{IsPrefixLen};
 
 use crate::rooms::Room;

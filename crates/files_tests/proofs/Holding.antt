@@ -10,7 +10,7 @@ use lib.Dec.{eqb, ltb}
 use lib.ListN.{length, get_or, drop, length-append}
 use borrow.Author.Tests.{ltb-true, ltb-false}
 use Rattle.rules.specs.Limits.{leg_width, configuration_width, profile_width}
-use Rattle.rules.specs.Lists.{every, is_some, first, flat, over, place_from}
+use Rattle.rules.specs.Lists.{every, is_some, flat, over, place_from}
 use Rattle.rules.specs.Answers.{not_there, wrong_samples}
 use Rattle.rules.specs.Rows.{first_fault}
 use Rattle.rules.specs.Energy.{tabulate}

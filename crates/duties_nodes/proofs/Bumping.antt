@@ -1,5 +1,5 @@
 -- A balance is changed where its node has the name: the loop, and each number after it. Assumes nothing.
-use Prim.Native.Nat.{ℕ, zero, suc, ◌+◌, ◌*◌, ◌-◌, ◌≤◌, ◌<◌, ◌^◌}
+use Prim.Native.Nat.{ℕ, zero, suc, ◌+◌, ◌-◌, ◌≤◌, ◌<◌, ◌^◌}
 use native.Mathlib.Omega.{arith}
 use mathlib.Core.Path.{◌≡◌, refl, sym, ap, ap₂, ◌∙◌}
 use mathlib.Core.Bool.{Bool, true, false, cond}
@@ -123,14 +123,6 @@ module _ (text table : List ℕ) (n : ℕ) (name : List ℕ) (by : ℤ) (t₀ : 
       where
         off : (k : ℕ) → i + 1 ≤ k → k ≡ i → ⊥
         off k m = omega arith
-
--- the change as the machine holds it
-pub all_held : (text table : List ℕ) (n : ℕ) (name : List ℕ) (by : ℤ) (t₀ : List ℤ) → BumpRoom table n t₀ by → (t : List ℤ) (i : ℕ)
-    → Bumping text table n name (to_z w32 (of_z w32 by)) t₀ t i → n ≤ i → t ≡ bumped_at name by 0 (view text table n) t₀
-all_held text table n name by t₀ room t i h l =
-    let small : nat_abs by < 2 ^ 31 = omega (arith, room.one) in
-    all_bumped text table n name (to_z w32 (of_z w32 by)) t₀ t i h l
-    ∙ ap (λ (z : ℤ). bumped_at name z 0 (view text table n) t₀) (to_z-of_z (fits-small {z = by} small))
 
 -- ---- each number after it
 

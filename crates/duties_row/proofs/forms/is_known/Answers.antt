@@ -6,14 +6,8 @@ use Rattle.duties_row.proofs.forms.is_known.Goals as goal
 pub returns-then-is_train : goal.returns-then-is_train
 returns-then-is_train c = search (known-first, rules)
 
--- LEFT: slice-aggregate-spells
--- slice-aggregate-spells c = search rules
-
 pub returns-then-spells : goal.returns-then-spells
 returns-then-spells c = search (known-second, rules)
-
--- LEFT: slice-aggregate-spells-2
--- slice-aggregate-spells-2 c = search rules
 
 pub returns : goal.returns
 returns c = search (known_third, rules)

@@ -3,9 +3,6 @@ use borrow.Author.Rules.{rules}
 use Rattle.duties_row.proofs.Testing.{value_number, value_beyond, value_none}
 use Rattle.duties_row.proofs.numbers.value.Goals as goal
 
--- LEFT: enum-known-v
--- enum-known-v c = search rules
-
 pub returns-in-Number : goal.returns-in-Number
 returns-in-Number c = search (value_number, rules)
 

@@ -33,15 +33,12 @@ module _ (H n : ℕ) (P : List ℤ) (t : CurveTable H n P) (i : ℕ) where
       few : (s n x : ℕ) → s ≤ n → n ≤ most_subnets → x ≤ s * most_power → x < 2 ^ 63
       few s n x h l m = omega arith
 
-  -- sum holds the bits of the sum over s subnets
-  module _ (s : ℕ) (h : s ≤ n) (sum : ℕ) (e : sum ≡ of_z w64 (total_in H P s i)) where
-    sum_is : to_z w64 sum ≡ total_in H P s i
-    sum_is = ap (to_z w64) e ∙ to_z-of_z (total_fits s h)
-
-    pub total_whole : n ≤ s → to_z w64 sum ≡ total_in H P n i
+  -- sum is the sum over s subnets
+  module _ (s : ℕ) (h : s ≤ n) (sum : ℤ) (e : sum ≡ total_in H P s i) where
+    pub total_whole : n ≤ s → sum ≡ total_in H P n i
     total_whole k =
         let same : s ≡ n = omega arith in
-        sum_is ∙ ap (λ m. total_in H P m i) same
+        e ∙ ap (λ m. total_in H P m i) same
 
     power-fits : SFits w32 (power_in H P s i)
     power-fits = fits-small (under (nat_abs (power_in H P s i)) (t.small (s * H + i)))
@@ -52,15 +49,15 @@ module _ (H n : ℕ) (P : List ℤ) (t : CurveTable H n P) (i : ℕ) where
     pub power_casts : SFits w64 (to_z w32 (of_z w32 (power_in H P s i)))
     power_casts = rw (to_z-of_z power-fits) (sfits_widen {w = w32} {w' = w64} tt power-fits)
 
-    both_held : to_z w64 sum +ℤ to_z w64 (of_z w64 (to_z w32 (of_z w32 (power_in H P s i)))) ≡ total_in H P s i +ℤ power_in H P s i
-    both_held = ap₂ ◌+ℤ◌ sum_is (to_z-of_z power_casts ∙ to_z-of_z power-fits)
+    both_held : sum +ℤ to_z w64 (of_z w64 (to_z w32 (of_z w32 (power_in H P s i)))) ≡ total_in H P s i +ℤ power_in H P s i
+    both_held = ap₂ ◌+ℤ◌ e (to_z-of_z power_casts ∙ to_z-of_z power-fits)
 
     module _ (l : s < n) where
-      pub total_adds : SFits w64 (to_z w64 sum +ℤ to_z w64 (of_z w64 (to_z w32 (of_z w32 (power_in H P s i)))))
+      pub total_adds : SFits w64 (sum +ℤ to_z w64 (of_z w64 (to_z w32 (of_z w32 (power_in H P s i)))))
       total_adds = rw both_held (total_fits (suc s) l)
 
-      pub total_added : of_z w64 (to_z w64 sum +ℤ to_z w64 (of_z w64 (to_z w32 (of_z w32 (power_in H P s i))))) ≡ of_z w64 (total_in H P (s + 1) i)
-      total_added = ap (of_z w64) (both_held ∙ sym (ap (λ m. total_in H P m i) (add-one s)))
+      pub total_added : to_z w64 (of_z w64 (sum +ℤ to_z w64 (of_z w64 (to_z w32 (of_z w32 (power_in H P s i)))))) ≡ total_in H P (s + 1) i
+      total_added = to_z-of_z total_adds ∙ both_held ∙ sym (ap (λ m. total_in H P m i) (add-one s))
 
 -- ---- the greater and the lesser of two, as the machine compares them
 
@@ -74,13 +71,13 @@ takes-second R a b fb e = to_z-of_z fb ∙ sym (ap (λ r. cond r b a) e)
 pub keeps_first : (R : Bool) (a b : ℤ) → SFits w64 a → R ≡ false → to_z w64 (of_z w64 a) ≡ cond R b a
 keeps_first R a b fa e = to_z-of_z fa ∙ sym (ap (λ r. cond r b a) e)
 
--- ---- over the seconds 0 .. t - 1: the bits of the greatest total and of the least
+-- ---- over the seconds 0 .. t - 1: the greatest total and the least
 
-pub record Ranged (H n : ℕ) (P : List ℤ) (hi lo t : ℕ) : Type 0 where
+pub record Ranged (H n : ℕ) (P : List ℤ) (hi lo : ℤ) (t : ℕ) : Type 0 where
   pub begun : 1 ≤ t
   pub within : t ≤ H
-  pub most : hi ≡ of_z w64 (greatest (total_in H P n) (t - 1))
-  pub fewest : lo ≡ of_z w64 (least (total_in H P n) (t - 1))
+  pub most : hi ≡ greatest (total_in H P n) (t - 1)
+  pub fewest : lo ≡ least (total_in H P n) (t - 1)
 
 module _ (H n : ℕ) (P : List ℤ) (c : CurveTable H n P) where
   extreme_most : (R : ℤ → ℤ → Bool) → Linear R → (k : ℕ) → nat_abs (extreme R (total_in H P n) k) ≤ n * most_power
@@ -112,20 +109,20 @@ module _ (H n : ℕ) (P : List ℤ) (c : CurveTable H n P) where
   unfolding fluctuation_in
   fluctuation-fits = difference_fits (H - 1)
 
-  pub range_begins : (z : ℤ) → z ≡ total_in H P n 0 → Ranged H n P (of_z w64 z) (of_z w64 z) 1
-  range_begins z e = record { begun = omega arith; within = c.begins; most = ap (of_z w64) e; fewest = ap (of_z w64) e }
+  -- a number that fits is read back as it was written
+  held : (z x : ℤ) → z ≡ x → SFits w64 x → to_z w64 (of_z w64 z) ≡ x
+  held z x e f = ap (λ y. to_z w64 (of_z w64 y)) e ∙ to_z-of_z f
 
-  module _ (hi lo t : ℕ) (r : Ranged H n P hi lo t) where
-    hi_is : to_z w64 hi ≡ greatest (total_in H P n) (t - 1)
-    hi_is = ap (to_z w64) r.most ∙ to_z-of_z (extreme-fits le_z up (t - 1))
+  pub range_begins : (z : ℤ) → z ≡ total_in H P n 0 → Ranged H n P (to_z w64 (of_z w64 z)) (to_z w64 (of_z w64 z)) 1
+  range_begins z e =
+      let same : to_z w64 (of_z w64 z) ≡ total_in H P n 0 = held z (total_in H P n 0) e (total_fits H n P c 0 n (omega arith)) in
+      record { begun = omega arith; within = c.begins; most = same; fewest = same }
 
-    lo_is : to_z w64 lo ≡ least (total_in H P n) (t - 1)
-    lo_is = ap (to_z w64) r.fewest ∙ to_z-of_z (extreme-fits (λ a b. le_z b a) down (t - 1))
-
+  module _ (hi lo : ℤ) (t : ℕ) (r : Ranged H n P hi lo t) where
     -- z is the total at second t
     module _ (l : t < H) (z : ℤ) (ez : z ≡ total_in H P n t) where
       z_is : to_z w64 (of_z w64 z) ≡ total_in H P n t
-      z_is = ap (λ x. to_z w64 (of_z w64 x)) ez ∙ to_z-of_z (total_fits H n P c t n (omega arith))
+      z_is = held z (total_in H P n t) ez (total_fits H n P c t n (omega arith))
 
       next : (R : ℤ → ℤ → Bool) (e x : ℤ) → e ≡ extreme R (total_in H P n) (t - 1) → x ≡ total_in H P n t
           → cond (R e x) x e ≡ extreme R (total_in H P n) (t + 1 - 1)
@@ -134,24 +131,28 @@ module _ (H n : ℕ) (P : List ℤ) (c : CurveTable H n P) where
           let last : t ≡ suc (t - 1) = omega (arith, r.begun) in
           ap₂ (λ e x. cond (R e x) x e) he (hx ∙ ap (total_in H P n) last) ∙ sym (ap (extreme R (total_in H P n)) this)
 
-      pub range_more : (a b : ℤ) → a ≡ cond (le_z (to_z w64 hi) (to_z w64 (of_z w64 z))) (to_z w64 (of_z w64 z)) (to_z w64 hi)
-          → b ≡ cond (le_z (to_z w64 (of_z w64 z)) (to_z w64 lo)) (to_z w64 (of_z w64 z)) (to_z w64 lo) → Ranged H n P (of_z w64 a) (of_z w64 b) (t + 1)
+      pub range_more : (a b : ℤ) → a ≡ cond (le_z hi (to_z w64 (of_z w64 z))) (to_z w64 (of_z w64 z)) hi
+          → b ≡ cond (le_z (to_z w64 (of_z w64 z)) lo) (to_z w64 (of_z w64 z)) lo → Ranged H n P (to_z w64 (of_z w64 a)) (to_z w64 (of_z w64 b)) (t + 1)
       range_more a b ea eb =
           record {
             begun = omega arith;
             within = omega arith;
-            most = ap (of_z w64) (ea ∙ next le_z (to_z w64 hi) (to_z w64 (of_z w64 z)) hi_is z_is);
-            fewest = ap (of_z w64) (eb ∙ next (λ a b. le_z b a) (to_z w64 lo) (to_z w64 (of_z w64 z)) lo_is z_is);
+            most =
+                held a (greatest (total_in H P n) (t + 1 - 1)) (ea ∙ next le_z hi (to_z w64 (of_z w64 z)) r.most z_is)
+                (extreme-fits le_z up (t + 1 - 1));
+            fewest =
+                held b (least (total_in H P n) (t + 1 - 1)) (eb ∙ next (λ a b. le_z b a) lo (to_z w64 (of_z w64 z)) r.fewest z_is)
+                (extreme-fits (λ a b. le_z b a) down (t + 1 - 1));
           }
 
     -- greatest minus least
-    pub range_fits : SFits w64 (to_z w64 hi -ℤ to_z w64 lo)
-    range_fits = rw (hi_is, lo_is) (difference_fits (t - 1))
+    pub range_fits : SFits w64 (hi -ℤ lo)
+    range_fits = rw (r.most, r.fewest) (difference_fits (t - 1))
 
-    pub range_whole : H ≤ t → to_z w64 (of_z w64 (to_z w64 hi -ℤ to_z w64 lo)) ≡ fluctuation_in H P n
+    pub range_whole : H ≤ t → to_z w64 (of_z w64 (hi -ℤ lo)) ≡ fluctuation_in H P n
     unfolding fluctuation_in
     range_whole l =
         let e : t ≡ H = omega (arith, r.within) in
         to_z-of_z range_fits
-        ∙ ap₂ ◌-ℤ◌ hi_is lo_is
+        ∙ ap₂ ◌-ℤ◌ r.most r.fewest
         ∙ ap (λ k. greatest (total_in H P n) (k - 1) -ℤ least (total_in H P n) (k - 1)) e

@@ -21,12 +21,11 @@ use Rattle.profiles_row.specs.declared.row.Listed.{Listed}
 use Rattle.profiles_row.proofs.Near.{pushes_first, ends_digits}
 use Rattle.profiles_state.specs.declared.state.State.{State}
 use Rattle.profiles_state.specs.declared.state.State.TheVariants.{Id, Whole}
-use Rattle.profiles_state.specs.declared.marked.Passed.{Passed}
 use Rattle.profiles_state.specs.Open.{Read, read}
 use Rattle.profiles_state.specs.Holds.{Stands, Steps, Passes, passed, leaves, begins, reading, Leads, Jump}
 use Rattle.profiles_state.proofs.Steps.{id_digits_lem, id_whole}
 use Rattle.profiles_state.proofs.Marking.{turn_plain, pass_to, pass_left, other_digit}
-use Rattle.profiles_state.proofs.Leaps.{leap_then, jump_step}
+use Rattle.profiles_state.proofs.Leaps.{jump_step}
 use Rattle.profiles_sample.specs.declared.Run.{Run}
 use Rattle.profiles_sample.specs.declared.Headed.{Headed}
 use Rattle.profiles_sample.specs.Quick.{Runs}

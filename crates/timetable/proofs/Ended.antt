@@ -3,9 +3,9 @@ use Prim.Native.Nat.{ℕ, zero, suc, ◌+◌, ◌≤◌, ◌<◌}
 use mathlib.Core.Path.{◌≡◌, refl, ap, sym, ◌∙◌}
 use mathlib.Core.Bool.{Bool, true, false, not, cond, ◌&&◌, true≢false, false≢true}
 use mathlib.Core.List.{List, [], ◌∷◌, ◌++◌, append-nil}
-use mathlib.Core.Option.{Option, none, some}
+use mathlib.Core.Option.{none, some}
 use native.Mathlib.Omega.{arith}
-use lib.Dec.{leb, ltb, eqb}
+use lib.Dec.{leb, ltb}
 use lib.ListN.{length, get_or}
 use borrow.Author.Tests.{leb-true, ltb-true, le-ltb, lt-leb, eq-eqb, ne_eqb}
 use Rattle.rules.specs.Limits.{most_text, most_id, most_legs, least_listed, most_listed, most_configurations, leg_width}
@@ -21,7 +21,6 @@ use Rattle.rules.proofs.Truth.{and_first, and_second}
 use Rattle.csv_machine.specs.Number as Row
 use Rattle.timetable_row.specs.declared.line.Line.{Line}
 use Rattle.timetable_row.specs.declared.number.Number.{Number}
-use Rattle.timetable_row.specs.declared.number.Number.TheVariants.{Empty}
 use Rattle.timetable_row.specs.Digits.{held, is_empty, value_of}
 use Rattle.timetable.specs.Held.{number_held, Shaped, in_head, in_first, in_second, in_third, Tables, tables, InLine, AfterByte, Entered, Closed}
 use Rattle.timetable.specs.Open.{Open, partly, separate, open_step, open_end}

@@ -2,12 +2,12 @@
 use Prim.Native.Nat.{ℕ, zero, suc, ◌+◌, ◌-◌, ◌≤◌, ◌<◌}
 use mathlib.Core.Path.{◌≡◌, refl, ap, sym, subst, ◌∙◌}
 use mathlib.Core.Bool.{Bool, true, false, false≢true}
-use mathlib.Core.List.{List, [], ◌∷◌}
+use mathlib.Core.List.{List, ◌∷◌}
 use native.Mathlib.Omega.{arith}
 use lib.ListN.{length, get_or, drop}
 use lib.Seq.{drop-cons}
 use Rattle.rules.specs.Bytes.{comma, quote, line_feed}
-use Rattle.timetable_row.specs.Slots.{nominal_slot, last_slot, separator_of}
+use Rattle.timetable_row.specs.Slots.{nominal_slot, separator_of}
 use Rattle.timetable_row.specs.Digits.{taken, taken_from, is_empty}
 use Rattle.timetable_row.specs.declared.line.Line.{Line}
 use Rattle.timetable_row.specs.declared.number.Number.{Number}
@@ -19,7 +19,7 @@ use Rattle.csv_marks.specs.declared.Move.{Move}
 use Rattle.csv_marks.specs.Turns.{plain_under, moved_to, left_at, moved_under}
 use Rattle.timetable_entry.specs.declared.Cut.{Cut}
 use Rattle.timetable_entry.specs.declared.Cut.TheVariants.{At}
-use Rattle.timetable_entry.specs.Spots.{NumberAt, QuotedAt, Quotes, quoted}
+use Rattle.timetable_entry.specs.Spots.{QuotedAt, Quotes, quoted}
 use Rattle.timetable.specs.declared.entries.Listed.{Listed}
 use Rattle.timetable.specs.declared.reader.Run.{Run}
 use Rattle.timetable.specs.Held.{Tables, tables, kept_in, Closed}

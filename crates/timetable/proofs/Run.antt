@@ -1,7 +1,7 @@
 -- The loops over the rows of a part: their invariants, kept by each turn, and what they give at each return. Assumes nothing.
 use Prim.Native.Nat.{ℕ, ◌+◌, ◌*◌, ◌-◌, ◌≤◌, ◌<◌}
 use mathlib.Core.Path.{◌≡◌, refl, ap, sym, subst, ◌∙◌}
-use mathlib.Core.Bool.{Bool, true, false, true≢false, false≢true}
+use mathlib.Core.Bool.{Bool, true, false, true≢false}
 use mathlib.Core.List.{List}
 use native.Mathlib.Omega.{arith}
 use native.Mathlib.Nat.{add-zero}
@@ -18,7 +18,6 @@ use Rattle.timetable_row.specs.declared.number.Taken.{Taken}
 use Rattle.timetable_row.specs.RowOver.{stopped_with}
 use Rattle.timetable_row.specs.Digits.{taken_from}
 use Rattle.csv_marks.specs.declared.Mark.{Mark}
-use Rattle.csv_marks.specs.declared.Mark.TheVariants.{Bare, Within, Behind, Returned}
 use Rattle.csv_marks.specs.declared.Move.{Move}
 use Rattle.csv_marks.specs.Turns.{takes, plain_under, left_at, moved_by, moved_under}
 use Rattle.csv_marks.proofs.Follow.{never_plain}

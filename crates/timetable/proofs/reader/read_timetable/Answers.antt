@@ -1,0 +1,10 @@
+-- A text that is too long, or one part from the start to the end. Assumes nothing.
+use borrow.Author.Rules.{rules}
+use Rattle.timetable.proofs.Whole.{read_long, read_fed}
+use Rattle.timetable.proofs.reader.read_timetable.Goals as goal
+
+pub returns-then-text-gt-MOST : goal.returns-then-text-gt-MOST
+returns-then-text-gt-MOST c = search (read_long, rules)
+
+pub returns : goal.returns
+returns c = search (read_fed, rules)

@@ -16,7 +16,7 @@ use mir.Facts.{to_z-of_z}
 use borrow.Author.Tests.{ltb-true, ltb-false}
 use Rattle.rules.specs.Limits.{most_subnets, most_horizon}
 use Rattle.rules.specs.Lists.{sum_of, over}
-use Rattle.rules.specs.Energy.{sum_to, sum_to_z, above, below, extreme, power, leg_at, before, before_at, drawn, drawn_at, lost, total, fluctuation, quarter_sums, peak_of}
+use Rattle.rules.specs.Energy.{sum_to, sum_to_z, above, below, extreme, power, leg_at, before, before_at, drawn_at, total, fluctuation, quarter_sums, peak_of}
 use Rattle.rules.specs.declared.figures.Peak.{Peak}
 use Rattle.rules.specs.declared.sizes.Configuration.{Configuration}
 use Rattle.rules.specs.declared.figures.Figures.{Figures}

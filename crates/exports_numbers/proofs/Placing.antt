@@ -3,10 +3,10 @@ use Prim.Native.Nat.{ℕ, ◌+◌, ◌≤◌, ◌<◌, zero-le}
 use native.Mathlib.Omega.{arith}
 use native.Mathlib.Nat.{zero-add}
 use native.Mathlib.Numerals.{add-one, add-one-le}
-use mathlib.Core.Path.{◌≡◌, refl, sym, ap, ◌∙◌}
-use mathlib.Core.List.{List, [], ◌∷◌, ◌++◌, append_assoc}
-use lib.ListN.{length, take, drop, get_or, set, replicate, length-replicate}
-use lib.Seq.{take_all, take-length, take_at, drop-append-le, drop-append-add, paste, paste-zero, paste-suc}
+use mathlib.Core.Path.{◌≡◌, sym, ap, ◌∙◌}
+use mathlib.Core.List.{List, ◌++◌, append_assoc}
+use lib.ListN.{length, drop, get_or, set, replicate}
+use lib.Seq.{take-length, take_at, drop-append-le, drop-append-add, paste, paste-zero, paste-suc}
 use Rattle.rules.specs.Lists.{over}
 use Rattle.rules.proofs.Lists.{over-length}
 use Rattle.rules.specs.declared.answers.Tally.{Tally}

@@ -12,7 +12,7 @@ use lib.Seq.{length-sets}
 use lib.IntN.{ℤ, pos, nat_abs, ◌+ℤ◌, +ℤ_idl}
 use borrow.Author.Tests.{lt-ltb, le-ltb}
 use Rattle.rules.specs.Limits.{most_text, most_events, node_width}
-use Rattle.rules.specs.Lists.{any, same_list, over}
+use Rattle.rules.specs.Lists.{any, same_list}
 use Rattle.rules.specs.Answers.{◌needs◌, good}
 use Rattle.rules.specs.Bytes.{line_feed, less_return}
 use Rattle.rules.specs.Rows.{or_else, place_of_row}

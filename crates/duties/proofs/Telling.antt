@@ -1,5 +1,5 @@
 -- Both passes together, as the entry has them. Assumes nothing.
-use Prim.Native.Nat.{ℕ, ◌+◌, ◌*◌, ◌-◌, ◌/◌, ◌≤◌, ◌<◌, ◌^◌, min}
+use Prim.Native.Nat.{ℕ, ◌*◌, ◌/◌, ◌≤◌, ◌<◌, ◌^◌, min}
 use mathlib.Core.Path.{◌≡◌, refl, sym, ap, ap₂, subst, ◌∙◌}
 use mathlib.Core.Bool.{true, false}
 use mathlib.Core.List.{List, [], ◌∷◌, ◌++◌, map}
@@ -33,7 +33,6 @@ use Rattle.duties_nodes.proofs.Walking.{names_long}
 use Rattle.duties.specs.declared.pass.Pass.{Pass}
 use Rattle.duties.specs.declared.pass.Pass.TheVariants.{Read, Fault}
 use Rattle.duties.specs.declared.judge.Found.{Found}
-use Rattle.duties.specs.declared.judge.Found.TheVariants as Found
 use Rattle.duties.specs.Steps.{left_at, AllRead, Passes, all_read, at_fault}
 use Rattle.duties.specs.Turns.{rest_at, Starts, Judges, all_kept, one_broken}
 use Rattle.duties.specs.Entry.{Whole, Judged, keeps, breaks, Passed, Tells, accepts, tells_broken, tells_refused, nodes_after, balance_after}

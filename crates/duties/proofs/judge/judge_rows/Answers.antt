@@ -1,9 +1,7 @@
 -- `duties::judge::judge_rows` meets its contract: what the rows left will give, given to what the table holds, is the whole. Assumes nothing.
-use Prim.Native.Nat.{◌-◌}
 use native.Mathlib.Omega.{arith}
-use lib.ListN.{length}
 use borrow.Author.Rules.{rules}
-use Rattle.duties.proofs.Judging.{Judging, judge_begin, judge_ready, judge-broken, judge_room, judge_few, judge_ends, judge_on, judge-end_room, judge-end}
+use Rattle.duties.proofs.Judging.{judge_begin, judge_ready, judge-broken, judge_room, judge_few, judge_ends, judge_on, judge-end_room, judge-end}
 use Rattle.duties.proofs.judge.judge_rows.Goals as goal
 
 pub loop-place-init : goal.loop-place-init

@@ -1,8 +1,5 @@
 -- `duties::pass::read_rows` meets its contract: the rows before a place are read, and their nodes are in the table. Assumes nothing.
 use borrow.Author.Rules.{rules}
-use lib.ListN.{length}
-use Prim.Native.Nat.{◌-◌}
-use Rattle.duties.specs.Steps.{Holding}
 use Rattle.duties.proofs.Passing.{begin_holds, pass_open, pass_fault, pass_good, pass_next, pass_end}
 use Rattle.duties.proofs.pass.read_rows.Goals as goal
 

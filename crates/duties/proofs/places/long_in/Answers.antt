@@ -1,5 +1,4 @@
 -- `duties::places::long_in` meets its contract: so does its length. Assumes nothing.
-use borrow.Author.Rules.{rules}
 use native.Mathlib.Omega.{arith}
 use lib.ListN.{length}
 use mathlib.Core.Path.{ap}

@@ -1,5 +1,4 @@
 -- `duties::places::place_in` meets its contract: a content ends within a text of lawful length, so its place fits. Assumes nothing.
-use borrow.Author.Rules.{rules}
 use native.Mathlib.Omega.{arith}
 use Rattle.duties.proofs.Standing.{near_place}
 use Rattle.duties.proofs.places.place_in.Goals as goal

@@ -1,5 +1,5 @@
 -- What a line says, read by itself: that it breaks a row's form, or the row's numbers as they are held and what the tests of a row need.
-use Rattle.std.specs.Prelude.{ℕ, suc, ◌≤◌, min, ◌≡◌, Bool, true, false, ◌&&◌, List, [], leb, ltb, length}
+use Rattle.std.specs.Prelude.{ℕ, suc, ◌≤◌, min, ◌≡◌, Bool, true, ◌&&◌, List, [], leb, ltb, length}
 use Rattle.std.proofs.Math.Option.{Option, none, some}
 use Rattle.rules.specs.Limits.{most_horizon, most_text, most_id, most_listed}
 use Rattle.rules.specs.Lists.{every}

@@ -189,6 +189,7 @@ impl Headed {
 }
 
 // What stands behind the digits of an id in quotes.
+#[tactic(auto, using(crate::proofs::Heads::heading))]
 fn join_at(part: &[u8], from: usize, id: u32) -> Headed
     ensures { Joins part.now from id result }
 {

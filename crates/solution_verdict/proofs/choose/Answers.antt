@@ -1,0 +1,13 @@
+-- `solution_verdict::choose` meets its contract: each way out by its law. Assumes nothing.
+use mathlib.Core.Path.{refl}
+use Rattle.solution_verdict.proofs.Choosing.{choose_able, choose_fault, choose_whole}
+use Rattle.solution_verdict.proofs.choose.Goals as goal
+
+pub read_choices-requires : goal.read_choices-requires
+read_choices-requires c = choose_able c.requires
+
+pub returns-in-Fault : goal.returns-in-Fault
+returns-in-Fault c = choose_fault _ _ c.args.counts _ _ _ c.in-Fault.ensures refl c.new.ensures
+
+pub returns-in-Read : goal.returns-in-Read
+returns-in-Read c = choose_whole _ _ c.args.counts _ _ _ c.in-Read.ensures refl

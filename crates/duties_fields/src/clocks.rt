@@ -41,6 +41,7 @@ fn is_clock(s: &[u8], seconds: u32) -> bool
 }
 
 // The seconds are within ten days, and the text is theirs: `HH:MM:SS`, from the second day on with `Nd ` before it.
+#[tactic(auto, using(crate::proofs::Times::time_first))]
 pub fn matches_time(s: &[u8], seconds: u32) -> bool
     ensures { result ≡ time_is seconds s.now }
 {

@@ -24,6 +24,7 @@ pub fn in_name(b: u8) -> bool
 }
 
 // 1 to 32 bytes, each of which may stand in a name.
+#[tactic(auto, using(crate::proofs::Naming::name_long))]
 pub fn is_name(s: &[u8]) -> bool
     ensures { result ≡ is_name s.now }
 {

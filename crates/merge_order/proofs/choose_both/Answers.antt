@@ -1,0 +1,10 @@
+-- `merge_order::choose_both` meets its contract: the first's refusal, or what the second's reading says. Assumes nothing.
+use borrow.Author.Rules.{rules}
+use Rattle.merge_order.proofs.Chosen.{first_refused, second_decides}
+use Rattle.merge_order.proofs.choose_both.Goals as goal
+
+pub returns-in-Refused : goal.returns-in-Refused
+returns-in-Refused c = search (first_refused, rules)
+
+pub returns-in-Whole : goal.returns-in-Whole
+returns-in-Whole c = search (second_decides, rules)

@@ -1,0 +1,8 @@
+-- `merge_order::of_travels` meets its contract. Assumes nothing.
+use mathlib.Core.Path.{sym, ap, ◌∙◌}
+use Rattle.rules.specs.declared.answers.Answer.TheVariants.{Refused}
+use Rattle.merge_order.specs.Order.{travel_answer}
+use Rattle.merge_order.proofs.of_travels.Goals as goal
+
+pub returns-in-UnequalAt : goal.returns-in-UnequalAt
+returns-in-UnequalAt c = ap Refused c.row_refusal-refusal.ensures ∙ sym (ap (travel_answer c.args.second.now) c.in-UnequalAt.is)

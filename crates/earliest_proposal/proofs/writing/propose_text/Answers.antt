@@ -3,7 +3,6 @@ use Prim.Native.Nat.{◌<◌}
 use mathlib.Core.Path.{sym, ◌∙◌}
 use native.Mathlib.Omega.{arith}
 use lib.ListN.{length}
-use borrow.Author.Rules.{rules}
 use Rattle.text_write.specs.Written.{last_place}
 use Rattle.earliest_proposal.proofs.Ways.{makes_text, makes_no_room, makes_refused}
 use Rattle.earliest_proposal.proofs.writing.propose_text.Goals as goal

@@ -138,7 +138,7 @@ fn state(call: &Call, number: usize, text: &mut String) -> usize {
     if *entry == Entry::Duties {
         state_duties(call, &mut claim);
     } else if *entry == Entry::Row {
-        let left = format!("rowAt {} {} {file} {place}", bytes(&case.texts[0]), bytes(&case.texts[3]));
+        let left = format!("row_at {} {} {file} {place}", bytes(&case.texts[0]), bytes(&case.texts[3]));
         claim("row", left, call.row_bytes().iter().map(|byte| i64::from(*byte)).collect());
     } else {
         state_answers(*entry, case, &mut claim);
@@ -150,10 +150,10 @@ fn state(call: &Call, number: usize, text: &mut String) -> usize {
 fn state_duties(call: &Call, claim: &mut dyn FnMut(&str, String, Vec<i64>)) {
     let (said, left) = answered(Entry::Duties, &call.case);
     let rooms = call.case.rooms;
-    let input = format!("{} (nines {}) (signedNines {})", bytes(&call.case.texts[0]), rooms.legs, rooms.curves);
+    let input = format!("{} (nines {}) (signed_nines {})", bytes(&call.case.texts[0]), rooms.legs, rooms.curves);
     let nodes = left.legs.iter().map(|number| i64::from(*number)).collect();
     let balances = left.curves.iter().map(|balance| unsigned(*balance)).collect();
-    claim("duties", format!("dutiesSay (dutiesChecked {input})"), [said, nodes, balances].concat());
+    claim("duties", format!("duties_say (duties_checked {input})"), [said, nodes, balances].concat());
 }
 
 /// The same of an entry that judges.
@@ -166,13 +166,13 @@ fn state_answers(entry: Entry, case: &Case, claim: &mut dyn FnMut(&str, String, 
     let input = format!("(stated {} {}) {texts} {solution}", case.h, case.edition);
     let lent = format!("(lent {}) (nines {})", six.join(" "), rooms.choices);
     let (said, left) = answered(Entry::Check, case);
-    claim("check", format!("checkSays (checked {input} {lent})"), [said, tables(&left)].concat());
+    claim("check", format!("check_says (checked {input} {lent})"), [said, tables(&left)].concat());
     if entry != Entry::Check && case.h <= LONGEST_HORIZON {
         let (said, left) = answered(Entry::Energy, case);
-        let report = format!("(reported {input} {lent} (signedNines {}))", rooms.curves);
-        claim("energy", format!("energySays {report}"), [said, tables(&left)].concat());
+        let report = format!("(reported {input} {lent} (signed_nines {}))", rooms.curves);
+        claim("energy", format!("energy_says {report}"), [said, tables(&left)].concat());
         if case.h <= LONGEST_CURVE {
-            claim("curves", format!("curvesSay {report}"), left.curves.iter().map(|power| unsigned(*power)).collect());
+            claim("curves", format!("curves_say {report}"), left.curves.iter().map(|power| unsigned(*power)).collect());
         }
     }
     if entry == Entry::MergeEarlier {
@@ -182,7 +182,7 @@ fn state_answers(entry: Entry, case: &Case, claim: &mut dyn FnMut(&str, String, 
             let second_choices = left.second_choices.iter().map(|number| i64::from(*number)).collect();
             let written = left.text.iter().map(|byte| i64::from(*byte)).collect();
             let expected = [said, tables(&left), second_choices, written].concat();
-            claim(name, format!("mergeSays (merged {name} {input} {second} {lent} {rest})"), expected);
+            claim(name, format!("merge_says (merged {name} {input} {second} {lent} {rest})"), expected);
         }
     }
 }

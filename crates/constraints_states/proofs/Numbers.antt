@@ -4,14 +4,14 @@ use mathlib.Core.Path.{◌≡◌, ap, sym, ◌∙◌}
 use mathlib.Core.Bool.{Bool, true, false, cond}
 use mathlib.Core.List.{List}
 use lib.ListN.{length}
-use borrow.Author.Tests.{le-leb, lt-leb, le-ltb, lt-ltb}
+use borrow.Author.Tests.{le-ltb, lt-ltb}
 use lib.Dec.{leb, eqb}
-use Rattle.rules.specs.Limits.{most_id, most_seconds, most_tracks, track_width}
+use Rattle.rules.specs.Limits.{most_id, most_tracks, track_width}
 use Rattle.rules.specs.Lists.{any}
 use Rattle.rules.specs.Answers.{bad_json, out_of_range, not_there, already_seen, too_many, no_room}
 use Rattle.rules.specs.Bytes.{whole_of}
 use Rattle.rules.specs.Tokens.{Token}
-use Rattle.rules.specs.Constraints.{Document, with_id, with_track, Turn, fault, on, number_of, is_number, goes, with_entry, entered, row_of_leg, leg_value, subnet_value, seconds_value, track_number}
+use Rattle.rules.specs.Constraints.{Document, with_id, with_track, Turn, fault, on, number_of, is_number, goes, with_entry, entered, row_of_leg, leg_value, subnet_value, track_number}
 use Rattle.rules.specs.declared.tokens.State.{State}
 use Rattle.rules.specs.declared.tokens.Phase.TheVariants.{AfterValue, AfterTrack}
 use Rattle.text_read.specs.declared.numbers.Whole.{Whole}
@@ -39,17 +39,6 @@ module _ (legs : List ℕ) (constraints tracks : ℕ) (st : State) (d : Document
   module _ (v : ℕ) (is : n ≡ Number v) where
     number : Says_number v (whole_of t.word)
     number = held_number v n (whole_of t.word) is says.number
-
-    -- ---- seconds
-
-    pub seconds-past : most_seconds < v → fault out_of_range place ≡ seconds_value legs constraints tracks st d t
-    unfolding seconds_value
-    seconds-past h = rw (number.is, lt-leb v most_seconds h, says.at)
-
-    pub seconds_within : (after : State) → after ≡ with_entry (entered st.key v st.entry) st → v ≤ most_seconds
-        → on after d ≡ seconds_value legs constraints tracks st d t
-    unfolding seconds_value
-    seconds_within after e h = rw (number.is, le-leb v most_seconds h, e)
 
     -- ---- legs, subnets and tracks, by a search
 

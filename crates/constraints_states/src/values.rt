@@ -86,6 +86,7 @@ pub fn subnet_value(ids: &[u32], n: usize, number: Whole, st: State, place: u32)
     }
 }
 
+#[tactic(auto, unfolding(rules::specs::Constraints::seconds_value))]
 pub fn seconds_value(number: Whole, st: State, place: u32) -> Step
     ensures { (legs : List ℕ) (constraints tracks : ℕ) (d : Document) (t : Token) → Says t place number → turned result d ≡ law.seconds_value legs constraints tracks st d t }
 {

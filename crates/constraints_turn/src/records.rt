@@ -84,6 +84,7 @@ fn keys_of(list: u8) -> u16
 }
 
 // A key of another kind is unknown here.
+#[tactic(auto, unfolding(rules::specs::Constraints::key_name))]
 pub fn key_name(word: &[u8], st: State, place: u32) -> Step
     ensures { Always place (λ legs constraints tracks d t. law.key_name legs constraints tracks (key_in st.rules.edition st.list word.now) st d t) result }
 {
@@ -99,6 +100,7 @@ pub fn key_name(word: &[u8], st: State, place: u32) -> Step
     Step::Fault(Refusal::REPEATED_OR_MISSING, place)
 }
 
+#[tactic(auto, unfolding(rules::specs::Constraints::record_ends))]
 pub fn record_ends(st: State, place: u32) -> Step
     ensures { Always place (λ legs constraints tracks d t. law.record_ends legs constraints tracks st d t) result }
 {

@@ -1,5 +1,5 @@
 -- What is promised of the files that are read: the answer always, and the tables where nothing is refused.
-use Rattle.std.specs.Prelude.{ℕ, ◌≡◌}
+use Rattle.std.specs.Prelude.{◌≡◌}
 use Rattle.rules.specs.Answers.{good}
 use Rattle.rules.specs.Reading.{Texts, Files, files_of}
 use Rattle.rules.specs.Entries.{Tables, rooms_of, written_tables}

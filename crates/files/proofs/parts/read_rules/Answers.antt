@@ -1,0 +1,23 @@
+-- `files::parts::read_rules` meets its contract: each way out by its law. Assumes nothing.
+use borrow.Author.Rules.{rules}
+use Rattle.files.proofs.RuleWays.{rules_able, fifteen_able, rules_refused, rules-row, rules_whole}
+use Rattle.files.proofs.parts.read_rules.Goals as goal
+
+pub read_constraints-requires : goal.read_constraints-requires
+read_constraints-requires c = search (rules_able, rules)
+
+pub subnet_fault-requires : goal.subnet_fault-requires
+subnet_fault-requires c =
+    let start = c in
+    let rules = c.rules-rules in
+    let read-constraints = c.read_constraints in
+    fifteen_able start.args.stated rules.ensures start.args.counts _ _ _ _ _ _ _ read-constraints.ensures c.in-Whole.is start.requires
+
+pub returns-in-Refused : goal.returns-in-Refused
+returns-in-Refused c = search (rules_refused, rules)
+
+pub returns-in-At : goal.returns-in-At
+returns-in-At c = search (rules-row, rules)
+
+pub returns-in-Nothing : goal.returns-in-Nothing
+returns-in-Nothing c = search (rules_whole, rules)

@@ -1,4 +1,4 @@
-//! Links the proved library to the programs and tests of a package: WAGONTULIP_ARCHIVE is its archive, which `rt staticlib` writes. An archive made of the
+//! Links the proved library to the programs and tests of a package: WAGONTULIP_ARCHIVE is its archive, which `host/build` makes. An archive made of the
 //! stand-in is refused, so that nothing that says it has the proved library can have the stand-in. The command is also told what it is made of, so that it
 //! can say it: host/machine names the commit and the toolchain, and the archive's SHA-256 is reckoned here, of the archive that is linked.
 

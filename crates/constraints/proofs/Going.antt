@@ -35,7 +35,7 @@ use Rattle.constraints.specs.declared.walks.Walked.TheVariants.{Good, Refused}
 use Rattle.rules.specs.declared.sizes.Track.{Track}
 use Rattle.constraints_states.specs.Steps.{turned, counts_of, Tied, Ready}
 use Rattle.constraints_tables.specs.Places.{bumped, nexts, written}
-use Rattle.constraints_tables.proofs.Places.{nexts-more, nexts_low, nexts-length, written-more, written-length}
+use Rattle.constraints_tables.proofs.Places.{nexts-more, nexts_low, written-more}
 use Rattle.constraints.specs.Tables.{outcome, Able, Walks}
 use Rattle.constraints_turn.proofs.ByAction.{past-found}
 use Rattle.constraints.proofs.Filling.{track_long, tracks_held, ids_held, id_held}
@@ -213,19 +213,8 @@ module _ (rules : Rules) (text legs : List ℕ) (n : ℕ) (c₀ t₀ s₀ : List
         let room : length g.d.tracks ≤ T = g.keeps.tables.tracks_lawful.in_room in
         omega (arith, flat-length track_numbers track_width track_long g.d.tracks, div-mul-le_self (length t₀) track_width)
 
-    constraints_fit : length g.d.constraints * constraint_width ≤ length c₀
-    constraints_fit =
-        let room : length g.d.constraints ≤ C = g.keeps.tables.constraints_lawful.in_room in
-        omega (arith, div-mul-le_self (length c₀) constraint_width)
-
-    pub table_long : length c ≡ length c₀
-    table_long = ap length g.table ∙ written-length sorts s₀ c₀ g.d.constraints constraints_fit
-
     pub tracks_long : length t ≡ length t₀
     tracks_long = ap length g.tracks ∙ over-length (flat track_numbers g.d.tracks) t₀ tracks_fit
-
-    pub next_long : length next ≡ length s₀
-    next_long = ap length g.places ∙ nexts-length s₀ g.d.constraints
 
     -- what the code holds is what has been read
     pub tied : Tied seen t ids g.d

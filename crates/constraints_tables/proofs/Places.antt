@@ -4,13 +4,13 @@ use mathlib.Core.Path.{◌≡◌, refl, ap, sym, ◌∙◌}
 use mathlib.Core.Bool.{Bool, true, false, cond}
 use mathlib.Core.List.{List, [], ◌∷◌, ◌++◌}
 use native.Mathlib.Omega.{arith}
-use lib.ListN.{length, get_or, length-set}
-use lib.Seq.{sets, length-sets}
+use lib.ListN.{length, get_or}
+use lib.Seq.{sets}
 use Rattle.rules.specs.Limits.{constraint_width}
 use Rattle.rules.specs.Lists.{flat, over}
 use Rattle.rules.specs.Constraints.{constraint_numbers}
 use Rattle.rules.specs.declared.sizes.Constraint.{Constraint}
-use Rattle.rules.proofs.Lists.{flat_append, flat-length, over-length, over-more}
+use Rattle.rules.proofs.Lists.{flat_append, flat-length, over-more}
 use Rattle.constraints_tables.specs.Places.{bumped, nexts, placed, writes, written}
 use Rattle.constraints_tables.proofs.Putting.{counted_low}
 
@@ -40,17 +40,3 @@ written-more false next t cs c h =
 pub nexts_low : (next : List ℕ) (cs : List Constraint) (k : ℕ) → get_or (nexts next cs) k 0 ≤ get_or next k 0 + length cs
 nexts_low next [] k = omega arith
 nexts_low next (c ∷ cs) k = omega (arith, nexts_low (bumped next c.kind) cs k, counted_low next c.kind k)
-
-pub nexts-length : (next : List ℕ) (cs : List Constraint) → length (nexts next cs) ≡ length next
-nexts-length next [] = refl
-nexts-length next (c ∷ cs) = nexts-length (bumped next c.kind) cs ∙ length-set next c.kind (get_or next c.kind 0 + 1)
-
-writes-length : (next t : List ℕ) (cs : List Constraint) → length (writes next t cs) ≡ length t
-writes-length next t [] = refl
-writes-length next t (c ∷ cs) =
-    writes-length (bumped next c.kind) (placed next c t) cs ∙ length-sets t (get_or next c.kind 0 * constraint_width) (constraint_numbers c)
-
-pub written-length : (sorts : Bool) (next t : List ℕ) (cs : List Constraint) → length cs * constraint_width ≤ length t → length (written sorts next t cs) ≡ length t
-written-length true next t cs h = writes-length next t cs
-written-length false next t cs h =
-    over-length (flat constraint_numbers cs) t (omega (arith, flat-length constraint_numbers constraint_width constraint_long cs))

@@ -1,7 +1,7 @@
 -- Each way out of two verdicts. Assumes nothing.
 use Prim.Native.Nat.{ℕ}
-use mathlib.Core.Path.{◌≡◌, sym, ap, ap₂, ◌∙◌}
-use mathlib.Core.Bool.{true, false, cond}
+use mathlib.Core.Path.{◌≡◌, ap, ap₂, ◌∙◌}
+use mathlib.Core.Bool.{true, false}
 use mathlib.Core.List.{List}
 use Rattle.rules.specs.Answers.{solution_file, second_file, is_accepted}
 use Rattle.rules.specs.declared.answers.Ruling.{Ruling}
@@ -11,10 +11,10 @@ use Rattle.merge_order.specs.Order.{first_ruling}
 use Rattle.merge_order.specs.Both.{verdict_in, JudgesBoth}
 
 pub first-counts : (a b : Ruling) → is_accepted a.answer ≡ false → a ≡ first_ruling a b
-first-counts a b e = sym (ap (λ t. cond t b a) e)
+first-counts a b e = rw e
 
 pub second-counts : (a b : Ruling) → is_accepted a.answer ≡ true → b ≡ first_ruling a b
-second-counts a b e = sym (ap (λ t. cond t b a) e)
+second-counts a b e = rw e
 
 module _ {counts : Counts} {legs configurations constraints choices second_choices : List ℕ} {a : Ruling} (judged : Judges counts legs configurations constraints choices solution_file a) where
   pub first_stops : is_accepted a.answer ≡ false → JudgesBoth counts legs configurations constraints choices second_choices a

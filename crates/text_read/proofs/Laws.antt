@@ -7,8 +7,8 @@ use native.Mathlib.Omega.{arith}
 use native.Mathlib.Numerals.{add-one}
 use lib.ListN.{length, get_or, take, drop, length-drop}
 use lib.Seq.{drop-drop}
-use lib.Dec.{eqb}
-use borrow.Author.Tests.{eq-eqb, ne_eqb}
+use lib.Dec.{eqb, ltb}
+use borrow.Author.Tests.{eq-eqb, ne_eqb, ltb-true, ltb-false}
 use Rattle.rules.specs.Lists.{lead}
 use Rattle.rules.specs.Bytes.{onto, split_on}
 use Rattle.text_read.specs.Places.{is_other, up_to}
@@ -16,8 +16,12 @@ use Rattle.text_read.proofs.Runs.{lead-more, lead_stop, lead-end, lead_le}
 
 -- ---- `find`'s loop: the invariant is `i + up_to sep (drop i s) ≡ r`
 
-pub found : (s : List ℕ) (sep i r : ℕ) → i + up_to sep (drop i s) ≡ r → i < length s → get_or s i 0 ≡ sep → i ≡ r
-found s sep i r e h q = omega (arith, rw (lead_stop (is_other sep) s i 0 h (ap not (eq-eqb _ sep q))) at e)
+pub found : (s : List ℕ) (sep i r : ℕ) → i + up_to sep (drop i s) ≡ r → get_or s i 0 ≡ sep → i ≡ r
+found s sep i r e q = go (ltb i (length s)) refl
+  where
+    go : (t : Bool) → ltb i (length s) ≡ t → i ≡ r
+    go true l = omega (arith, rw (lead_stop (is_other sep) s i 0 (ltb-true i (length s) l) (ap not (eq-eqb _ sep q))) at e)
+    go false l = omega (arith, rw (lead-end (is_other sep) s i (ltb-false i (length s) l)) at e)
 
 pub passed : (s : List ℕ) (sep i r : ℕ) → i + up_to sep (drop i s) ≡ r → i < length s → (get_or s i 0 ≡ sep → ⊥) → i + 1 + up_to sep (drop (i + 1) s) ≡ r
 passed s sep i r e h q = omega (arith, rw (lead-more (is_other sep) s i 0 h (ap not (ne_eqb _ sep q))) at e)

@@ -22,6 +22,7 @@ fn nodes_with(text: &[u8], table: &[u32], n: usize, line: &[u8]) -> usize
 }
 
 // The line's fault, or that of the counts; 0 where there is none.
+#[tactic(auto, using(crate::proofs::Viewing::step_counts))]
 pub fn row_fault(text: &[u8], table: &[u32], n: usize, rows: usize, room: usize, line: &[u8]) -> u8
     requires { n * node_width ≤ length table.now }
     ensures { result ≡ row_fault (view text.now table.now n) rows room line.now }

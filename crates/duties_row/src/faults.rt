@@ -22,6 +22,7 @@ pub fn line_fault(line: &[u8]) -> u8
 }
 
 // By the rows before it and the nodes with its own.
+#[tactic(auto, using(crate::proofs::Testing::count_rows))]
 pub fn count_fault(line: &[u8], rows: usize, nodes: usize, room: usize) -> u8
     ensures { result ≡ count_fault line.now rows nodes room }
 {

@@ -153,7 +153,7 @@ pub fn raise_all(
     requires { Searching n m legs.old configurations.now constraints.now }
     ensures { Sorted n m legs.old configurations.now constraints.now result legs.new }
 {
-    let answer = loop {
+    let answer = 'rounds: loop {
         let passed = pass(legs, n, configurations, constraints, m);
         if is_never(passed) {
             break false;

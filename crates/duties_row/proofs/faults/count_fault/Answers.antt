@@ -1,10 +1,7 @@
 -- `duties_row::faults::count_fault` meets its contract: the first test that fails. Assumes nothing.
 use borrow.Author.Rules.{rules}
-use Rattle.duties_row.proofs.Testing.{count_rows, count_nodes, count_none, count_room, count_unknown}
+use Rattle.duties_row.proofs.Testing.{count_nodes, count_none, count_room, count_unknown}
 use Rattle.duties_row.proofs.faults.count_fault.Goals as goal
-
-pub returns-then-rows-ge-MOST : goal.returns-then-rows-ge-MOST
-returns-then-rows-ge-MOST c = search (count_rows, rules)
 
 pub returns-then-nodes-gt-MOST : goal.returns-then-nodes-gt-MOST
 returns-then-nodes-gt-MOST c = search (count_nodes, rules)

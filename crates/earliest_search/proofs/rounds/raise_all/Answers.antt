@@ -3,14 +3,14 @@ use borrow.Author.Rules.{rules}
 use Rattle.earliest_search.proofs.Passes.{raising_begins, raising_on, raising_less, raising_never, raising_ends}
 use Rattle.earliest_search.proofs.rounds.raise_all.Goals as goal
 
-pub loop-passed-init : goal.loop-passed-init
-loop-passed-init c = search (raising_begins, rules)
+pub rounds-init : goal.rounds-init
+rounds-init c = search (raising_begins, rules)
 
-pub loop-passed-smaller : goal.loop-passed-smaller
-loop-passed-smaller c = search (raising_less, rules)
+pub rounds-smaller : goal.rounds-smaller
+rounds-smaller c = search (raising_less, rules)
 
-pub loop-passed-preserved : goal.loop-passed-preserved
-loop-passed-preserved c = search (raising_on, rules)
+pub rounds-preserved : goal.rounds-preserved
+rounds-preserved c = search (raising_on, rules)
 
 pub returns-then-is_never : goal.returns-then-is_never
 returns-then-is_never c = search (raising_never, rules)

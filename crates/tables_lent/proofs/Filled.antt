@@ -1,6 +1,6 @@
 -- Tables are filled by their lengths: what stood in them before does not matter. Assumes nothing.
 use Prim.Native.Nat.{ℕ}
-use mathlib.Core.Path.{◌≡◌, refl, sym, ap, ◌∙◌}
+use mathlib.Core.Path.{◌≡◌, refl, ap, ◌∙◌}
 use mathlib.Core.Bool.{Bool, true, false, cond}
 use mathlib.Core.List.{List}
 use lib.ListN.{length, replicate}
@@ -40,14 +40,6 @@ decides true e f g = e ∙ f refl
 decides false e f g = e ∙ g refl
 
 module _ (a : Answer) where
-  -- b: whether it is a refusal, as the code has it
-  module _ (t : Tables) {b : Bool} (said : b ≡ is_refusal a) where
-    pub refusal_fills : b ≡ true → {u : Tables} → u ≡ filled_tables t → u ≡ tables_after a t
-    refusal_fills is e = e ∙ sym (ap (λ b. cond b (filled_tables t) t) (sym said ∙ is))
-
-    pub no_refusal_keeps : b ≡ false → t ≡ tables_after a t
-    no_refusal_keeps is = sym (ap (λ b. cond b (filled_tables t) t) (sym said ∙ is))
-
   pub tables_after_lem : (t : Tables) {t' t'' o : Tables} → SameLengths t' t → t'' ≡ tables_after a t' → (is_refusal a ≡ true → filled_tables t ≡ o) → (is_refusal a ≡ false → t' ≡ o)
       → t'' ≡ o
   tables_after_lem t {t'} same e f g = decides (is_refusal a) e (λ h. tables-filled_alike t' t same ∙ f h) g

@@ -1,4 +1,3 @@
-pub mod Quotient
 pub mod Tabulated
 pub mod Views
 pub mod Offers

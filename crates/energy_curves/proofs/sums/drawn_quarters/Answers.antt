@@ -15,12 +15,6 @@ overflow_mul-from c = omega (arith, row_there _ _ _ c.requires _ c.loop-s-test.t
 pub overflow_add-to : goal.overflow_add-to
 overflow_add-to c = omega (arith, row_there _ _ _ c.requires _ c.loop-s-test.true)
 
--- LEFT: slice-bounds-add-run-start
--- part-add-run-start c = omega (arith, row_there _ _ _ c.before.before.requires _ c.loop-test.true)
-
--- LEFT: slice-bounds-add-run-end
--- part-add-run-end c = omega (arith, row_there _ _ _ c.before.before.requires _ c.loop-test.true)
-
 pub add_run-more-requires : goal.add_run-more-requires
 add_run-more-requires c = search (row_room, rules)
 

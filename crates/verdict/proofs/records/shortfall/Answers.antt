@@ -4,14 +4,8 @@ use Rattle.verdict.proofs.Times.{time_fits}
 use Rattle.verdict.proofs.Inequalities.{no_first, no_second, by_latest, by_legs, by_least}
 use Rattle.verdict.proofs.records.shortfall.Goals as goal
 
--- LEFT: enum-known-a
--- enum-known-a c = search rules
-
 pub returns-in_default : goal.returns-in_default
 returns-in_default c = search (no_first, rules)
-
--- LEFT: enum-known-b
--- enum-known-b c = search rules
 
 pub returns-in_default-time_of : goal.returns-in_default-time_of
 returns-in_default-time_of c = search (no_second, rules)

@@ -5,7 +5,6 @@ use mathlib.Core.List.{List}
 use lib.IntN.{ℤ}
 use Rattle.rules.specs.Duties.{duties_checked}
 use Rattle.rules.specs.Promises.{ChecksDuties}
-use Rattle.rules.specs.declared.outcomes.Duties.{Duties}
 use Rattle.duties_theorems.specs.Outcomes.{Outcome}
 use Rattle.duties_theorems.proofs.Outcomes.{one_outcome}
 use Rattle.exports_numbers.specs.Duties.{told_numbers, duties_numbers}

@@ -1,7 +1,7 @@
 /*
  * Wagontulip for C: a checker for metro timetables and rolling stock duties whose answers are proved.
  *
- * Link the library's archive (x86-64 Linux), target/staticlib/libexports.a, which `host/build` writes: `rt lib` in crates/exports makes it. Of other
+ * Link the library's archive (x86-64 Linux), target/staticlib/libexports.a, which `host/build` writes: `rt lib` in crates/exports_c makes it. Of other
  * libraries the archive needs C's memcpy and memset alone.
  *
  *     LABEL, to be printed above every result: no violation shown is not no violation.

@@ -7,8 +7,7 @@ ghost use Rattle.exports_numbers.specs.Numbers.{row_numbers};
 use csv_lines::rows;
 use exports_numbers::{Numbers, answers};
 
-#[unsafe(no_mangle)]
-pub extern "C" fn wagontulip_row<'a>(
+pub fn wagontulip_row<'a>(
     draft: &'a [u8],
     solution: &'a [u8],
     file: u8,

@@ -6,13 +6,7 @@ ghost use Rattle.exports_numbers.specs.Exported.{Exported};
 use duties::entry;
 use exports_numbers::{Numbers, duties as numbers};
 
-#[unsafe(no_mangle)]
-pub extern "C" fn wagontulip_duties(
-    text: &[u8],
-    nodes: &mut [u32],
-    balance: &mut [i32],
-    answer: &mut Numbers,
-)
+pub fn wagontulip_duties(text: &[u8], nodes: &mut [u32], balance: &mut [i32], answer: &mut Numbers)
     ensures { Exported (λ r. ChecksDuties text.now nodes.old balance.old r nodes.new balance.new) duties_numbers answer.new }
 {
     let told = entry::check_duties(text, nodes, balance);

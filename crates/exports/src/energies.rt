@@ -9,8 +9,7 @@ use checker::energies;
 use exports_numbers::{Numbers, figures};
 use rules::stated::Stated;
 
-#[unsafe(no_mangle)]
-pub extern "C" fn wagontulip_energy(
+pub fn wagontulip_energy(
     h: u32,
     edition: u32,
     timetable: &[u8],

@@ -1,4 +1,4 @@
-// The entries for C, and the archive's whole surface. Each slice is a pointer and then its length; answers go to 24 lent numbers. The command and `host/replay` are linked to it.
+// The entries for C, whose answers go to 24 lent numbers. `exports_c` is the archive of them.
 #![tactic(auto)]
 
 pub mod verdicts; // wagontulip_check

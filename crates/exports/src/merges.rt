@@ -56,8 +56,7 @@ fn tell_merge(
     *answer = answers::of_merge(merged);
 }
 
-#[unsafe(no_mangle)]
-pub extern "C" fn wagontulip_merge_earlier(
+pub fn wagontulip_merge_earlier(
     h: u32,
     edition: u32,
     timetable: &[u8],
@@ -105,8 +104,7 @@ pub extern "C" fn wagontulip_merge_earlier(
     );
 }
 
-#[unsafe(no_mangle)]
-pub extern "C" fn wagontulip_merge_later(
+pub fn wagontulip_merge_later(
     h: u32,
     edition: u32,
     timetable: &[u8],

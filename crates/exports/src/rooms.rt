@@ -4,8 +4,7 @@ ghost use Rattle.exports_numbers.specs.Numbers.{room_numbers};
 
 use exports_numbers::{Numbers, rooms};
 
-#[unsafe(no_mangle)]
-pub extern "C" fn wagontulip_rooms(rooms: &mut Numbers)
+pub fn wagontulip_rooms(rooms: &mut Numbers)
     ensures { rooms.new ≡ room_numbers }
 {
     *rooms = rooms::at_limits();

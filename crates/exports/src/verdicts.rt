@@ -9,8 +9,7 @@ use checker::verdicts;
 use exports_numbers::{Numbers, answers};
 use rules::stated::Stated;
 
-#[unsafe(no_mangle)]
-pub extern "C" fn wagontulip_check(
+pub fn wagontulip_check(
     h: u32,
     edition: u32,
     timetable: &[u8],

@@ -3,6 +3,7 @@ use Prim.Native.Nat.{ℕ}
 use mathlib.Core.Path.{◌≡◌, refl, sym, ap, ◌∙◌}
 use mathlib.Core.List.{List}
 use lib.ListN.{length}
+use Rattle.std.specs.Prelude.{Some}
 use Rattle.rules.specs.Answers.{solution_file, Reading, refused, good}
 use Rattle.rules.specs.Reading.{Texts, files_of, choices_read}
 use Rattle.rules.specs.Entries.{Tables, Whole, rooms_of, written_tables, written_choices, all_read, checked}
@@ -102,5 +103,5 @@ module _ (S : Stated) (x : Texts) (s : List ℕ) (t : Tables) (c : List ℕ) whe
               (record {
                 answers = rw whole (ap (λ (r : Ruling). r.answer) (v ready));
                 tallies = rw whole (ap (λ (r : Ruling). r.tally) (v ready));
-                writes = λ w g. let same : record { files = filed.files; choices = picked.0 } ≡ w = cc (whole, g) in rw (← same) (tables_are, choices_are, filed.counted);
+                writes = λ w g. let same : record { files = filed.files; choices = picked.0 } ≡ w = cc (whole, g) in rw (← same) (tables_are, choices_are, ap Some filed.counted);
               })

@@ -15,7 +15,7 @@ use tables_lent::{Counts, Filed};
 pub struct Judged {
     pub answer: Answer,
     pub tally: Tally,
-    pub counts: Counts,
+    pub counts: Option<Counts>,
 }
 
 fn refused(refusal: Refusal) -> Judged
@@ -25,15 +25,7 @@ fn refused(refusal: Refusal) -> Judged
     Judged {
         answer: Answer::Refused(refusal),
         tally,
-        counts: Counts {
-            legs: 0,
-            configurations: 0,
-            profiles: 0,
-            samples: 0,
-            constraints: 0,
-            tracks: 0,
-            subnets: 0,
-        },
+        counts: None,
     }
 }
 
@@ -45,7 +37,7 @@ fn ruled(ruling: Ruling, counts: Counts) -> Judged
     Judged {
         answer,
         tally,
-        counts,
+        counts: Some(counts),
     }
 }
 

@@ -24,10 +24,9 @@ use Rattle.rules_theorems.proofs.Documents.{good_is_lawful}
 use Rattle.tables_ids.specs.Column.{Records, Apart, Rising, column}
 use Rattle.constraints_states.specs.declared.Counts.{Counts}
 use Rattle.rules.proofs.Lists.{flat-length, over-length}
-use Rattle.constraints.specs.declared.walks.Walked.{Walked}
-use Rattle.constraints.specs.declared.walks.Walked.TheVariants.{Good, Refused}
-use Rattle.constraints.specs.declared.Read.TheVariants.{Whole, Refused as NotRead}
-use Rattle.constraints_states.specs.Steps.{counts_of}
+use Rattle.constraints_states.specs.declared.Fault.{Fault}
+use Rattle.constraints_states.specs.Steps.{counts_of, fault_at}
+use Rattle.std.proofs.Common.{Result, Ok, Err}
 use Rattle.constraints_tables.specs.Places.{nexts, Upward, before_last, starts_of}
 use Rattle.constraints_tables.proofs.Places.{constraint_long}
 use Rattle.constraints_tables.proofs.InOrder.{upward_ordered}
@@ -44,8 +43,8 @@ over_again : (w v t : List ℕ) → length v ≡ length w → over v (over w t) 
 unfolding over
 over_again w v t e = rw (e, drop-append_seam w (drop (length w) t))
 
-never : {A : Type 0} (r : Walked) (number place : ℕ) (seen : Counts) → r ≡ Refused number place → r ≡ Good seen → A
-never r number place seen p q = let z : ◌≡◌ {A = ℕ} 0 1 = cc in absurd (omega arith)
+never : {A : Type 0} (r : Result Counts Fault) (f : Fault) (seen : Counts) → r ≡ Err f → r ≡ Ok seen → A
+never r f seen p q = let z : ◌≡◌ {A = ℕ} 0 1 = cc in absurd (omega arith)
 
 read_one : {x y : Document} → good x ≡ good y → x ≡ y
 read_one q = cc
@@ -53,11 +52,11 @@ read_one q = cc
 module _ (rules : Rules) (text legs : List ℕ) (n : ℕ) (c t : List ℕ) where
   -- ---- a text that is too long
 
-  pub reads_long : most_text < length text → Reads (reading rules text legs n c t) c t (NotRead too_long 0) c t
+  pub reads_long : (f : Fault) → f ≡ fault_at too_long 0 → most_text < length text → Reads (reading rules text legs n c t) c t (Err f) c t
   unfolding constraints_of
-  reads_long h =
+  reads_long f is h =
       let whole : reading rules text legs n c t ≡ refused (refusal too_long constraints_file 0) = rw (lt-leb (length text) most_text h) in
-      record { answer = sym (ap read_of whole); tables = λ d e. impossible (sym whole ∙ e) }
+      record { answer = ap Err is ∙ sym (ap read_of whole); tables = λ d e. impossible (sym whole ∙ e) }
     where
       impossible : {A : Type 0} {d : Document} → refused (refusal too_long constraints_file 0) ≡ good d → A
       impossible q = let z : ◌≡◌ {A = ℕ} 0 1 = cc in absurd (omega arith)
@@ -107,14 +106,14 @@ module _ (rules : Rules) (text legs : List ℕ) (n : ℕ) (c t : List ℕ) where
       same_size = size (ordered d.constraints) ∙ ap (λ (n : ℕ). n * constraint_width) (ordered-length d.constraints known) ∙ sym (size d.constraints)
 
       -- one walk is enough where they stand by kind
-      once : (r : Walked) (counts c₁ t₁ : List ℕ) → Filled none false d c t r counts c₁ t₁ → Upward (length d.constraints) c₁ → Tables d c t c₁ t₁
+      once : (r : Result Counts Fault) (counts c₁ t₁ : List ℕ) → Filled none false d c t r counts c₁ t₁ → Upward (length d.constraints) c₁ → Tables d c t c₁ t₁
       once r counts c₁ t₁ f up =
           record {
             by_kind = f.table ∙ ap (λ (cs : List Constraint). over (flat constraint_numbers cs) c) (sym (upward_ordered d.constraints c c₁ known f.table up));
             by_file = f.tracks;
           }
 
-      both : (r r₂ : Walked) (counts c₁ t₁ next c₂ t₂ : List ℕ) → Filled none false d c t r counts c₁ t₁
+      both : (r r₂ : Result Counts Fault) (counts c₁ t₁ next c₂ t₂ : List ℕ) → Filled none false d c t r counts c₁ t₁
           → Filled (starts_of counts) true d c₁ t₁ r₂ next c₂ t₂ → Tables d c t c₂ t₂
       both r r₂ counts c₁ t₁ next c₂ t₂ f g =
           record {
@@ -124,24 +123,24 @@ module _ (rules : Rules) (text legs : List ℕ) (n : ℕ) (c t : List ℕ) where
 
     -- ---- the first walk
 
-    module _ (r : Walked) (counts c₁ t₁ : List ℕ) (w : Walks none false (outcome rules text legs n c t) c t r counts c₁ t₁) where
-      pub reads_refused : (number place : ℕ) → r ≡ Refused number place → Reads (reading rules text legs n c t) c t (NotRead number place) c₁ t₁
+    module _ (r : Result Counts Fault) (counts c₁ t₁ : List ℕ) (w : Walks none false (outcome rules text legs n c t) c t r counts c₁ t₁) where
+      pub reads_refused : (f : Fault) → r ≡ Err f → Reads (reading rules text legs n c t) c t (Err f) c₁ t₁
       unfolding Walks
-      reads_refused number place is = rw same (go (outcome rules text legs n c t) w)
+      reads_refused f is = rw same (go (outcome rules text legs n c t) w)
         where
-          go : (o : Reading Document) → Walks none false o c t r counts c₁ t₁ → Reads o c t (NotRead number place) c₁ t₁
+          go : (o : Reading Document) → Walks none false o c t r counts c₁ t₁ → Reads o c t (Err f) c₁ t₁
           go (refused x) q =
               record { answer = cc (q, is); tables = λ d e. let z : ◌≡◌ {A = ℕ} 0 1 = cc in absurd (omega arith) }
-          go (good d) q = never r number place (counts_of d) is q.answer
+          go (good d) q = never r f (counts_of d) is q.answer
 
-      module _ (seen : Counts) (is : r ≡ Good seen) where
+      module _ (seen : Counts) (is : r ≡ Ok seen) where
         pub few_counted : before_last counts ≤ most_constraints
         unfolding Walks
         few_counted = go (outcome rules text legs n c t) refl w
           where
             go : (o : Reading Document) → outcome rules text legs n c t ≡ o → Walks none false o c t r counts c₁ t₁
                 → before_last counts ≤ most_constraints
-            go (refused x) e q = never r x.number x.place seen q is
+            go (refused x) e q = never r (fault_at x.number x.place) seen q is
             go (good d) e q = few d e counts q.places
 
         -- ---- which is enough
@@ -151,31 +150,31 @@ module _ (rules : Rules) (text legs : List ℕ) (n : ℕ) (c t : List ℕ) where
         long_enough long-c = go (outcome rules text legs n c t) refl w
           where
             go : (o : Reading Document) → outcome rules text legs n c t ≡ o → Walks none false o c t r counts c₁ t₁ → Records constraint_width seen.constraints c₁
-            go (refused x) e q = never r x.number x.place seen q is
+            go (refused x) e q = never r (fault_at x.number x.place) seen q is
             go (good d) e q =
                 let seen-is : seen ≡ counts_of d = cc (q.answer, is) in
                 record { one = omega arith; whole = rw seen-is (omega (arith, room d e)) }
 
-        pub reads_once : Upward seen.constraints c₁ → Reads (reading rules text legs n c t) c t (Whole seen.constraints seen.tracks seen.subnets) c₁ t₁
+        pub reads_once : Upward seen.constraints c₁ → Reads (reading rules text legs n c t) c t (Ok seen) c₁ t₁
         unfolding Walks
         reads_once up = rw same (go (outcome rules text legs n c t) refl w)
           where
             go : (o : Reading Document) → outcome rules text legs n c t ≡ o → Walks none false o c t r counts c₁ t₁
-                → Reads o c t (Whole seen.constraints seen.tracks seen.subnets) c₁ t₁
-            go (refused x) e p = never r x.number x.place seen p is
+                → Reads o c t (Ok seen) c₁ t₁
+            go (refused x) e p = never r (fault_at x.number x.place) seen p is
             go (good d) e p =
                 let seen-is : seen ≡ counts_of d = cc (p.answer, is) in
                 let up' : Upward (length d.constraints) c₁ = subst (λ (x : Counts). Upward x.constraints c₁) seen-is up in
                 record {
-                  answer = ap (λ (x : Counts). Whole x.constraints x.tracks x.subnets) seen-is;
+                  answer = ap Ok seen-is;
                   tables = λ d' g. subst (λ (x : Document). Tables x c t c₁ t₁) (read_one g) (once d e r counts c₁ t₁ p up');
                 }
 
         -- ---- and the second
 
-        pub reads_whole : (starts : List ℕ) (r₂ : Walked) (next c₂ t₂ : List ℕ) → starts ≡ starts_of counts → length c₁ ≡ length c → length t₁ ≡ length t
+        pub reads_whole : (starts : List ℕ) (r₂ : Result Counts Fault) (next c₂ t₂ : List ℕ) → starts ≡ starts_of counts → length c₁ ≡ length c → length t₁ ≡ length t
             → Walks starts true (outcome rules text legs n c₁ t₁) c₁ t₁ r₂ next c₂ t₂
-            → Reads (reading rules text legs n c t) c t (Whole seen.constraints seen.tracks seen.subnets) c₂ t₂
+            → Reads (reading rules text legs n c t) c t r₂ c₂ t₂
         unfolding Walks
         reads_whole starts r₂ next c₂ t₂ at long-c long-t second = rw same (go (outcome rules text legs n c t) refl w again)
           where
@@ -186,12 +185,11 @@ module _ (rules : Rules) (text legs : List ℕ) (n : ℕ) (c t : List ℕ) where
                 (subst (λ (l : List ℕ). Walks l true (outcome rules text legs n c₁ t₁) c₁ t₁ r₂ next c₂ t₂) at second))
 
             go : (o : Reading Document) → outcome rules text legs n c t ≡ o → Walks none false o c t r counts c₁ t₁
-                → Walks (starts_of counts) true o c₁ t₁ r₂ next c₂ t₂ → Reads o c t (Whole seen.constraints seen.tracks seen.subnets) c₂ t₂
-            go (refused x) e p q = never r x.number x.place seen p is
+                → Walks (starts_of counts) true o c₁ t₁ r₂ next c₂ t₂ → Reads o c t r₂ c₂ t₂
+            go (refused x) e p q = never r (fault_at x.number x.place) seen p is
             go (good d) e p q =
-                let seen-is : seen ≡ counts_of d = cc (p.answer, is) in
                 record {
-                  answer = ap (λ (x : Counts). Whole x.constraints x.tracks x.subnets) seen-is;
+                  answer = q.answer;
                   tables = λ d' g. subst (λ (x : Document). Tables x c t c₂ t₂) (read_one g) (both d e r r₂ counts c₁ t₁ next c₂ t₂ p q);
                 }
 

@@ -31,9 +31,8 @@ pub fn name(ids: &mut [u32], count: &mut usize, id: u32, after: State) -> State
     requires { count.old < length ids.old }
     ensures { (ids.new ≡ set ids.old count.old id) × (count.new ≡ count.old + 1) × (result ≡ after) }
 {
-    let k = *count;
-    ids[k] = id;
-    *count = k + 1;
+    ids[*count] = id;
+    *count += 1;
     after
 }
 

@@ -6,24 +6,16 @@ ghost use Rattle.rules.specs.Limits.{leg_width, most_legs};
 ghost use Rattle.tables_ids.specs.Column.{Apart};
 ghost use Rattle.constraints.specs.Tables.{reading, Reads};
 
+use constraints_states::{Counts, Fault};
 use constraints_tables::{PLACES, in_order, starts_of};
 use rules::answers::Refusal;
 use rules::sizes::{Leg, Text};
 use rules::tokens::Rules;
 use tables_ids::rising_of;
-use walks::{Walked, walk};
+use walks::walk;
 
 pub mod effects; // what a step has for a table
 pub mod walks; // the whole text
-
-// What a reading comes to.
-#[derive(Clone, Copy)]
-pub enum Read {
-    // How many constraints, tracks and subnets.
-    Whole(usize, usize, usize),
-    // A number and a place.
-    Refused(u8, u32),
-}
 
 // The first walk judges the text, writes tracks and constraints as they come and counts those of each kind.
 // Files mostly have them by kind; where a file does not, a second walk sorts them.
@@ -34,16 +26,16 @@ pub fn read_constraints(
     n: usize,
     constraints: &mut [u32],
     tracks: &mut [u32],
-) -> Read
+) -> Result<Counts, Fault>
     requires { Apart leg_width n legs.now × (n ≤ most_legs) }
     ensures { Reads (reading rules text.now legs.now n constraints.old tracks.old) constraints.old tracks.old result constraints.new tracks.new }
 {
     if Text::MOST < text.len() {
-        return Read::Refused(Refusal::TOO_LONG, 0);
+        return Err(Fault::new(Refusal::TOO_LONG, 0));
     }
     let rising = rising_of(legs, Leg::WIDTH, n);
     let mut counts = [0usize; PLACES];
-    match walk(
+    let seen = walk(
         rules,
         text,
         legs,
@@ -53,26 +45,20 @@ pub fn read_constraints(
         tracks,
         &mut counts,
         false,
-    ) {
-        Walked::Refused(number, place) => Read::Refused(number, place),
-        Walked::Good(seen) => {
-            let read = seen.constraints;
-            if in_order(&constraints[..], read) {
-                return Read::Whole(read, seen.tracks, seen.subnets);
-            }
-            let mut next = starts_of(counts);
-            walk(
-                rules,
-                text,
-                legs,
-                n,
-                rising,
-                constraints,
-                tracks,
-                &mut next,
-                true,
-            );
-            Read::Whole(seen.constraints, seen.tracks, seen.subnets)
-        }
+    )?;
+    if in_order(&constraints[..], seen.constraints) {
+        return Ok(seen);
     }
+    let mut next = starts_of(counts);
+    walk(
+        rules,
+        text,
+        legs,
+        n,
+        rising,
+        constraints,
+        tracks,
+        &mut next,
+        true,
+    )
 }

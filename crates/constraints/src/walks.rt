@@ -3,18 +3,11 @@ ghost use Rattle.constraints.specs.Tables.{Able, outcome, Walks};
 
 use crate::effects::{emit, list, name};
 use constraints_states::states::starting;
-use constraints_states::{Counts, Room, Step};
+use constraints_states::{Counts, Fault, Room, Step};
 use constraints_tokens::token_at;
 use constraints_turn::turn;
 use rules::sizes::Subnet;
 use rules::tokens::Rules;
-
-#[derive(Clone, Copy)]
-pub enum Walked {
-    Good(Counts),
-    // A number and a place.
-    Refused(u8, u32),
-}
 
 // Tracks are written as they come, and so are constraints; in a walk that sorts, each constraint at the next place of its kind.
 pub fn walk(
@@ -27,7 +20,7 @@ pub fn walk(
     tracks: &mut [u32],
     next: &mut [usize],
     sorts: bool,
-) -> Walked
+) -> Result<Counts, Fault>
     requires { Able text.now legs.now n rising next.old }
     ensures { Walks next.old sorts (outcome rules text.now legs.now n constraints.old tracks.old)
         constraints.old tracks.old result next.new constraints.new tracks.new }
@@ -37,20 +30,10 @@ pub fn walk(
     let mut ids = [0u32; Subnet::MOST];
     let mut st = starting(rules);
     let mut at: usize = 0;
+    // Kept (no plainer): a token's end says where the next is looked for, which no range does.
     loop {
         let t = token_at(text, at);
-        let step = turn(
-            text,
-            legs,
-            n,
-            rising,
-            &tracks[..],
-            &ids[..],
-            seen,
-            room,
-            st,
-            t,
-        );
+        let step = turn(legs, n, rising, &tracks[..], &ids[..], seen, room, st, t)?;
         at = t.next as usize;
         match step {
             Step::On(after) => st = after,
@@ -61,8 +44,7 @@ pub fn walk(
             }
             Step::Named(after, id) => st = name(&mut ids, &mut seen.ids, id, after),
             Step::Listed(after, id) => st = list(tracks, seen.subnets, &mut seen.tracks, id, after),
-            Step::Finish(_) => return Walked::Good(seen),
-            Step::Fault(number, place) => return Walked::Refused(number, place),
+            Step::Finish(_) => return Ok(seen),
         }
     }
 }

@@ -1,42 +1,61 @@
 -- What a step of the code does to a document, so that it is a turn of ../../rules/specs/Constraints.antt; and what the code knows of the document.
-use Rattle.std.specs.Prelude.{ℕ, ◌≤◌, ◌≡◌, List, length}
+use Rattle.std.specs.Prelude.{ℕ, ◌≤◌, ◌≡◌, List, length, Result, Ok, Err}
 use Rattle.rules.specs.Limits.{most_legs, leg_width, track_width}
+use Rattle.rules.specs.Answers.{bad_json, out_of_range}
 use Rattle.rules.specs.Bytes.{whole_of}
 use Rattle.rules.specs.Tokens.{Token}
 use Rattle.rules.specs.Constraints.{Document, with_constraint, with_subnet, with_id, with_track, Turn, fault, on, finish}
 use Rattle.text_read.specs.Held.{whole_held}
 use Rattle.text_read.specs.declared.numbers.Whole.{Whole}
+use Rattle.text_read.specs.declared.numbers.Whole.TheVariants.{Number, Beyond, Malformed}
 use Rattle.constraints_tokens.specs.declared.Token.{Token as Found}
 use Rattle.tables_ids.specs.Column.{Records, Sought, column, track_ids_of}
 use Rattle.constraints_states.specs.declared.Step.{Step}
-use Rattle.constraints_states.specs.declared.Step.TheVariants.{On, Emit, Opened, Named, Listed, Finish, Fault}
+use Rattle.constraints_states.specs.declared.Step.TheVariants.{On, Emit, Opened, Named, Listed, Finish}
+use Rattle.constraints_states.specs.declared.Fault.{Fault}
 use Rattle.constraints_states.specs.declared.Counts.{Counts}
 
 -- ---- what a step does
 
-abbrev pub turned : Step → Document → Turn
-turned (On st) d = on st d
-turned (Emit st) d = on st (with_constraint st.entry d)
-turned (Opened st) d = on st (with_subnet d)
-turned (Named st id) d = on st (with_id id d)
-turned (Listed st id) d = on st (with_track id d)
-turned (Finish st) d = finish st d
-turned (Fault n p) d = fault n p
+abbrev pub stepped : Step → Document → Turn
+stepped (On st) d = on st d
+stepped (Emit st) d = on st (with_constraint st.entry d)
+stepped (Opened st) d = on st (with_subnet d)
+stepped (Named st id) d = on st (with_id id d)
+stepped (Listed st id) d = on st (with_track id d)
+stepped (Finish st) d = finish st d
+
+-- a step, or a refusal by its number, which lies at a place
+abbrev pub turned : (place : ℕ) → Result Step ℕ → Document → Turn
+turned place (Ok step) d = stepped step d
+turned place (Err number) d = fault number place
+
+-- a step, or a refusal that says its place itself
+abbrev pub told : Result Step Fault → Document → Turn
+told (Ok step) d = stepped step d
+told (Err f) d = fault f.number f.place
+
+abbrev pub fault_at : (number place : ℕ) → Fault
+fault_at number place = record { number = number; place = place }
 
 -- ---- an action by what it needs to know: the legs, the lent room, the document, the token
 
 abbrev pub Acts : Type 0
 Acts = List ℕ → (constraints tracks : ℕ) → Document → Token → Turn
 
--- a step is that action at a place, whatever the rest is
-abbrev pub Always : (place : ℕ) → Acts → Step → Type 0
-Always place acts r =
-    (legs : List ℕ) (constraints tracks : ℕ) (d : Document) (t : Token) → t.place ≡ place → turned r d ≡ acts legs constraints tracks d t
+-- a step is that action, whatever the rest is
+abbrev pub Always : Acts → Result Step ℕ → Type 0
+Always acts r = (legs : List ℕ) (constraints tracks : ℕ) (d : Document) (t : Token) → turned t.place r d ≡ acts legs constraints tracks d t
 
--- a token at a place whose word was read as a number
-pub record Says (t : Token) (place : ℕ) (n : Whole) : Type 0 where
-  pub at : t.place ≡ place
-  pub number : n ≡ whole_held (whole_of t.word)
+-- a token whose word was read as a number
+abbrev pub Says : Token → Whole → Type 0
+Says t n = n ≡ whole_held (whole_of t.word)
+
+-- the number, or the number of the refusal
+abbrev pub said : Whole → Result ℕ ℕ
+said (Number n) = Ok n
+said Beyond = Err out_of_range
+said Malformed = Err bad_json
 
 -- ---- what the code holds of the document: how many records, the ids of tracks and subnets
 
@@ -53,12 +72,10 @@ pub record Tied (c : Counts) (tracks ids : List ℕ) (d : Document) : Type 0 whe
   pub tracks_held : column track_width c.tracks tracks ≡ track_ids_of d.tracks
   pub ids_held : column id_width c.ids ids ≡ d.ids
 
--- the tables are long enough for what is said to be in them, the legs can be looked up, and the token lies in the text
-pub record Ready (text legs : List ℕ) (n rising : ℕ) (tracks ids : List ℕ) (c : Counts) (t : Found) : Type 0 where
+-- the tables are long enough for what is said to be in them, the legs can be looked up, and the token does not end before it starts
+pub record Ready (legs : List ℕ) (n rising : ℕ) (tracks ids : List ℕ) (c : Counts) (t : Found) : Type 0 where
   pub legs_there : Sought leg_width n rising legs
   pub few_legs : n ≤ most_legs
   pub tracks_there : Records track_width c.tracks tracks
   pub ids_there : Records id_width c.ids ids
-  pub word_starts : t.from ≤ t.end
-  pub word_ends : t.end ≤ length text
   pub starts : t.place ≤ t.next

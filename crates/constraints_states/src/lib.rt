@@ -4,7 +4,7 @@
 ghost use Rattle.std.specs.Prelude.{◌≡◌, ◌/◌};
 ghost use Rattle.rules.specs.Limits.{constraint_width, track_width};
 ghost use Rattle.rules.specs.Constraints as law;
-ghost use Rattle.constraints_states.specs.Steps.{counts_of};
+ghost use Rattle.constraints_states.specs.Steps.{counts_of, fault_at};
 
 use rules::sizes::{Constraint, Track};
 use rules::tokens::State;
@@ -13,7 +13,7 @@ pub mod states; // the first state, and the state after it
 pub mod values; // strings and numbers
 pub mod tracks; // the tracks of a subnet
 
-// What a token leads to.
+// What a token leads to, where it is not at fault.
 #[derive(Clone, Copy)]
 pub enum Step {
     // On, with nothing for a table.
@@ -25,8 +25,21 @@ pub enum Step {
     Named(State, u32),
     Listed(State, u32),
     Finish(State),
-    // A number and a place.
-    Fault(u8, u32),
+}
+
+// What a text is refused for: the refusal's number, and the place.
+#[derive(Clone, Copy)]
+pub struct Fault {
+    pub number: u8,
+    pub place: u32,
+}
+
+impl Fault {
+    pub fn new(number: u8, place: u32) -> Fault
+        ensures { result ≡ fault_at number place }
+    {
+        Fault { number, place }
+    }
 }
 
 // How much has been read: constraints, tracks, subnets that were opened, and ids of subnets.

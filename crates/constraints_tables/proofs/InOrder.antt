@@ -1,5 +1,5 @@
 -- Constraints of which none is of a lower kind than the one before it stand by kind and then by file as they are. Assumes nothing.
-use Prim.Native.Nat.{ℕ, zero, suc, ◌+◌, ◌*◌, ◌-◌, ◌≤◌, ◌<◌}
+use Prim.Native.Nat.{ℕ, zero, suc, ◌+◌, ◌≤◌, ◌<◌}
 use mathlib.Core.Path.{◌≡◌, refl, ap, ◌∙◌}
 use mathlib.Core.List.{List, [], ◌∷◌, map}
 use native.Mathlib.Omega.{arith}
@@ -15,7 +15,6 @@ use Rattle.rules.proofs.Truth.{all_map}
 use Rattle.rules_theorems.proofs.Ordered.{OfKind}
 use Rattle.tables_ids.specs.Column.{column}
 use Rattle.tables_ids.proofs.Column.{column-length, column-at}
-use Rattle.tables_ids.proofs.Rises.{steps_more}
 use Rattle.tables_ids.proofs.Written.{column-written}
 use Rattle.constraints_tables.specs.Places.{Upward}
 use Rattle.constraints_tables.proofs.Places.{constraint_long}
@@ -84,15 +83,3 @@ all_stay (c ∷ cs) known up =
 
 pub upward_ordered : (cs : List Constraint) (t table : List ℕ) → All OfKind cs → table ≡ over (flat constraint_numbers cs) t → Upward (length cs) table → ordered cs ≡ cs
 upward_ordered cs t table known is up = all_stay cs known (kinds_up cs t table is up)
-
--- ---- the loop: so far none is of a lower kind than the one before it
-
-pub upward_one : (table : List ℕ) → Upward 1 table
-upward_one table i h = absurd (omega arith)
-
-pub upward_more : (i : ℕ) (table : List ℕ) → Upward i table → 1 ≤ i → get_or table ((i - 1) * constraint_width) 0 ≤ get_or table (i * constraint_width) 0 → Upward (i + 1) table
-upward_more i table u one up =
-    steps_more (λ a b. get_or table (a * constraint_width) 0 ≤ get_or table (b * constraint_width) 0) i u one up
-
-pub upward_all : (i n : ℕ) (table : List ℕ) → Upward i table → n ≤ i → Upward n table
-upward_all i n table u h j k = u j (omega arith)

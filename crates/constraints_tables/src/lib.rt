@@ -24,10 +24,8 @@ fn put_numbers(table: &mut [u32], place: usize, numbers: &[u32])
     requires { place ≤ last_place }
     ensures { table.new ≡ sets table.old place numbers.now }
 {
-    let mut k = 0;
-    while k < numbers.len() {
-        put_number(table, place + k, numbers[k]);
-        k += 1;
+    for (k, n) in numbers.iter().enumerate() {
+        put_number(table, place + k, *n);
     }
 }
 
@@ -51,11 +49,7 @@ pub fn put_track(table: &mut [u32], place: usize, id: u32, subnet: u32)
 fn next_of(next: &[usize], kind: u32) -> usize
     ensures { result ≡ get_or next.now kind 0 }
 {
-    let k = kind as usize;
-    if k < next.len() {
-        return next[k];
-    }
-    0
+    next.get(kind as usize).copied().unwrap_or(0)
 }
 
 // That place is taken.
@@ -65,7 +59,7 @@ fn bump(next: &mut [usize], kind: u32)
 {
     let k = kind as usize;
     if k < next.len() {
-        next[k] = next[k] + 1;
+        next[k] += 1;
     }
 }
 
@@ -73,10 +67,7 @@ fn bump(next: &mut [usize], kind: u32)
 fn place_of(sorts: bool, next: &[usize], kind: u32, count: usize) -> usize
     ensures { result ≡ cond sorts (get_or next.now kind 0) count }
 {
-    if sorts {
-        return next_of(next, kind);
-    }
-    count
+    if sorts { next_of(next, kind) } else { count }
 }
 
 // A constraint goes there, and the next place of its kind is taken.
@@ -94,12 +85,10 @@ pub fn in_order(table: &[u32], n: usize) -> bool
     requires { Records constraint_width n table.now }
     ensures { result ≡ true → Upward n table.now }
 {
-    let mut i = 1;
-    while i < n {
+    for i in 1..n {
         if table[i * Constraint::WIDTH] < table[(i - 1) * Constraint::WIDTH] {
             return false;
         }
-        i += 1;
     }
     true
 }

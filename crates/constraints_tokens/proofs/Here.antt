@@ -7,7 +7,7 @@ use mathlib.Core.Option.{Option, none, some}
 use native.Mathlib.Omega.{arith}
 use native.Mathlib.Numerals.{add-one}
 use lib.Dec.{eqb}
-use lib.ListN.{length, get_or, take, drop, drop_of_length-le}
+use lib.ListN.{length, get_or, drop, drop_of_length-le}
 use lib.Seq.{drop-cons}
 use borrow.Author.Tests.{eq-eqb, ne_eqb}
 use Rattle.rules.specs.Limits.{most_text}
@@ -17,31 +17,25 @@ use Rattle.rules.specs.declared.tokens.Class.{Class}
 use Rattle.rules.specs.declared.tokens.Class.TheVariants.{Quoted, Run, End, Unclosed, Forbidden}
 use Rattle.rules.proofs.TokenLaws.{token_of, token-at, token_within, end-at, quoted-token, forbidden_token, unclosed_token, sign_token_lem, run-token}
 use Rattle.text_read.proofs.Runs.{lead-more}
-use Rattle.constraints_tokens.specs.declared.Token.{Token as Found}
-use Rattle.constraints_tokens.specs.Seen.{part, found, is_end, sign_or, Seen, Black, Skipped}
+use Rattle.constraints_tokens.specs.Seen.{part, is_end, sign_or, Stands, Black, Skipped}
 use Rattle.constraints_tokens.proofs.Scan.{scanned, scan_within, scan_rest}
 
 -- ---- a token that was found starts at its place and is not the end
 
-module _ (s : List ℕ) (at : ℕ) (h : Black s at) (t : Found) where
+module _ (s : List ℕ) (at : ℕ) (h : Black s at) (c : Class) (w : List ℕ) (next : ℕ) where
   -- what the code has to show of it
   pub record Right : Type 0 where
-    pub token : token_of s at ≡ found s t
-    pub place : t.place ≡ at
-    pub inner : is_end t.class ≡ false
-    pub word_starts : t.from ≤ t.end
-    pub word_ends : t.end ≤ length s
-    pub onward : at < t.next
-    pub within : t.next ≤ length s
+    pub token : token_of s at ≡ token c w at (next - at)
+    pub inner : is_end c ≡ false
+    pub onward : at < next
+    pub within : next ≤ length s
 
-  seen : Right → Seen s at t
+  seen : Right → Stands s at c w at next
   seen r =
-      let size : at + (t.next - t.place) ≡ t.next = omega (arith, r.place, r.onward) in
+      let size : at + (next - at) ≡ next = omega (arith, r.onward) in
       record {
         tokens = token-at s at h.here h.black ∙ rw (r.token, r.inner, size);
-        word_starts = r.word_starts;
-        word_ends = r.word_ends;
-        starts = omega (arith, r.place, r.onward);
+        starts = omega (arith, r.onward);
         onward = λ e. r.onward;
         within = r.within;
       }
@@ -73,31 +67,28 @@ module _ (s : List ℕ) (at e : ℕ) (h : Black s at) (opens : get_or s at 0 ≡
   -- a string of a class that is n bytes long but for its word: an opening quote, and a closing one where it is closed
   string_seen : (c : Class) (n next : ℕ) → is_end c ≡ false → 1 ≤ n → e + n ≡ next + 1 → next ≤ length s
       → token_of s at ≡ token c (lead in_string (drop (suc at) s)) at (length (lead in_string (drop (suc at) s)) + n)
-      → Seen s at record { class = c; place = at; next = next; from = at + 1; end = e }
+      → Stands s at c (part s (at + 1) e) at next
   string_seen c n next inner more ends within is =
       let size : length (lead in_string (drop (suc at) s)) + n ≡ next - at = omega (arith, from) in
-      seen s at h record { class = c; place = at; next = next; from = at + 1; end = e }
+      seen s at h c (part s (at + 1) e) next
       record {
         token = is ∙ rw (size, word);
-        place = refl;
         inner = inner;
-        word_starts = omega (arith, from);
-        word_ends = inside;
         onward = omega (arith, from);
         within = within;
       }
 
-  pub unclosed_seen : length s ≤ e → Seen s at record { class = Unclosed; place = at; next = e; from = at + 1; end = e }
+  pub unclosed_seen : length s ≤ e → Stands s at Unclosed (part s (at + 1) e) at e
   unclosed_seen l =
       string_seen Unclosed 1 e refl (omega arith) refl inside
       (unclosed_token at (get_or s at 0) (drop (suc at) s) opening (rest ∙ drop_of_length-le s l))
 
-  pub forbidden_seen : e < length s → (get_or s e 0 ≡ quote → ⊥) → Seen s at record { class = Forbidden; place = at; next = e; from = at + 1; end = e }
+  pub forbidden_seen : e < length s → (get_or s e 0 ≡ quote → ⊥) → Stands s at Forbidden (part s (at + 1) e) at e
   forbidden_seen l other =
       string_seen Forbidden 1 e refl (omega arith) refl inside
       (forbidden_token at (get_or s at 0) (drop (suc at) s) (get_or s e 0) (drop (suc e) s) opening (rest ∙ drop-cons s e 0 l) (ne_eqb _ _ other))
 
-  pub quoted_seen : e < length s → get_or s e 0 ≡ quote → Seen s at record { class = Quoted; place = at; next = e + 1; from = at + 1; end = e }
+  pub quoted_seen : e < length s → get_or s e 0 ≡ quote → Stands s at Quoted (part s (at + 1) e) at (e + 1)
   quoted_seen l closes =
       string_seen Quoted 2 (e + 1) refl (omega arith) (omega arith) (omega arith)
       (quoted-token at (get_or s at 0) (drop (suc at) s) (get_or s e 0) (drop (suc e) s) opening (rest ∙ drop-cons s e 0 l) (eq-eqb _ _ closes))
@@ -120,36 +111,29 @@ module _ (s : List ℕ) (at : ℕ) (h : Black s at) (other : get_or s at 0 ≡ q
   unquoted : eqb (get_or s at 0) quote ≡ false
   unquoted = ne_eqb _ _ other
 
-  pub run_seen : t ≡ true → (e : ℕ) → e ≡ at + length (lead in_run (drop at s)) → Seen s at record { class = Run; place = at; next = e; from = at; end = e }
+  pub run_seen : t ≡ true → (e : ℕ) → e ≡ at + length (lead in_run (drop at s)) → Stands s at Run (part s at e) at e
   run_seen is e ends =
       let none_there : sign_of (get_or s at 0) ≡ none = unsigned (is_white (get_or s at 0)) (eqb (get_or s at 0) quote) (sign_of (get_or s at 0)) (sym q ∙ is) in
       let first : lead in_run (drop at s) ≡ get_or s at 0 ∷ lead in_run (drop (suc at) s) = rw (add-one at) at (lead-more in_run s at 0 h.here (sym q ∙ is)) in
       let size : length (lead in_run (drop at s)) ≡ e - at = omega arith in
-      seen s at h record { class = Run; place = at; next = e; from = at; end = e }
+      seen s at h Run (part s at e) e
       record {
         token = run-token at (get_or s at 0) (drop (suc at) s) h.black unquoted none_there ∙ ap (run_token at) (sym first) ∙ rw (size, ← scanned in_run s at e ends);
-        place = refl;
         inner = refl;
-        word_starts = omega arith;
-        word_ends = scan_within in_run s at e ends (omega (arith, h.here));
         onward = omega (arith, ap length first);
         within = scan_within in_run s at e ends (omega (arith, h.here));
       }
 
-  pub sign_seen : t ≡ false → (c : Class) → c ≡ sign_or (sign_of (get_or s at 0)) → Seen s at record { class = c; place = at; next = at + 1; from = at; end = at }
+  pub sign_seen : t ≡ false → (c : Class) → c ≡ sign_or (sign_of (get_or s at 0)) → Stands s at c [] at (at + 1)
   sign_seen is c sign =
       let there : sign_of (get_or s at 0) ≡ some c =
       signed (is_white (get_or s at 0)) (eqb (get_or s at 0) quote) (sign_of (get_or s at 0)) h.black unquoted (sym q ∙ is) ∙ ap some (sym sign) in
       let is-sign : token_of s at ≡ token c [] at 1 = sign_token_lem at (get_or s at 0) (drop (suc at) s) c unquoted there in
       let size : 1 ≡ at + 1 - at = omega arith in
-      let no_word : 0 ≡ at - at = omega arith in
-      seen s at h record { class = c; place = at; next = at + 1; from = at; end = at }
+      seen s at h c [] (at + 1)
       record {
-        token = is-sign ∙ ap (token c [] at) size ∙ ap (λ (n : ℕ). token c (take n (drop at s)) at (at + 1 - at)) no_word;
-        place = refl;
+        token = is-sign ∙ ap (token c [] at) size;
         inner = ap (λ (x : Token). is_end x.class) (sym is-sign) ∙ (token_within s at h.here h.black).inner;
-        word_starts = omega arith;
-        word_ends = omega (arith, h.here);
         onward = omega arith;
         within = omega (arith, h.here);
       }
@@ -157,15 +141,12 @@ module _ (s : List ℕ) (at : ℕ) (h : Black s at) (other : get_or s at 0 ≡ q
 -- ---- past the white bytes: the text's end, or a token
 
 module _ (s : List ℕ) (at r : ℕ) (k : Skipped s at r) where
-  pub end_seen : length s ≤ r → Seen s at record { class = End; place = r; next = r; from = r; end = r }
+  pub end_seen : length s ≤ r → Stands s at End [] r r
   end_seen h =
       let all : r ≡ length s = omega (arith, k.inside) in
       let nothing : 0 ≡ r - r = omega arith in
       record {
-        tokens = k.same ∙ end-at s r all ∙ ap (λ (n : ℕ). token End [] n 0 ∷ []) (sym all)
-            ∙ ap (λ (n : ℕ). token End (take n (drop r s)) r n ∷ []) nothing;
-        word_starts = omega arith;
-        word_ends = k.inside;
+        tokens = k.same ∙ end-at s r all ∙ ap (λ (n : ℕ). token End [] n 0 ∷ []) (sym all) ∙ ap (λ (n : ℕ). token End [] r n ∷ []) nothing;
         starts = omega arith;
         onward = λ e. absurd (ends e);
         within = k.inside;
@@ -174,18 +155,16 @@ module _ (s : List ℕ) (at r : ℕ) (k : Skipped s at r) where
       ends : is_end End ≡ false → ⊥
       ends e = let z : ◌≡◌ {A = ℕ} 0 1 = cc in omega arith
 
-  pub token_seen : (t : Found) → Seen s r t → Seen s at t
-  token_seen t found-there =
+  pub token_seen : {c : Class} {w : List ℕ} {place next : ℕ} → Stands s r c w place next → Stands s at c w place next
+  token_seen {next = next} there =
       record {
-        tokens = k.same ∙ found-there.tokens;
-        word_starts = found-there.word_starts;
-        word_ends = found-there.word_ends;
-        starts = found-there.starts;
-        onward = λ e. le_lt k.onward (found-there.onward e);
-        within = found-there.within;
+        tokens = k.same ∙ there.tokens;
+        starts = there.starts;
+        onward = λ e. le_lt k.onward (there.onward e);
+        within = there.within;
       }
     where
-      le_lt : at ≤ r → r < t.next → at < t.next
+      le_lt : at ≤ r → r < next → at < next
       le_lt a b = omega arith
 
   pub black_there : length s ≤ most_text → r < length s → Black s r

@@ -1,4 +1,3 @@
 pub mod Scan
 pub mod Here
-pub mod Chosen
-pub mod Editions
+pub mod Named

@@ -22,20 +22,21 @@ sign_or none = Run
 sign_or (some c) = c
 
 -- the token that was found
-abbrev pub found : List ℕ → Found → Token
-found s t = token t.class (part s t.from t.end) t.place (t.next - t.place)
+abbrev pub found : Found → Token
+found t = token t.class t.word.now t.place (t.next - t.place)
 
 abbrev pub is_end : Class → Bool
 is_end c = eqb (class_number c) (class_number End)
 
 -- a token begins at a place: it is the first of those that are left there, the others are looked for behind it, and the text's end is the last
-pub record Seen (s : List ℕ) (at : ℕ) (t : Found) : Type 0 where
-  pub tokens : tokens_at s at ≡ found s t ∷ cond (is_end t.class) [] (tokens_at s t.next)
-  pub word_starts : t.from ≤ t.end
-  pub word_ends : t.end ≤ length s
-  pub starts : t.place ≤ t.next
-  pub onward : is_end t.class ≡ false → at < t.next
-  pub within : t.next ≤ length s
+pub record Stands (s : List ℕ) (at : ℕ) (class : Class) (word : List ℕ) (place next : ℕ) : Type 0 where
+  pub tokens : tokens_at s at ≡ token class word place (next - place) ∷ cond (is_end class) [] (tokens_at s next)
+  pub starts : place ≤ next
+  pub onward : is_end class ≡ false → at < next
+  pub within : next ≤ length s
+
+abbrev pub Seen : (s : List ℕ) (at : ℕ) → Found → Type 0
+Seen s at t = Stands s at t.class t.word.now t.place t.next
 
 -- a place of a text that is not too long
 pub record Within (s : List ℕ) (at : ℕ) : Type 0 where

@@ -10,27 +10,20 @@ use rules::tokens::Class;
 
 pub mod names;
 
-// The word is what stands from `from` to `end`: a run, or a string without its quotes. `next` is the place just past the token.
+// The word is a run, or a string without its quotes. `next` is the place just past the token.
 #[derive(Clone, Copy)]
-pub struct Token {
+pub struct Token<'a> {
     pub class: Class,
+    pub word: &'a [u8],
     pub place: u32,
     pub next: u32,
-    pub from: usize,
-    pub end: usize,
 }
 
 // Space, tab, LF, CR.
 fn is_white(b: u8) -> bool
     ensures { result ≡ is_white b }
 {
-    match b {
-        b' ' => true,
-        b'\t' => true,
-        b'\n' => true,
-        b'\r' => true,
-        _ => false,
-    }
+    matches!(b, b' ' | b'\t' | b'\n' | b'\r')
 }
 
 // { } [ ] : and , are signs. Any other byte is taken for part of a run.
@@ -52,36 +45,17 @@ fn sign_of(b: u8) -> Class
 fn in_run(b: u8) -> bool
     ensures { result ≡ in_run b }
 {
-    match b {
-        b' ' => false,
-        b'\t' => false,
-        b'\n' => false,
-        b'\r' => false,
-        b'"' => false,
-        b'{' => false,
-        b'}' => false,
-        b'[' => false,
-        b']' => false,
-        b':' => false,
-        b',' => false,
-        _ => true,
-    }
+    !matches!(
+        b,
+        b' ' | b'\t' | b'\n' | b'\r' | b'"' | b'{' | b'}' | b'[' | b']' | b':' | b','
+    )
 }
 
 // Bytes 32 to 126 but quotes and backslashes.
 fn in_string(b: u8) -> bool
     ensures { result ≡ in_string b }
 {
-    if b < b' ' {
-        return false;
-    }
-    if b'~' < b {
-        return false;
-    }
-    if b == b'"' {
-        return false;
-    }
-    b != b'\\'
+    matches!(b, b' '..=b'~') && b != b'"' && b != b'\\'
 }
 
 // The first place from `at` on that is not white, or the end.
@@ -89,129 +63,97 @@ fn past_white(s: &[u8], at: usize) -> usize
     requires { at ≤ length s.now }
     ensures { Skipped s.now at result }
 {
-    let mut i = at;
-    while i < s.len() {
+    for i in at..s.len() {
         if !is_white(s[i]) {
             return i;
         }
-        i += 1;
     }
-    i
+    s.len()
 }
 
 // The end of the run that goes on from `at`.
 fn run_end(s: &[u8], at: usize) -> usize
     ensures { result ≡ at + length (lead in_run (drop at s.now)) }
 {
-    let mut i = at;
-    while i < s.len() {
+    for i in at..s.len() {
         if !in_run(s[i]) {
             return i;
         }
-        i += 1;
     }
-    i
+    s.len().max(at)
 }
 
 // The end of the clean bytes of a string that go on from `at`.
 fn string_end(s: &[u8], at: usize) -> usize
     ensures { result ≡ at + length (lead in_string (drop at s.now)) }
 {
-    let mut i = at;
-    while i < s.len() {
+    for i in at..s.len() {
         if !in_string(s[i]) {
             return i;
         }
-        i += 1;
     }
-    i
+    s.len().max(at)
 }
 
 // A string that opens at `at`: its closing quote, the text's end or a forbidden byte comes after its clean bytes.
-fn string_token(s: &[u8], at: usize) -> Token
+fn string_token(s: &[u8], at: usize) -> Token<'_>
     requires { Black s.now at × (get_or s.now at 0 ≡ quote) }
     ensures { Seen s.now at result }
 {
-    let place = at as u32;
     let from = at + 1;
     let end = string_end(s, from);
-    if s.len() <= end {
-        let class = Class::Unclosed;
-        return Token {
-            class,
-            place,
-            next: end as u32,
-            from,
-            end,
-        };
-    }
-    if s[end] == b'"' {
-        let class = Class::Quoted;
-        return Token {
-            class,
-            place,
-            next: (end + 1) as u32,
-            from,
-            end,
-        };
-    }
-    let class = Class::Forbidden;
+    let (class, next) = match s.get(end) {
+        None => (Class::Unclosed, end),
+        Some(b'"') => (Class::Quoted, end + 1),
+        Some(_) => (Class::Forbidden, end),
+    };
     Token {
         class,
-        place,
-        next: end as u32,
-        from,
-        end,
+        word: &s[from..end],
+        place: at as u32,
+        next: next as u32,
     }
 }
 
 // The token that starts at a byte that is not white.
-fn token_here(s: &[u8], at: usize) -> Token
+fn token_here(s: &[u8], at: usize) -> Token<'_>
     requires { Black s.now at }
     ensures { Seen s.now at result }
 {
-    let place = at as u32;
     let b = s[at];
     if b == b'"' {
         return string_token(s, at);
     }
     if in_run(b) {
-        let class = Class::Run;
         let end = run_end(s, at);
         return Token {
-            class,
-            place,
+            class: Class::Run,
+            word: &s[at..end],
+            place: at as u32,
             next: end as u32,
-            from: at,
-            end,
         };
     }
-    let class = sign_of(b);
     Token {
-        class,
-        place,
-        next: place + 1,
-        from: at,
-        end: at,
+        class: sign_of(b),
+        word: &[],
+        place: at as u32,
+        next: at as u32 + 1,
     }
 }
 
 // The first token at or after `at`; at the text's end the last one, which is empty.
-pub fn token_at(s: &[u8], at: usize) -> Token
+pub fn token_at(s: &[u8], at: usize) -> Token<'_>
     requires { Within s.now at }
     ensures { Seen s.now at result }
 {
     let from = past_white(s, at);
-    if s.len() <= from {
-        let class = Class::End;
-        let place = from as u32;
-        return Token {
-            class,
-            place,
-            next: place,
-            from,
-            end: from,
-        };
+    if from < s.len() {
+        return token_here(s, from);
     }
-    token_here(s, from)
+    Token {
+        class: Class::End,
+        word: &[],
+        place: from as u32,
+        next: from as u32,
+    }
 }

@@ -21,62 +21,62 @@ fn list_bit(list: u8) -> u8
     1 << (list - 1)
 }
 
-pub fn list_name(word: &[u8], st: State, place: u32) -> Step
-    ensures { Always place (λ legs constraints tracks d t. law.list_name legs constraints tracks (list_named word.now) st d t) result }
+#[tactic(auto, unfolding(rules::specs::Constraints::list_name))]
+pub fn list_name(word: &[u8], st: State) -> Result<Step, u8>
+    ensures { Always (λ legs constraints tracks d t. law.list_name legs constraints tracks (list_named word.now) st d t) result }
 {
     let list = names::list_named(word);
     if list == Lists::UNKNOWN {
-        return Step::Fault(Refusal::UNKNOWN, place);
+        return Err(Refusal::UNKNOWN);
     }
     let bit = list_bit(list);
-    if st.lists & bit == 0 {
-        return Step::On(in_list(list, bit, st));
+    if st.lists & bit != 0 {
+        return Err(Refusal::REPEATED_OR_MISSING);
     }
-    Step::Fault(Refusal::REPEATED_OR_MISSING, place)
+    Ok(Step::On(in_list(list, bit, st)))
 }
 
-pub fn document_ends(st: State, place: u32) -> Step
-    ensures { Always place (λ legs constraints tracks d t. law.document_ends legs constraints tracks st d t) result }
+#[tactic(auto, unfolding(rules::specs::Constraints::document_ends))]
+pub fn document_ends(st: State) -> Result<Step, u8>
+    ensures { Always (λ legs constraints tracks d t. law.document_ends legs constraints tracks st d t) result }
 {
     let required = st.rules.required;
-    if st.lists & required == required {
-        let phase = Phase::Done;
-        return Step::On(to_phase(st, phase));
+    if st.lists & required != required {
+        return Err(Refusal::REPEATED_OR_MISSING);
     }
-    Step::Fault(Refusal::REPEATED_OR_MISSING, place)
+    Ok(Step::On(to_phase(st, Phase::Done)))
 }
 
 // Constraints are counted over all lists, and so is their room.
-pub fn record_opens(seen: Counts, room: usize, st: State, place: u32) -> Step
+#[tactic(auto, unfolding(rules::specs::Constraints::record_opens))]
+pub fn record_opens(seen: Counts, room: usize, st: State) -> Result<Step, u8>
     ensures { (legs : List ℕ) (tracks : ℕ) (d : Document) (t : Token)
-        → t.place ≡ place → seen.constraints ≡ length d.constraints → seen.subnets ≡ d.opened → turned result d ≡ law.record_opens legs room tracks st d t }
+        → seen.constraints ≡ length d.constraints → seen.subnets ≡ d.opened → turned t.place result d ≡ law.record_opens legs room tracks st d t }
 {
     if st.list == Lists::SUBNETS {
-        if seen.subnets < Subnet::MOST {
-            return Step::Opened(in_record(st));
+        if Subnet::MOST <= seen.subnets {
+            return Err(Refusal::COUNT);
         }
-        return Step::Fault(Refusal::COUNT, place);
+        return Ok(Step::Opened(in_record(st)));
     }
     if Constraint::MOST <= seen.constraints {
-        return Step::Fault(Refusal::COUNT, place);
+        return Err(Refusal::COUNT);
     }
-    if seen.constraints < room {
-        return Step::On(in_record(st));
+    if room <= seen.constraints {
+        return Err(Refusal::ROOM);
     }
-    Step::Fault(Refusal::ROOM, place)
+    Ok(Step::On(in_record(st)))
 }
 
 // The keys that a record of a list must carry.
+#[tactic(auto, unfolding(rules::specs::Constraints::keys_of))]
 fn keys_of(list: u8) -> u16
     ensures { result ≡ law.keys_of list }
 {
     if list == Lists::SUBNETS {
         return Key::SUBNET_ID + Key::TRACK_IDS;
     }
-    if list == Lists::UNKNOWN {
-        return kind_at(0).keys;
-    }
-    let place = (list - 1) as usize;
+    let place = usize::from(list.saturating_sub(1));
     if place < Kind::COUNT {
         return kind_at(place).keys;
     }
@@ -85,33 +85,31 @@ fn keys_of(list: u8) -> u16
 
 // A key of another kind is unknown here.
 #[tactic(auto, unfolding(rules::specs::Constraints::key_name))]
-pub fn key_name(word: &[u8], st: State, place: u32) -> Step
-    ensures { Always place (λ legs constraints tracks d t. law.key_name legs constraints tracks (key_in st.rules.edition st.list word.now) st d t) result }
+pub fn key_name(word: &[u8], st: State) -> Result<Step, u8>
+    ensures { Always (λ legs constraints tracks d t. law.key_name legs constraints tracks (key_in st.rules.edition st.list word.now) st d t) result }
 {
-    let rules = st.rules;
-    let key = names::key_in(rules.edition, st.list, word);
+    let key = names::key_in(st.rules.edition, st.list, word);
     let keys = keys_of(st.list);
     if keys & key == 0 {
-        return Step::Fault(Refusal::UNKNOWN, place);
+        return Err(Refusal::UNKNOWN);
     }
-    if st.keys & key == 0 {
-        return Step::On(at_key(key, st));
+    if st.keys & key != 0 {
+        return Err(Refusal::REPEATED_OR_MISSING);
     }
-    Step::Fault(Refusal::REPEATED_OR_MISSING, place)
+    Ok(Step::On(at_key(key, st)))
 }
 
 #[tactic(auto, unfolding(rules::specs::Constraints::record_ends))]
-pub fn record_ends(st: State, place: u32) -> Step
-    ensures { Always place (λ legs constraints tracks d t. law.record_ends legs constraints tracks st d t) result }
+pub fn record_ends(st: State) -> Result<Step, u8>
+    ensures { Always (λ legs constraints tracks d t. law.record_ends legs constraints tracks st d t) result }
 {
     let keys = keys_of(st.list);
     if st.keys != keys {
-        return Step::Fault(Refusal::REPEATED_OR_MISSING, place);
+        return Err(Refusal::REPEATED_OR_MISSING);
     }
-    let phase = Phase::AfterRecord;
-    let after = to_phase(st, phase);
+    let after = to_phase(st, Phase::AfterRecord);
     if st.list == Lists::SUBNETS {
-        return Step::On(after);
+        return Ok(Step::On(after));
     }
-    Step::Emit(after)
+    Ok(Step::Emit(after))
 }

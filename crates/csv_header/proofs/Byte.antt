@@ -1,9 +1,11 @@
 -- A byte of the header is compared as the names' machine takes it, whatever the names. Assumes nothing.
 use Prim.Native.Nat.{ℕ, zero, suc, ◌+◌, ◌-◌, ◌≤◌, ◌<◌}
-use mathlib.Core.Path.{◌≡◌, refl, ap, sym, ◌∙◌}
-use mathlib.Core.Bool.{Bool, true, false, cond, true≢false, false≢true}
+use mathlib.Core.Path.{◌≡◌, refl, ap, sym, subst, ◌∙◌}
+use mathlib.Core.Bool.{Bool, true, false, cond, false≢true}
 use mathlib.Core.List.{List, [], ◌∷◌, ◌++◌}
-use mathlib.Core.Option.{Option, none, some}
+use mathlib.Core.Option.{none, some}
+use mathlib.Core.Option as Math
+use Rattle.std.specs.Prelude.{Option, Some, None}
 use native.Mathlib.Omega.{arith}
 use native.Mathlib.Numerals.{add-one}
 use lib.Dec.{ltb, eqb}
@@ -26,10 +28,10 @@ use Rattle.csv_marks.proofs.Follow.{Follows, follows-at}
 use Rattle.csv_header.specs.declared.Stepped.{Stepped}
 use Rattle.csv_header.specs.Heading.{begins_in, stepped_by, stepped_in, name_at}
 
-abbrev pub head_step : Marked Named → ℕ → Option (Marked Named)
+abbrev pub head_step : Marked Named → ℕ → Math.Option (Marked Named)
 head_step = mark_step name_step name_close name_begins
 
-abbrev pub head_close : Marked Named → Option (List ℕ)
+abbrev pub head_close : Marked Named → Math.Option (List ℕ)
 head_close = mark_close name_step name_close name_begins
 
 free_at : (sep : ℕ) (s : List ℕ) (k : ℕ) → Free sep s → k < length s → get_or s k 0 ≡ sep → ⊥
@@ -117,65 +119,59 @@ module _ (names : List (List ℕ)) (can : can_head names ≡ true) where
   -- ---- a byte
 
   -- what the comparison says of the names' machine: at LF its end, else its step
-  pub record Compares (mark : Mark) (k b : ℕ) (r : Stepped) : Type 0 where
-    pub byte_right : eqb b line_feed ≡ false → r.right ≡ true → (head_step (marked mark (name_at names k)) b ≡ some (marked r.mark (name_at names r.head))) × (r.head < length header)
-    pub byte_wrong : eqb b line_feed ≡ false → r.right ≡ false → head_step (marked mark (name_at names k)) b ≡ none
-    pub end_right : eqb b line_feed ≡ true → r.right ≡ true → (is_some (head_close (marked mark (name_at names k))) ≡ true) × (length header ≤ r.head) × (r.mark ≡ Bare)
-    pub end_wrong : eqb b line_feed ≡ true → r.right ≡ false → is_some (head_close (marked mark (name_at names k))) ≡ false
+
+  -- where the byte agrees
+  pub record Goes (mark : Mark) (k b : ℕ) (x : Stepped) : Type 0 where
+    pub byte : eqb b line_feed ≡ false → (head_step (marked mark (name_at names k)) b ≡ some (marked x.mark (name_at names x.head))) × (x.head < length header)
+    pub end : eqb b line_feed ≡ true → (is_some (head_close (marked mark (name_at names k))) ≡ true) × (length header ≤ x.head) × (x.mark ≡ Bare)
+
+  -- where it differs
+  pub record Stops (mark : Mark) (k b : ℕ) : Type 0 where
+    pub byte : eqb b line_feed ≡ false → head_step (marked mark (name_at names k)) b ≡ none
+    pub end : eqb b line_feed ≡ true → is_some (head_close (marked mark (name_at names k))) ≡ false
+
+  abbrev pub Compares : Mark → (k b : ℕ) → Option Stepped → Type 0
+  Compares mark k b (Some x) = Goes mark k b x
+  Compares mark k b None = Stops mark k b
 
   module _ (mark : Mark) (k b : ℕ) (h : k < length header) where
     -- a byte of the contents
     content : (m : Mark) → Follows name_step name_close name_begins mark (name_at names k) b (Content m) → At k → (s : Bool) → eqb b (get_or header k 0) ≡ s
-        → Compares mark k b (record { head = k + 1; mark = m; right = s })
+        → Compares mark k b (cond s (Some (record { head = k + 1; mark = m })) None)
     content m f (in_names i) true s =
         let same : b ≡ get_or header k 0 = eqb-true b (get_or header k 0) s in
         record {
-          byte_right = λ e q. (f.0 e ∙ ap (marked_step m) (name_right k i b same), within k i);
-          byte_wrong = λ e q. absurd (true≢false q);
-          end_right = λ e q. absurd (no_end k i b same (eqb-true b line_feed e));
-          end_wrong = λ e q. absurd (true≢false q);
+          byte = λ e. (f.0 e ∙ ap (marked_step m) (name_right k i b same), within k i);
+          end = λ e. absurd (no_end k i b same (eqb-true b line_feed e));
         }
     content m f (in_names i) false s =
         record {
-          byte_right = λ e q. absurd (false≢true q);
-          byte_wrong = λ e q. f.0 e ∙ ap (marked_step m) (name_wrong k i b (eqb-false b (get_or header k 0) s));
-          end_right = λ e q. absurd (false≢true q);
-          end_wrong = λ e q. ap is_some ((f.1 e).1 ∙ close_short k i);
+          byte = λ e. f.0 e ∙ ap (marked_step m) (name_wrong k i b (eqb-false b (get_or header k 0) s));
+          end = λ e. ap is_some ((f.1 e).1 ∙ close_short k i);
         }
     content m f (at_end i) true s =
         record {
-          byte_right = λ e q. absurd (eqb-false b line_feed e (eqb-true b (get_or header k 0) s ∙ end_is k i));
-          byte_wrong = λ e q. absurd (true≢false q);
-          end_right = λ e q. (ap is_some ((f.1 e).1 ∙ close_end k i), past k i, (f.1 e).0);
-          end_wrong = λ e q. absurd (true≢false q);
+          byte = λ e. absurd (eqb-false b line_feed e (eqb-true b (get_or header k 0) s ∙ end_is k i));
+          end = λ e. (ap is_some ((f.1 e).1 ∙ close_end k i), past k i, (f.1 e).0);
         }
     content m f (at_end i) false s =
         record {
-          byte_right = λ e q. absurd (false≢true q);
-          byte_wrong = λ e q. f.0 e ∙ ap (marked_step m) (name_past k i b);
-          end_right = λ e q. absurd (false≢true q);
-          end_wrong = λ e q. absurd (eqb-false b (get_or header k 0) s (eqb-true b line_feed e ∙ sym (end_is k i)));
+          byte = λ e. f.0 e ∙ ap (marked_step m) (name_past k i b);
+          end = λ e. absurd (eqb-false b (get_or header k 0) s (eqb-true b line_feed e ∙ sym (end_is k i)));
         }
 
-    by_act : (a : Act) → a ≡ turned mark b (begins_in header k) → Compares mark k b (stepped_by mark k (eqb b (get_or header k 0)) a)
+    by_act : (a : Act) → a ≡ turned mark b (begins_in header k) → Compares mark k b (stepped_by k (eqb b (get_or header k 0)) a)
     by_act (To m) t =
         let f : Follows name_step name_close name_begins mark (name_at names k) b (To m) = follows-at name_step name_close name_begins mark (name_at names k) b (To m) t in
-        record {
-          byte_right = λ e q. (f.1, h);
-          byte_wrong = λ e q. absurd (true≢false q);
-          end_right = λ e q. absurd (false≢true (sym f.0 ∙ e));
-          end_wrong = λ e q. absurd (true≢false q);
-        }
+        record { byte = λ e. (f.1, h); end = λ e. absurd (false≢true (sym f.0 ∙ e)) }
     by_act (Content m) t = content m (follows-at name_step name_close name_begins mark (name_at names k) b (Content m) t) (place k h) (eqb b (get_or header k 0)) refl
     by_act Broken t =
         let f : Follows name_step name_close name_begins mark (name_at names k) b Broken = follows-at name_step name_close name_begins mark (name_at names k) b Broken t in
-        record {
-          byte_right = λ e q. absurd (false≢true q);
-          byte_wrong = λ e q. f.0 e;
-          end_right = λ e q. absurd (false≢true q);
-          end_wrong = λ e q. ap is_some (f.1 e);
-        }
+        record { byte = f.0; end = λ e. ap is_some (f.1 e) }
 
     -- THE LAW of a byte
     pub compares : Compares mark k b (stepped_in header mark k b)
     compares = by_act (turned mark b (begins_in header k)) refl
+
+    pub compares-at : (r : Option Stepped) → stepped_in header mark k b ≡ r → Compares mark k b r
+    compares-at r q = subst (λ (y : Option Stepped). Compares mark k b y) q compares

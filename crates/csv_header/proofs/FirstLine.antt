@@ -4,7 +4,9 @@ use Prim.Native.Nat.{ℕ, suc, ◌+◌, ◌≤◌, ◌<◌}
 use mathlib.Core.Path.{◌≡◌, refl, ap, sym, subst, ◌∙◌}
 use mathlib.Core.Bool.{Bool, true, false, cond, ◌&&◌, true≢false, false≢true}
 use mathlib.Core.List.{List, [], ◌∷◌}
-use mathlib.Core.Option.{Option, none, some}
+use mathlib.Core.Option.{none, some}
+use mathlib.Core.Option as Math
+use Rattle.std.specs.Prelude.{Option, Some, None, Result, Ok, Err, is_ok}
 use native.Mathlib.Omega.{arith}
 use lib.Dec.{leb, eqb}
 use lib.ListN.{length, length-append}
@@ -22,18 +24,18 @@ use Rattle.csv_marks.specs.declared.Mark.TheVariants.{Bare}
 use Rattle.csv_marks.specs.Turns.{marked}
 use Rattle.csv_header.specs.declared.Headed.{Headed}
 use Rattle.csv_header.specs.declared.Stepped.{Stepped}
-use Rattle.csv_header.specs.Heading.{headed, stepped_in, compared_from, name_at, end_in}
-use Rattle.csv_header.proofs.Byte.{head_step, head_close, Compares, compares}
-use Rattle.csv_header.proofs.Part.{past_header}
+use Rattle.csv_header.specs.Heading.{headed, stepped_in, after_step, compared_from, name_at, end_in}
+use Rattle.csv_header.proofs.Byte.{head_step, head_close, Goes, Stops, compares-at}
+use Rattle.csv_header.proofs.Part.{reached, past_header}
 
 -- ---- a line by the names' machine
 
-abbrev runs_to : Option (Marked Named) → List ℕ → Bool
+abbrev runs_to : Math.Option (Marked Named) → List ℕ → Bool
 runs_to none line = false
 runs_to (some m) line = is_some (run head_step m line >>= head_close)
 
 -- the first line, which another follows
-abbrev heads_in : Option (Marked Named) → List (List ℕ) → Bool
+abbrev heads_in : Math.Option (Marked Named) → List (List ℕ) → Bool
 heads_in x [] = false
 heads_in x (line ∷ []) = false
 heads_in x (line ∷ next ∷ lines) = runs_to x line
@@ -46,7 +48,7 @@ heads-none (p ∷ q ∷ ps) = refl
 runs_on : (m : Marked Named) (b : ℕ) (line : List ℕ) → runs_to (some m) (b ∷ line) ≡ runs_to (head_step m b) line
 runs_on m b line = go (head_step m b)
   where
-    go : (x : Option (Marked Named)) → is_some ((x >>= (λ next. run head_step next line)) >>= head_close) ≡ runs_to x line
+    go : (x : Math.Option (Marked Named)) → is_some ((x >>= (λ next. run head_step next line)) >>= head_close) ≡ runs_to x line
     go none = refl
     go (some m) = refl
 
@@ -57,7 +59,7 @@ heads_on m b ps c = subst (λ (x : List (List ℕ)). heads_in (some m) (onto b x
     go [] = refl
     go (q ∷ more) = runs_on m b c.0
 
-heads-at : (x : Option (Marked Named)) (ps : List (List ℕ)) → (p : List ℕ) × (more : List (List ℕ)) × (ps ≡ p ∷ more) → heads_in x ([] ∷ ps) ≡ runs_to x []
+heads-at : (x : Math.Option (Marked Named)) (ps : List (List ℕ)) → (p : List ℕ) × (more : List (List ℕ)) × (ps ≡ p ∷ more) → heads_in x ([] ∷ ps) ≡ runs_to x []
 heads-at x ps c = ap (λ (y : List (List ℕ)). heads_in x ([] ∷ y)) c.2
 
 abbrev first_long : List (List ℕ) → ℕ
@@ -73,30 +75,25 @@ module _ (names : List (List ℕ)) (can : can_head names ≡ true) where
   abbrev header : List ℕ
   header = header_of names
 
-  abbrev whole : Headed → Bool
-  whole r = r.right && leb (length header) r.head
+  abbrev whole : Result Headed Headed → Bool
+  whole r = is_ok r && leb (length header) (reached r).head
 
-  record Found (x : Option (Marked Named)) (i : ℕ) (ps : List (List ℕ)) (r : Headed) : Type 0 where
+  record Found (x : Math.Option (Marked Named)) (i : ℕ) (ps : List (List ℕ)) (r : Result Headed Headed) : Type 0 where
     is : whole r ≡ heads_in x ps
-    at : whole r ≡ true → r.next ≡ i + first_long ps + 1
+    at : whole r ≡ true → (reached r).next ≡ i + first_long ps + 1
+
+  abbrev onward : (s : List ℕ) (i : ℕ) → Stepped → Result Headed Headed
+  onward s i x = compared_from header x.mark x.head (i + 1) s
 
   found_head : (s : List ℕ) (mark : Mark) (k i : ℕ) → k < length header → Found (some (marked mark (name_at names k))) i (split_on line_feed s) (compared_from header mark k i s)
   found_head [] mark k i h = record { is = lt-leb (length header) k h; at = λ e. absurd (true≢false (sym e ∙ lt-leb (length header) k h)) }
   found_head (b ∷ s) mark k i h =
-      subst (λ (t : Bool). Found x i (split_on line_feed (b ∷ s)) (cond t (cond r.right next_head (headed i k mark false)) (headed i k mark true))) (sym (lt-ltb k (length header) h))
-      (go r.right refl (eqb b line_feed) refl (found_head s r.mark r.head (i + 1)))
+      subst (λ (t : Bool). Found x i (split_on line_feed (b ∷ s)) (cond t (after_step (stepped_in header mark k b) (onward s i) (Err (headed i k mark))) (Ok (headed i k mark))))
+      (sym (lt-ltb k (length header) h))
+      (go (stepped_in header mark k b) refl (eqb b line_feed) refl (found_head s))
     where
-      x : Option (Marked Named)
+      x : Math.Option (Marked Named)
       x = some (marked mark (name_at names k))
-
-      r : Stepped
-      r = stepped_in header mark k b
-
-      next_head : Headed
-      next_head = compared_from header r.mark r.head (i + 1) s
-
-      c : Compares names can mark k b r
-      c = compares names can mark k b h
 
       ps : List (List ℕ)
       ps = split_on line_feed s
@@ -104,30 +101,35 @@ module _ (names : List (List ℕ)) (can : can_head names ≡ true) where
       cons : (p : List ℕ) × (more : List (List ℕ)) × (ps ≡ p ∷ more)
       cons = split_cons line_feed s
 
-      go : (q : Bool) → r.right ≡ q → (l : Bool) → eqb b line_feed ≡ l → (r.head < length header → Found (some (marked r.mark (name_at names r.head))) (i + 1) ps next_head)
-          → Found x i (cond l ([] ∷ ps) (onto b ps)) (cond q next_head (headed i k mark false))
-      go true q true l ih =
-          let w = c.end_right l q in
-          let p : next_head ≡ headed (i + 1) r.head r.mark true = past_header header s r.mark r.head (i + 1) w.1 in
+      go : (r : Option Stepped) → stepped_in header mark k b ≡ r → (l : Bool) → eqb b line_feed ≡ l
+          → ((m : Mark) (a j : ℕ) → a < length header → Found (some (marked m (name_at names a))) j ps (compared_from header m a j s))
+          → Found x i (cond l ([] ∷ ps) (onto b ps)) (after_step r (onward s i) (Err (headed i k mark)))
+      go (Some r) q true l ih =
+          let g : Goes names can mark k b r = compares-at names can mark k b h (Some r) q in
+          let w = g.end l in
+          let p : onward s i r ≡ Ok (headed (i + 1) r.head r.mark) = past_header header s r.mark r.head (i + 1) w.1 in
           record {
             is = ap whole p ∙ le-leb (length header) r.head w.1 ∙ sym (heads-at x ps cons ∙ w.0);
-            at = λ e. ap (λ (y : Headed). y.next) p ∙ omega arith;
+            at = λ e. ap (λ (y : Result Headed Headed). (reached y).next) p ∙ omega arith;
           }
-      go false q true l ih =
+      go None q true l ih =
+          let g : Stops names can mark k b = compares-at names can mark k b h None q in
           record {
-            is = sym (heads-at x ps cons ∙ c.end_wrong l q);
+            is = sym (heads-at x ps cons ∙ g.end l);
             at = λ e. absurd (false≢true e);
           }
-      go true q false l ih =
-          let w = c.byte_right l q in
-          let f = ih w.1 in
+      go (Some r) q false l ih =
+          let g : Goes names can mark k b r = compares-at names can mark k b h (Some r) q in
+          let w = g.byte l in
+          let f = ih r.mark r.head (i + 1) w.1 in
           record {
-            is = f.is ∙ sym (heads_on (marked mark (name_at names k)) b ps cons ∙ ap (λ (y : Option (Marked Named)). heads_in y ps) w.0);
+            is = f.is ∙ sym (heads_on (marked mark (name_at names k)) b ps cons ∙ ap (λ (y : Math.Option (Marked Named)). heads_in y ps) w.0);
             at = λ e. f.at e ∙ omega (arith, first_on b ps cons);
           }
-      go false q false l ih =
+      go None q false l ih =
+          let g : Stops names can mark k b = compares-at names can mark k b h None q in
           record {
-            is = sym (heads_on (marked mark (name_at names k)) b ps cons ∙ ap (λ (y : Option (Marked Named)). heads_in y ps) (c.byte_wrong l q) ∙ heads-none ps);
+            is = sym (heads_on (marked mark (name_at names k)) b ps cons ∙ ap (λ (y : Math.Option (Marked Named)). heads_in y ps) (g.byte l) ∙ heads-none ps);
             at = λ e. absurd (false≢true e);
           }
 
@@ -140,22 +142,23 @@ module _ (names : List (List ℕ)) (can : can_head names ≡ true) where
   by_names (p ∷ []) false e = refl
   by_names (p ∷ q ∷ ps) t e = ap (λ (x : Bool). cond x (length p + 1) 0) (heads-run names can p ∙ e)
 
-  module _ (text : List ℕ) (r : Headed) (is : r ≡ compared_from header Bare 0 0 text) where
+  module _ (text : List ℕ) (r : Result Headed Headed) (is : r ≡ compared_from header Bare 0 0 text) where
     found : Found (some (on bare (names_start names))) 0 (split_on line_feed text) r
-    found = subst (λ (x : Headed). Found (some (on bare (names_start names))) 0 (split_on line_feed text) x) (sym is)
+    found = subst (λ (x : Result Headed Headed). Found (some (on bare (names_start names))) 0 (split_on line_feed text) x) (sym is)
         (found_head text Bare 0 0 (omega (arith, length-append (joined comma names) (line_feed ∷ []))))
 
-    pub head_right : r.right ≡ true → length header ≤ r.head → r.next ≡ end_in names (split_on line_feed text)
-    head_right e l =
-        let t : whole r ≡ true = ap (λ (x : Bool). x && leb (length header) r.head) e ∙ le-leb (length header) r.head l in
-        found.at t ∙ omega (arith, by_names (split_on line_feed text) true (sym found.is ∙ t))
+    ends_at : whole r ≡ true → (reached r).next ≡ end_in names (split_on line_feed text)
+    ends_at t = found.at t ∙ omega (arith, by_names (split_on line_feed text) true (sym found.is ∙ t))
 
-    pub head_short : r.right ≡ true → r.head < length header → 0 ≡ end_in names (split_on line_feed text)
-    head_short e l =
-        let t : whole r ≡ false = ap (λ (x : Bool). x && leb (length header) r.head) e ∙ lt-leb (length header) r.head l in
-        sym (by_names (split_on line_feed text) false (sym found.is ∙ t))
+    no_end : whole r ≡ false → 0 ≡ end_in names (split_on line_feed text)
+    no_end t = sym (by_names (split_on line_feed text) false (sym found.is ∙ t))
 
-    pub head_wrong : r.right ≡ false → 0 ≡ end_in names (split_on line_feed text)
-    head_wrong e =
-        let t : whole r ≡ false = ap (λ (x : Bool). x && leb (length header) r.head) e in
-        sym (by_names (split_on line_feed text) false (sym found.is ∙ t))
+  module _ (text : List ℕ) (r : Headed) where
+    pub head_right : Ok r ≡ compared_from header Bare 0 0 text → length header ≤ r.head → r.next ≡ end_in names (split_on line_feed text)
+    head_right is l = ends_at text (Ok r) is (le-leb (length header) r.head l)
+
+    pub head_short : Ok r ≡ compared_from header Bare 0 0 text → r.head < length header → 0 ≡ end_in names (split_on line_feed text)
+    head_short is l = no_end text (Ok r) is (lt-leb (length header) r.head l)
+
+    pub head_wrong : Err r ≡ compared_from header Bare 0 0 text → 0 ≡ end_in names (split_on line_feed text)
+    head_wrong is = no_end text (Err r) is refl

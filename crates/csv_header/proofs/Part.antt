@@ -3,7 +3,8 @@ use Prim.Native.Nat.{ℕ, suc, ◌+◌, ◌≤◌, ◌<◌}
 use mathlib.Core.Path.{◌≡◌, refl, ap, sym, subst, ◌∙◌}
 use mathlib.Core.Bool.{Bool, true, false, cond, true≢false, false≢true}
 use mathlib.Core.List.{List, [], ◌∷◌}
-use mathlib.Core.Option.{Option}
+use mathlib.Core.Option as Math
+use Rattle.std.specs.Prelude.{Option, Some, None, Result, Ok, Err, is_ok}
 use native.Mathlib.Omega.{arith}
 use native.Mathlib.Nat.{add-zero, zero-add}
 use lib.Dec.{ltb, eqb}
@@ -24,32 +25,33 @@ use Rattle.csv_marks.specs.declared.Mark.{Mark}
 use Rattle.csv_marks.specs.Turns.{marked}
 use Rattle.csv_header.specs.declared.Headed.{Headed}
 use Rattle.csv_header.specs.declared.Stepped.{Stepped}
-use Rattle.csv_header.specs.Heading.{headed, stepped_in, compared_from, name_at, Headings}
-use Rattle.csv_header.proofs.Byte.{head_step, head_close, Compares, compares}
+use Rattle.csv_header.specs.Heading.{headed, stepped_in, after_step, compared_from, name_at, Headings}
+use Rattle.csv_header.proofs.Byte.{head_step, head_close, Goes, Stops, compares-at}
 
 -- ---- the comparison alone
 
 -- past the header nothing of a part is the header's
-pub past_header : (header s : List ℕ) (mark : Mark) (k i : ℕ) → length header ≤ k → compared_from header mark k i s ≡ headed i k mark true
+pub past_header : (header s : List ℕ) (mark : Mark) (k i : ℕ) → length header ≤ k → compared_from header mark k i s ≡ Ok (headed i k mark)
 past_header header [] mark k i h = refl
 past_header header (b ∷ s) mark k i h = rw (le-ltb k (length header) h)
 
-inside : (header s : List ℕ) (mark : Mark) (k i : ℕ) → (compared_from header mark k i s).next ≤ i + length s
-inside header [] mark k i = omega arith
-inside header (b ∷ s) mark k i = go (ltb k (length header)) r.right (inside header s r.mark r.head (i + 1))
-  where
-    r : Stepped
-    r = stepped_in header mark k b
+abbrev pub reached : Result Headed Headed → Headed
+reached (Ok h) = h
+reached (Err h) = h
 
-    go : (t q : Bool) → (compared_from header r.mark r.head (i + 1) s).next ≤ i + 1 + length s
-        → (cond t (cond q (compared_from header r.mark r.head (i + 1) s) (headed i k mark false)) (headed i k mark true)).next ≤ i + suc (length s)
-    go true true w = omega arith
-    go true false w = omega arith
-    go false q w = omega arith
+inside : (header s : List ℕ) (mark : Mark) (k i : ℕ) → (reached (compared_from header mark k i s)).next ≤ i + length s
+inside header [] mark k i = omega arith
+inside header (b ∷ s) mark k i = go (ltb k (length header)) (stepped_in header mark k b) (inside header s)
+  where
+    go : (t : Bool) (y : Option Stepped) → ((m : Mark) (l j : ℕ) → (reached (compared_from header m l j s)).next ≤ j + length s)
+        → (reached (cond t (after_step y (λ x. compared_from header x.mark x.head (i + 1) s) (Err (headed i k mark))) (Ok (headed i k mark)))).next ≤ i + suc (length s)
+    go true (Some x) ih = omega (arith, ih x.mark x.head (i + 1))
+    go true None ih = omega arith
+    go false y ih = omega arith
 
 -- the comparison ends in the part
-pub header_inside : (header part : List ℕ) (mark : Mark) (k : ℕ) (r : Headed) → r ≡ compared_from header mark k 0 part → r.next ≤ length part
-header_inside header part mark k r e = rw e (omega (arith, inside header part mark k 0))
+pub header_inside : (header part : List ℕ) (mark : Mark) (k : ℕ) (r : Headed) → Ok r ≡ compared_from header mark k 0 part → r.next ≤ length part
+header_inside header part mark k r e = omega (arith, inside header part mark k 0, ap (λ (x : Result Headed Headed). (reached x).next) e)
 
 -- ---- a text
 
@@ -84,56 +86,53 @@ module _ {A O : Type 0} (c : Contents A O) (can : can_head c.names ≡ true) whe
   at-line n m b e = rw e
 
   module _ (mark : Mark) (k n b : ℕ) (h : k < length header) where
-    abbrev r : Stepped
-    r = stepped_in header mark k b
-
-    w : Compares c.names can mark k b r
-    w = compares c.names can mark k b h
-
-    byte_leads : r.right ≡ true → step (at mark k n) b ≡ state r.mark r.head (suc n)
-    byte_leads q = go (eqb b line_feed) refl
+    byte_leads : (x : Stepped) → stepped_in header mark k b ≡ Some x → step (at mark k n) b ≡ state x.mark x.head (suc n)
+    byte_leads x q = go (eqb b line_feed) refl
       where
-        go : (l : Bool) → eqb b line_feed ≡ l → step (at mark k n) b ≡ state r.mark r.head (suc n)
+        w : Goes c.names can mark k b x
+        w = compares-at c.names can mark k b h (Some x) q
+
+        go : (l : Bool) → eqb b line_feed ≡ l → step (at mark k n) b ≡ state x.mark x.head (suc n)
         go false e =
             at_byte n (marked mark (name_at c.names k)) b e
-            ∙ ap (λ (x : Option (Marked Named)). on_head (machine_of c) n x) (w.byte_right e q).0
-            ∙ sym (state_in r.mark r.head (suc n) (w.byte_right e q).1)
+            ∙ ap (λ (y : Math.Option (Marked Named)). on_head (machine_of c) n y) (w.byte e).0
+            ∙ sym (state_in x.mark x.head (suc n) (w.byte e).1)
         go true e =
             at-line n (marked mark (name_at c.names k)) b e
-            ∙ ap (λ (t : Bool). cond t (in_row (suc n) (suc n) [] (on bare c.start)) (stopped bad_header 0)) (w.end_right e q).0
-            ∙ ap (λ (m : Mark). begun m (suc n)) (sym (w.end_right e q).2)
-            ∙ sym (state-past r.mark r.head (suc n) (w.end_right e q).1)
+            ∙ ap (λ (t : Bool). cond t (in_row (suc n) (suc n) [] (on bare c.start)) (stopped bad_header 0)) (w.end e).0
+            ∙ ap (λ (m : Mark). begun m (suc n)) (sym (w.end e).2)
+            ∙ sym (state-past x.mark x.head (suc n) (w.end e).1)
 
-    byte-differs : r.right ≡ false → Faulty bad_header 0 (step (at mark k n) b)
+    byte-differs : stepped_in header mark k b ≡ None → Faulty bad_header 0 (step (at mark k n) b)
     byte-differs q = go (eqb b line_feed) refl
       where
+        w : Stops c.names can mark k b
+        w = compares-at c.names can mark k b h None q
+
         go : (l : Bool) → eqb b line_feed ≡ l → Faulty bad_header 0 (step (at mark k n) b)
         go false e =
             subst (λ (p : Reached A O). Faulty bad_header 0 p)
-            (sym (at_byte n (marked mark (name_at c.names k)) b e ∙ ap (λ (x : Option (Marked Named)). on_head (machine_of c) n x) (w.byte_wrong e q))) is_broken
+            (sym (at_byte n (marked mark (name_at c.names k)) b e ∙ ap (λ (x : Math.Option (Marked Named)). on_head (machine_of c) n x) (w.byte e))) is_broken
         go true e =
             subst (λ (p : Reached A O). Faulty bad_header 0 p)
             (sym (at-line n (marked mark (name_at c.names k)) b e
-            ∙ ap (λ (t : Bool). cond t (in_row (suc n) (suc n) [] (on bare c.start)) (stopped bad_header 0)) (w.end_wrong e q))) is_stopped
+            ∙ ap (λ (t : Bool). cond t (in_row (suc n) (suc n) [] (on bare c.start)) (stopped bad_header 0)) (w.end e))) is_stopped
 
   -- ---- the bytes of a part
 
   -- a byte that differs is the text's fault
-  wrong_part : (s : List ℕ) (mark : Mark) (k i n : ℕ) → (compared_from header mark k i s).right ≡ false → Faulty bad_header 0 (fold step (state mark k n) s)
+  wrong_part : (s : List ℕ) (mark : Mark) (k i n : ℕ) → is_ok (compared_from header mark k i s) ≡ false → Faulty bad_header 0 (fold step (state mark k n) s)
   wrong_part [] mark k i n e = absurd (true≢false e)
-  wrong_part (b ∷ s) mark k i n e = go (ltb k (length header)) refl x.right refl (wrong_part s x.mark x.head (i + 1) (suc n)) e
+  wrong_part (b ∷ s) mark k i n e = go (ltb k (length header)) refl (stepped_in header mark k b) refl (wrong_part s) e
     where
-      x : Stepped
-      x = stepped_in header mark k b
-
-      go : (t : Bool) → ltb k (length header) ≡ t → (q : Bool) → x.right ≡ q
-          → ((compared_from header x.mark x.head (i + 1) s).right ≡ false → Faulty bad_header 0 (fold step (state x.mark x.head (suc n)) s))
-          → (cond t (cond q (compared_from header x.mark x.head (i + 1) s) (headed i k mark false)) (headed i k mark true)).right ≡ false
+      go : (t : Bool) → ltb k (length header) ≡ t → (y : Option Stepped) → stepped_in header mark k b ≡ y
+          → ((m : Mark) (l j d : ℕ) → is_ok (compared_from header m l j s) ≡ false → Faulty bad_header 0 (fold step (state m l d) s))
+          → is_ok (cond t (after_step y (λ x. compared_from header x.mark x.head (i + 1) s) (Err (headed i k mark))) (Ok (headed i k mark))) ≡ false
           → Faulty bad_header 0 (fold step (step (cond t (at mark k n) (begun mark n)) b) s)
-      go true f true q ih e =
-          subst (λ (p : Reached A O). Faulty bad_header 0 (fold step p s)) (sym (byte_leads mark k n b (ltb-true k (length header) f) q)) (ih e)
-      go true f false q ih e = faulty_fold (machine_of c) (step (at mark k n) b) s (byte-differs mark k n b (ltb-true k (length header) f) q)
-      go false f q r ih e = absurd (true≢false e)
+      go true f (Some x) q ih e =
+          subst (λ (p : Reached A O). Faulty bad_header 0 (fold step p s)) (sym (byte_leads mark k n b (ltb-true k (length header) f) x q)) (ih x.mark x.head (i + 1) (suc n) e)
+      go true f None q ih e = faulty_fold (machine_of c) (step (at mark k n) b) s (byte-differs mark k n b (ltb-true k (length header) f) q)
+      go false f y q ih e = absurd (true≢false e)
 
   -- bytes that agree lead on
   record Agrees (mark : Mark) (k i n : ℕ) (s : List ℕ) (r : Headed) : Type 0 where
@@ -142,22 +141,18 @@ module _ {A O : Type 0} (c : Contents A O) (can : can_head c.names ≡ true) whe
     ends : r.head < length header → count ≡ length s
     same : fold step (state r.mark r.head (n + count)) (drop count s) ≡ fold step (state mark k n) s
 
-  right_part : (s : List ℕ) (mark : Mark) (k i n : ℕ) → (compared_from header mark k i s).right ≡ true → Agrees mark k i n s (compared_from header mark k i s)
+  right_part : (s : List ℕ) (mark : Mark) (k i n : ℕ) → is_ok (compared_from header mark k i s) ≡ true → Agrees mark k i n s (reached (compared_from header mark k i s))
   right_part [] mark k i n e = record { count = 0; next_is = sym (add-zero i); ends = λ h. refl; same = ap (state mark k) (add-zero n) }
-  right_part (b ∷ s) mark k i n e = go (ltb k (length header)) refl x.right refl (right_part s x.mark x.head (i + 1) (suc n)) e
+  right_part (b ∷ s) mark k i n e = go (ltb k (length header)) refl (stepped_in header mark k b) refl (right_part s) e
     where
-      x : Stepped
-      x = stepped_in header mark k b
-
-      next : Headed
-      next = compared_from header x.mark x.head (i + 1) s
-
-      go : (t : Bool) → ltb k (length header) ≡ t → (q : Bool) → x.right ≡ q → (next.right ≡ true → Agrees x.mark x.head (i + 1) (suc n) s next)
-          → (cond t (cond q next (headed i k mark false)) (headed i k mark true)).right ≡ true
-          → Agrees mark k i n (b ∷ s) (cond t (cond q next (headed i k mark false)) (headed i k mark true))
-      go true f true q ih e =
-          let w = ih e in
+      go : (t : Bool) → ltb k (length header) ≡ t → (y : Option Stepped) → stepped_in header mark k b ≡ y
+          → ((m : Mark) (l j d : ℕ) → is_ok (compared_from header m l j s) ≡ true → Agrees m l j d s (reached (compared_from header m l j s)))
+          → is_ok (cond t (after_step y (λ x. compared_from header x.mark x.head (i + 1) s) (Err (headed i k mark))) (Ok (headed i k mark))) ≡ true
+          → Agrees mark k i n (b ∷ s) (reached (cond t (after_step y (λ x. compared_from header x.mark x.head (i + 1) s) (Err (headed i k mark))) (Ok (headed i k mark))))
+      go true f (Some x) q ih e =
+          let w = ih x.mark x.head (i + 1) (suc n) e in
           let l : n + suc w.count ≡ suc n + w.count = omega arith in
+          let next : Headed = reached (compared_from header x.mark x.head (i + 1) s) in
           record {
             count = suc w.count;
             next_is = w.next_is ∙ omega arith;
@@ -165,11 +160,11 @@ module _ {A O : Type 0} (c : Contents A O) (can : can_head c.names ≡ true) whe
             same =
                 ap (λ (y : ℕ). fold step (state next.mark next.head y) (drop w.count s)) l
                 ∙ w.same
-                ∙ ap (λ (p : Reached A O). fold step p s) (sym (byte_leads mark k n b (ltb-true k (length header) f) q))
+                ∙ ap (λ (p : Reached A O). fold step p s) (sym (byte_leads mark k n b (ltb-true k (length header) f) x q))
                 ∙ ap (λ (p : Reached A O). fold step (step p b) s) (sym (state_in mark k n (ltb-true k (length header) f)));
           }
-      go true f false q ih e = absurd (false≢true e)
-      go false f q r ih e =
+      go true f None q ih e = absurd (false≢true e)
+      go false f y q ih e =
           record {
             count = 0;
             next_is = sym (add-zero i);
@@ -177,29 +172,29 @@ module _ {A O : Type 0} (c : Contents A O) (can : can_head c.names ≡ true) whe
             same = ap (λ (y : ℕ). fold step (state mark k y) (b ∷ s)) (add-zero n);
           }
 
-  module _ (part : List ℕ) (mark : Mark) (k n : ℕ) (r : Headed) (h : k < length header) (is : r ≡ compared_from header mark k 0 part) where
+  module _ (part : List ℕ) (mark : Mark) (k n : ℕ) (r : Result Headed Headed) (h : k < length header) (is : r ≡ compared_from header mark k 0 part) where
     first : state mark k n ≡ at mark k n
     first = state_in mark k n h
 
-    differs : r.right ≡ false → Faulty bad_header 0 (fold step (at mark k n) part)
-    differs e = subst (λ (p : Reached A O). Faulty bad_header 0 (fold step p part)) first (wrong_part part mark k 0 n (ap (λ (x : Headed). x.right) (sym is) ∙ e))
+    differs : (w : Headed) → r ≡ Err w → Faulty bad_header 0 (fold step (at mark k n) part)
+    differs w e = subst (λ (p : Reached A O). Faulty bad_header 0 (fold step p part)) first (wrong_part part mark k 0 n (ap is_ok (sym is ∙ e)))
 
-    module _ (e : r.right ≡ true) where
-      agrees : Agrees mark k 0 n part r
-      agrees = subst (λ (x : Headed). Agrees mark k 0 n part x) (sym is) (right_part part mark k 0 n (ap (λ (x : Headed). x.right) (sym is) ∙ e))
+    module _ (w : Headed) (e : r ≡ Ok w) where
+      agrees : Agrees mark k 0 n part w
+      agrees = subst (λ (x : Headed). Agrees mark k 0 n part x) (ap reached (sym is ∙ e)) (right_part part mark k 0 n (ap is_ok (sym is ∙ e)))
 
-      goes_on : r.head < length header → fold step (at mark k n) part ≡ at r.mark r.head (n + length part)
+      goes_on : w.head < length header → fold step (at mark k n) part ≡ at w.mark w.head (n + length part)
       goes_on l =
           ap (λ (p : Reached A O). fold step p part) (sym first)
           ∙ sym agrees.same
-          ∙ ap (λ (x : ℕ). fold step (state r.mark r.head (n + x)) (drop x part)) (agrees.ends l)
-          ∙ ap (λ (s : List ℕ). fold step (state r.mark r.head (n + length part)) s) (drop-length part)
-          ∙ state_in r.mark r.head (n + length part) l
+          ∙ ap (λ (x : ℕ). fold step (state w.mark w.head (n + x)) (drop x part)) (agrees.ends l)
+          ∙ ap (λ (s : List ℕ). fold step (state w.mark w.head (n + length part)) s) (drop-length part)
+          ∙ state_in w.mark w.head (n + length part) l
 
-      is_over : length header ≤ r.head → fold step (begun r.mark (n + r.next)) (drop r.next part) ≡ fold step (at mark k n) part
+      is_over : length header ≤ w.head → fold step (begun w.mark (n + w.next)) (drop w.next part) ≡ fold step (at mark k n) part
       is_over l =
-          ap (λ (p : Reached A O). fold step p (drop r.next part)) (sym (state-past r.mark r.head (n + r.next) l))
-          ∙ ap (λ (x : ℕ). fold step (state r.mark r.head (n + x)) (drop x part)) (agrees.next_is ∙ zero-add agrees.count)
+          ap (λ (p : Reached A O). fold step p (drop w.next part)) (sym (state-past w.mark w.head (n + w.next) l))
+          ∙ ap (λ (x : ℕ). fold step (state w.mark w.head (n + x)) (drop x part)) (agrees.next_is ∙ zero-add agrees.count)
           ∙ agrees.same
           ∙ ap (λ (p : Reached A O). fold step p part) first
 

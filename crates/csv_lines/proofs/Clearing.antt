@@ -1,9 +1,9 @@
 -- Bytes of which none ends a line: one after the other. Assumes nothing.
 use Prim.Native.Nat.{ℕ, ◌+◌, ◌-◌, ◌≤◌, ◌<◌}
-use mathlib.Core.Path.{◌≡◌, ap, subst, sym, ◌∙◌}
-use mathlib.Core.Bool.{Bool, true, false, cond, true≢false}
+use mathlib.Core.Path.{◌≡◌, refl, ap, subst, sym}
+use mathlib.Core.Bool.{Bool, true, false, not, ◌&&◌, true≢false}
 use lib.Dec.{eqb}
-use borrow.Author.Tests.{ne_eqb}
+use borrow.Author.Tests.{eqb-false}
 use mathlib.Core.List.{List}
 use native.Mathlib.Omega.{arith}
 use native.Mathlib.Nat.{add-zero}
@@ -49,16 +49,18 @@ pub record Flagged (text : List ℕ) (at : ℕ) (clear : Bool) (k : ℕ) : Type 
 pub flagged_first : (text : List ℕ) (at : ℕ) → together ≤ length text → at ≤ length text - together → Flagged text at true 0
 flagged_first text at h k = record { there = omega arith; few = omega arith; kept = λ e. clearing_first text at h k }
 
-pub flagged_step : {text : List ℕ} {at k : ℕ} {clear : Bool} (b : ℕ) (r : Bool) → Flagged text at clear k → k < together → b ≡ get_or text (at + k) 0
-    → r ≡ cond (eqb b line_feed) false clear → Flagged text at r (k + 1)
-flagged_step {text} {at} {k} {clear} b r f h p q = record { there = f.there; few = omega arith; kept = kept }
+both : (x y : Bool) → x && not y ≡ true → (x ≡ true) × (y ≡ false)
+both true true e = absurd (true≢false (sym e))
+both true false e = (refl, refl)
+both false y e = absurd (true≢false (sym e))
+
+pub flagged_step : {text : List ℕ} {at k : ℕ} {clear : Bool} → Flagged text at clear k → k < together → Flagged text at (clear && not (eqb (get_or text (at + k) 0) line_feed)) (k + 1)
+flagged_step {text} {at} {k} {clear} f h = record { there = f.there; few = omega arith; kept = kept }
   where
-    kept : r ≡ true → Clearing text at (k + 1)
+    kept : clear && not (eqb (get_or text (at + k) 0) line_feed) ≡ true → Clearing text at (k + 1)
     kept e =
-        let t : cond (eqb b line_feed) false clear ≡ true = sym q ∙ e in
-        let n : b ≡ line_feed → ⊥ = λ z. true≢false (sym (rw z at t)) in
-        let u : clear ≡ true = rw (ne_eqb b line_feed n) at t in
-        clearing_next (f.kept u) h (λ z. n (p ∙ z))
+        let w = both clear (eqb (get_or text (at + k) 0) line_feed) e in
+        clearing_next (f.kept w.0) h (eqb-false (get_or text (at + k) 0) line_feed w.1)
 
 pub flagged_all : {text : List ℕ} {at k : ℕ} {clear : Bool} → Flagged text at clear k → together ≤ k → clear ≡ true → Clear text at
 flagged_all {text} {at} {k} {clear} f h e = cleared (f.kept e) h

@@ -49,5 +49,5 @@ module _ (s : List ℕ) (row at left : ℕ) (e : at + place_of_row (drop at s) l
     byte_on b n =
         rw (n, add-one at) (omega (arith, rw (drop-cons s at 0 h, ne_eqb _ line_feed b) at e, other_byte (get_or s at 0) left (drop (suc at) s)))
 
-  pub row-past : length s ≤ at → at + 1 ≡ place_of_row s row
-  row-past h = omega (arith, rw (drop_of_length-le s h) at e, start-past left)
+  pub row-past : length s ≤ at → at ≤ length s → length s + 1 ≡ place_of_row s row
+  row-past h k = omega (arith, rw (drop_of_length-le s h) at e, start-past left)

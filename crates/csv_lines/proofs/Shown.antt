@@ -115,17 +115,6 @@ module _ (s : List ℕ) (place end : ℕ) (found : end ≡ place + up_to line_fe
     shown_whole h n = omega (arith, by_last h false (ne_eqb (get_or s (end - 1) 0) carriage_return n))
 
 module _ (s : List ℕ) (place : ℕ) where
-  -- ---- whether a row starts there: each test in turn
-
-  pub starts_at_0 : place ≡ 0 → false ≡ starts_row s place
-  starts_at_0 e = rw (le-ltb 0 place (omega arith))
-
-  pub starts_past : length s ≤ place → false ≡ starts_row s place
-  starts_past h = rw (le-ltb place (length s) h, and-false (ltb 0 place))
-
-  pub starts_after : (place ≡ 0 → ⊥) → place < length s → eqb (get_or s (place - 1) 0) line_feed ≡ starts_row s place
-  starts_after a b = let above : 0 < place = omega arith in rw (lt-ltb 0 place above, lt-ltb place (length s) b)
-
   -- ---- the row
 
   started : starts_row s place ≡ true → place < length s

@@ -1,5 +1,5 @@
 // Where a line ends: lines are long, so some bytes are looked at together.
-ghost use Rattle.std.specs.Prelude.{◌≡◌, true, false, cond, eqb, ◌+◌, drop};
+ghost use Rattle.std.specs.Prelude.{◌≡◌, true, ◌+◌, drop};
 ghost use Rattle.rules.specs.Bytes.{line_feed};
 ghost use Rattle.text_read.specs.Places.{up_to};
 ghost use Rattle.csv_lines.specs.Clear.{Clear};
@@ -8,16 +8,6 @@ use crate::LINE_FEED;
 use text_read::pieces;
 
 const TOGETHER: usize = 16;
-
-// Whether no LF is among bytes, with one byte more.
-fn clear_with(clear: bool, b: u8) -> bool
-    ensures { result ≡ cond (eqb b line_feed) false clear }
-{
-    if b == LINE_FEED {
-        return false;
-    }
-    clear
-}
 
 // Whether so many bytes stand from a place on, and no LF is among them.
 fn clear_at(text: &[u8], at: usize) -> bool
@@ -30,10 +20,8 @@ fn clear_at(text: &[u8], at: usize) -> bool
         return false;
     }
     let mut clear = true;
-    let mut k = 0;
-    while k < TOGETHER {
-        clear = clear_with(clear, text[at + k]);
-        k += 1;
+    for k in 0..TOGETHER {
+        clear &= text[at + k] != LINE_FEED;
     }
     clear
 }
@@ -43,11 +31,9 @@ pub fn line_end(text: &[u8], from: usize) -> usize
     ensures { result ≡ from + up_to line_feed (drop from text.now) }
 {
     let mut at = from;
-    loop {
-        if clear_at(text, at) {
-            at += TOGETHER;
-        } else {
-            return pieces::find(text, LINE_FEED, at);
-        }
+    // Kept (no plainer): how many turns there are shows only from what each has looked at.
+    while clear_at(text, at) {
+        at += TOGETHER;
     }
+    pieces::find(text, LINE_FEED, at)
 }

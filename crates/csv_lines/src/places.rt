@@ -12,17 +12,15 @@ pub fn place_of_row(text: &[u8], row: usize) -> usize
     ensures { result ≡ place_of_row text.now row }
 {
     let mut left = row;
-    let mut at = 0;
-    while at < text.len() {
-        if text[at] == LINE_FEED {
+    for (at, b) in text.iter().enumerate() {
+        if *b == LINE_FEED {
             if left == 0 {
                 return at + 1;
             }
             left -= 1;
         }
-        at += 1;
     }
-    at + 1
+    text.len() + 1
 }
 
 // A row of a text of lawful length is refused at its place.

@@ -50,17 +50,16 @@ fn row_in<'a>(s: &'a [u8], place: usize) -> &'a [u8]
     &s[0..0]
 }
 
+#[tactic(auto, unfolding(rules::specs::Display::row_at))]
 pub fn row_at<'a>(draft: &'a [u8], solution: &'a [u8], file: u8, place: u32) -> &'a [u8]
     ensures { result.now ≡ row_at draft.now solution.now file place }
 {
     let at = place as usize;
-    if file == File::TIMETABLE {
-        return row_in(draft, at);
+    match file {
+        File::TIMETABLE => row_in(draft, at),
+        File::SOLUTION => row_in(solution, at),
+        _ => &draft[0..0],
     }
-    if file == File::SOLUTION {
-        return row_in(solution, at);
-    }
-    &draft[0..0]
 }
 
 // Where that row starts; 0 where none does.
@@ -77,11 +76,9 @@ pub fn start_at(draft: &[u8], solution: &[u8], file: u8, place: u32) -> usize
     ensures { result ≡ start_at draft.now solution.now file place }
 {
     let at = place as usize;
-    if file == File::TIMETABLE {
-        return start_in(draft, at);
+    match file {
+        File::TIMETABLE => start_in(draft, at),
+        File::SOLUTION => start_in(solution, at),
+        _ => 0,
     }
-    if file == File::SOLUTION {
-        return start_in(solution, at);
-    }
-    0
 }

@@ -1,6 +1,7 @@
 -- A mark as the code has it, and what a byte does under it.
-use Rattle.std.specs.Prelude.{ℕ, Bool, true, false, not, cond, eqb}
-use Rattle.std.proofs.Math.Option.{Option, none, some}
+use Rattle.std.specs.Prelude.{ℕ, Bool, true, false, not, cond, Option, Some, None, eqb}
+use Rattle.std.proofs.Math.Option as Math
+use Rattle.std.proofs.Math.Option.{none, some}
 use Rattle.rules.specs.Bytes.{line_feed, carriage_return, quote, comma}
 use Rattle.csv_machine.specs.Marks.{bare, within, behind, Marked, on, returned}
 use Rattle.csv_marks.specs.declared.Mark.{Mark}
@@ -16,7 +17,7 @@ marked Within o = on within o
 marked Behind o = on behind o
 marked Returned o = returned o
 
-abbrev pub marked_step : {O : Type 0} → Mark → Option O → Option (Marked O)
+abbrev pub marked_step : {O : Type 0} → Mark → Math.Option O → Math.Option (Marked O)
 marked_step mark none = none
 marked_step mark (some o) = some (marked mark o)
 
@@ -82,20 +83,17 @@ turned mark b begins =
 
 -- ---- the same where the contents take their bytes themselves
 
-abbrev pub moved_to : Mark → Move
-moved_to mark = record { mark = mark; step = 1; right = true }
+abbrev pub moved_to : Mark → Option Move
+moved_to mark = Some (record { mark = mark; step = 1 })
 
 -- the byte is left for the contents
-abbrev pub left_at : Mark → Move
-left_at mark = record { mark = mark; step = 0; right = true }
+abbrev pub left_at : Mark → Option Move
+left_at mark = Some (record { mark = mark; step = 0 })
 
-abbrev pub broken_at : Mark → Move
-broken_at mark = record { mark = mark; step = 0; right = false }
+abbrev pub moved_by : Act → Option Move
+moved_by (To m) = moved_to m
+moved_by (Content m) = left_at m
+moved_by Broken = None
 
-abbrev pub moved_by : Mark → Act → Move
-moved_by mark (To m) = moved_to m
-moved_by mark (Content m) = left_at m
-moved_by mark Broken = broken_at mark
-
-abbrev pub moved_under : Mark → (b : ℕ) (begins : Bool) → Move
-moved_under mark b begins = moved_by mark (turned mark b begins)
+abbrev pub moved_under : Mark → (b : ℕ) (begins : Bool) → Option Move
+moved_under mark b begins = moved_by (turned mark b begins)

@@ -1,4 +1,5 @@
 -- The loop of the second pass: each way through its body. Assumes nothing.
+use Rattle.std.specs.Prelude.{Ok, Err}
 use Prim.Native.Nat.{ℕ, suc, ◌+◌, ◌*◌, ◌-◌, ◌≤◌, ◌<◌, min}
 use mathlib.Core.Path.{◌≡◌, refl, sym, ap, ap₂, subst, ◌∙◌}
 use mathlib.Core.Bool.{Bool, true, false, not, cond, ◌&&◌, ◌||◌}
@@ -28,7 +29,6 @@ use Rattle.duties_nodes.proofs.Walking.{names_long}
 use Rattle.duties.specs.Steps.{left_at, RowsAt, Ready}
 use Rattle.duties.specs.Turns.{line_at, rest_at, Rules, ended_in, turned_in, TurnRoom, Starts, Judges, all_kept, one_broken}
 use Rattle.duties.specs.declared.turns.Ruled.{Ruled}
-use Rattle.duties.specs.declared.judge.Found.TheVariants.{Kept, Broken}
 use Rattle.duties.proofs.Viewing.{put_shows}
 use Rattle.duties.proofs.Standing.{stands, stands_text, less_front}
 use Rattle.duties.proofs.Passing.{rows_next}
@@ -141,7 +141,7 @@ module _ (text table : List ℕ) (n : ℕ) (d₀ : List ℕ) (z₀ : List ℤ) (
         }
 
     -- the rows are over
-    pub judge-end : length text ≤ place → (z' : List ℤ) → z' ≡ ended_in B (view text table n) z → Judges text table n z₀ from Kept z'
+    pub judge-end : length text ≤ place → (z' : List ℤ) → z' ≡ ended_in B (view text table n) z → Judges text table n z₀ from (Ok tt) z'
     judge-end l z' e =
         let none_left : rest_at text place ≡ [] = rest_end text place l in
         let names = view text table n in
@@ -237,14 +237,14 @@ module _ (text table : List ℕ) (n : ℕ) (d₀ : List ℕ) (z₀ : List ℤ) (
         one_row_lem : broken_from row so_far (event_in line ∷ rest_at text (end + 1)) ≡ broken es
         one_row_lem = sym (ap (broken_from row so_far) here.rest) ∙ h.rules_left
 
-        pub judge-broken : (r.rule ≡ 0 → ⊥) → Judges text table n z₀ from (Broken row r.rule place) z
+        pub judge-broken : (r.rule ≡ 0 → ⊥) → Judges text table n z₀ from (Err (record { row = row; rule = r.rule; place = place })) z
         judge-broken n =
             let a : row ≤ most_events = omega (arith, judge_few) in
             let b : place ≤ most_text = omega (arith, g.short) in
             let c : lowest (rules so_far (event_in line)) ≡ some r.rule = rule_broken _ r.rule lowest_is n in
             let z0 : row + 0 ≡ row = omega arith in
             let p : place_of_row text row ≡ place + 0 = ap (place_of_row text) (sym z0) ∙ h.rows_at 0 in
-            one_broken a b
+            one_broken {b = record { row = row; rule = r.rule; place = place }} a b
             (sym one_row_lem ∙ ap (λ (o : Option ℕ). or_else row o (broken_from (suc row) (after so_far (event_in line)) (rest_at text (end + 1)))) c)
             (omega arith)
 

@@ -1,4 +1,5 @@
 -- The loop of the first pass: each way through its body. Assumes nothing.
+use Rattle.std.specs.Prelude.{Ok, Err}
 use Prim.Native.Nat.{ℕ, zero, suc, ◌+◌, ◌*◌, ◌-◌, ◌≤◌, ◌<◌, min}
 use mathlib.Core.Path.{◌≡◌, refl, sym, ap, ap₂, ◌∙◌}
 use mathlib.Core.Bool.{Bool, true, false, cond, ◌&&◌}
@@ -21,7 +22,6 @@ use Rattle.rules.specs.Duties.{Event, with_name, with_nodes, nodes_from, nodes_o
 use Rattle.duties_fields.specs.Fields.{content_in, is_ten}
 use Rattle.duties_row.specs.Rowed.{is_row, is_named, has_wholes, in_range, event_in, line_fault, count_fault, or_fault, judged_by}
 use Rattle.duties_nodes.specs.Nodes.{names_from, view, with_both}
-use Rattle.duties.specs.declared.pass.Pass.TheVariants.{Read, Fault}
 use Rattle.duties.specs.Steps.{row_fault, RowsAt, Good, PutsBoth, Begins, Holding, Passes, all_read, at_fault}
 use Rattle.duties.proofs.Viewing.{step_judged, put_shows, not_fewer}
 use Rattle.duties.proofs.Standing.{stands, stands_text, less_front}
@@ -133,8 +133,8 @@ begin_holds room text t from g =
     record { before = []; left = refl; count = refl; seen = refl; table = sym (over_none t); wide = omega arith; rows_at = g.rows_at; within = g.within; fits = omega arith; few = omega arith; most = omega arith; long = refl }
 
 module _ (room : ℕ) (text : List ℕ) (from : ℕ) (t₀ : List ℕ) (place rows n : ℕ) (t : List ℕ) (h : Holding room text from t₀ place rows n t) where
-  pub pass_end : length text ≤ place → Passes room text from t₀ (Read rows n) t
-  pass_end l = all_read
+  pub pass_end : length text ≤ place → Passes room text from t₀ (Ok (record { rows = rows; nodes = n })) t
+  pass_end l = all_read {p = record { rows = rows; nodes = n }}
       h.before
       (record {
         left = sym h.left ∙ rows_end room text place h.before l;
@@ -148,21 +148,21 @@ module _ (room : ℕ) (text : List ℕ) (from : ℕ) (t₀ : List ℕ) (place ro
       })
 
   module _ (g : Begins room text t₀ from) (end : ℕ) (q : end ≡ place + up_to line_feed (drop place text)) (l : place < length text) where
-    pub pass_open : length text ≤ end → Passes room text from t₀ (Fault bad_row place) t
-    pass_open k = let s : place ≤ most_text = omega (arith, g.short) in at_fault s (sym h.left ∙ row_open room text place end h.before q l k)
+    pub pass_open : length text ≤ end → Passes room text from t₀ (Err (record { number = bad_row; place = place })) t
+    pass_open k = let s : place ≤ most_text = omega (arith, g.short) in at_fault {f = record { number = bad_row; place = place }} s (sym h.left ∙ row_open room text place end h.before q l k)
 
     module _ (k : end < length text) (line : List ℕ) (e : line ≡ less_return (take (end - place) (drop place text))) (f : ℕ) (p : f ≡ row_fault (view text t n) rows room line) where
       judged : row_of room h.before (less_return (take (end - place) (drop place text))) ≡ judged_by f (event_in line)
       judged = ap (row_of room h.before) (sym e) ∙ step_judged room h.before line f rows (view text t n) h.count h.seen p
 
-      pub pass_fault : (f ≡ 0 → ⊥) → Passes room text from t₀ (Fault f place) t
+      pub pass_fault : (f ≡ 0 → ⊥) → Passes room text from t₀ (Err (record { number = f; place = place })) t
       pass_fault z = go f refl z
         where
-          go : (x : ℕ) → f ≡ x → (x ≡ 0 → ⊥) → Passes room text from t₀ (Fault x place) t
+          go : (x : ℕ) → f ≡ x → (x ≡ 0 → ⊥) → Passes room text from t₀ (Err (record { number = x; place = place })) t
           go zero w y = absurd (y refl)
           go (suc x) w y =
               let s : place ≤ most_text = omega (arith, g.short) in
-              at_fault
+              at_fault {f = record { number = suc x; place = place }}
               s
               (sym h.left
               ∙ row_wrong room text place end h.before q h.within k (suc x) (judged ∙ ap (λ (v : ℕ). judged_by v (event_in line)) w))

@@ -4,11 +4,10 @@ use mathlib.Core.Path.{◌≡◌, refl, sym, ap, ◌∙◌}
 use mathlib.Core.List.{List, [], ◌∷◌}
 use native.Mathlib.Omega.{arith}
 use lib.ListN.{length, get_or, take}
-use lib.Seq.{take_all}
 use borrow.Author.Tests.{eq-eqb, ne_eqb}
 use Rattle.rules.specs.Bytes.{carriage_return, less_return}
 
-pub less_none : (s : List ℕ) → length s ≡ 0 → [] ≡ less_return s
+pub less_none : (s : List ℕ) → length s ≡ 0 → s ≡ less_return s
 less_none [] h = refl
 less_none (b ∷ s) h = absurd (omega arith)
 
@@ -33,10 +32,8 @@ less_kept (b ∷ c ∷ s) k h e =
     ap (λ (t : List ℕ). b ∷ t) (less_kept (c ∷ s) (length s) refl (λ w. e (ap (λ (i : ℕ). get_or (b ∷ c ∷ s) i 0) z ∙ w)))
 
 module _ (s : List ℕ) (n : (length s ≡ 0 → ⊥)) where
-  pub less_last : get_or s (length s - 1) 0 ≡ carriage_return → take (length s - 1 - 0) s ≡ less_return s
-  less_last e =
-      let z : length s - 1 - 0 ≡ length s - 1 = omega arith in
-      ap (λ (i : ℕ). take i s) z ∙ less_cut s (length s - 1) (omega arith) e
+  pub less_last : get_or s (length s - 1) 0 ≡ carriage_return → take (length s - 1) s ≡ less_return s
+  less_last e = less_cut s (length s - 1) (omega arith) e
 
-  pub less_all : (get_or s (length s - 1) 0 ≡ carriage_return → ⊥) → take (length s - 0) s ≡ less_return s
-  less_all e = take_all (length s - 0) s (omega arith) ∙ less_kept s (length s - 1) (omega arith) e
+  pub less_all : (get_or s (length s - 1) 0 ≡ carriage_return → ⊥) → s ≡ less_return s
+  less_all e = less_kept s (length s - 1) (omega arith) e

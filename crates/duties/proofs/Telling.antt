@@ -1,7 +1,7 @@
 -- Both passes together, as the entry has them. Assumes nothing.
+use Rattle.std.specs.Prelude.{Result, Ok, Err}
 use Prim.Native.Nat.{ℕ, ◌*◌, ◌/◌, ◌≤◌, ◌<◌, ◌^◌, min}
 use mathlib.Core.Path.{◌≡◌, refl, sym, ap, ap₂, subst, ◌∙◌}
-use mathlib.Core.Bool.{true, false}
 use mathlib.Core.List.{List, [], ◌∷◌, ◌++◌, map}
 use mathlib.Core.Option.{none, some}
 use native.Mathlib.Omega.{arith}
@@ -10,13 +10,11 @@ use lib.IntN.{ℤ, pos}
 use mir.Syntax.{w32}
 use mir.Val.{bits}
 use borrow.Author.Tests.{le-leb, lt-leb}
-use Rattle.rules.specs.Limits.{most_text, most_events, node_width, unsigned_fill, signed_fill}
+use Rattle.rules.specs.Limits.{most_text, most_events, node_width}
 use Rattle.rules.specs.Lists.{over}
-use Rattle.rules.specs.Answers.{refused, good, refusal, broken_rule, too_long, bad_header, duties_file, told_values}
+use Rattle.rules.specs.Answers.{refused, good, refusal, broken_rule, too_long, bad_header, duties_file}
 use Rattle.rules.specs.Bytes.{line_feed, split_on}
 use Rattle.rules.specs.Rows.{place_of_row, csv_of}
-use Rattle.rules.specs.Entries.{filled}
-use Rattle.rules.specs.Promises.{ChecksDuties}
 use Rattle.rules.specs.Duties.{duties_names, duties_header, Event, row_of, nodes_of, broken, balance_from, balances, node_room, events_of, not_accepted, duties_judged, duties_from, DutiesChecked, duties_checked}
 use Rattle.rules.specs.declared.answers.Refusal.{Refusal}
 use Rattle.rules.specs.declared.answers.BrokenRule.{BrokenRule}
@@ -31,24 +29,24 @@ use Rattle.csv_header.proofs.Below.{headless, headed-rows, below_within, below_r
 use Rattle.duties_nodes.specs.Nodes.{view}
 use Rattle.duties_nodes.proofs.Walking.{names_long}
 use Rattle.duties.specs.declared.pass.Pass.{Pass}
-use Rattle.duties.specs.declared.pass.Pass.TheVariants.{Read, Fault}
-use Rattle.duties.specs.declared.judge.Found.{Found}
+use Rattle.duties.specs.declared.pass.Fault.{Fault}
+use Rattle.duties.specs.declared.judge.Breach.{Breach}
 use Rattle.duties.specs.Steps.{left_at, AllRead, Passes, all_read, at_fault}
 use Rattle.duties.specs.Turns.{rest_at, Starts, Judges, all_kept, one_broken}
-use Rattle.duties.specs.Entry.{Whole, Judged, keeps, breaks, Passed, Tells, accepts, tells_broken, tells_refused, nodes_after, balance_after}
+use Rattle.duties.specs.Entry.{Whole, Judged, keeps, breaks, Passed, Tells, accepts, tells_broken, tells_refused}
 use Rattle.duties.proofs.Resting.{rest_is}
 
 -- ---- `head_end`
 
-module _ (text : List ℕ) (r : Headed) (is : r ≡ compared_from duties_header Bare 0 0 text) where
-  pub head_right : r.right ≡ true → length duties_header ≤ r.head → r.next ≡ end_in duties_names (split_on line_feed text)
-  head_right = FirstLine.head_right duties_names refl text r is
+module _ (text : List ℕ) (r : Headed) where
+  pub head_right : Ok r ≡ compared_from duties_header Bare 0 0 text → length duties_header ≤ r.head → r.next ≡ end_in duties_names (split_on line_feed text)
+  head_right = FirstLine.head_right duties_names refl text r
 
-  pub head_short : r.right ≡ true → r.head < length duties_header → 0 ≡ end_in duties_names (split_on line_feed text)
-  head_short = FirstLine.head_short duties_names refl text r is
+  pub head_short : Ok r ≡ compared_from duties_header Bare 0 0 text → r.head < length duties_header → 0 ≡ end_in duties_names (split_on line_feed text)
+  head_short = FirstLine.head_short duties_names refl text r
 
-  pub head_wrong : r.right ≡ false → 0 ≡ end_in duties_names (split_on line_feed text)
-  head_wrong = FirstLine.head_wrong duties_names refl text r is
+  pub head_wrong : Err r ≡ compared_from duties_header Bare 0 0 text → 0 ≡ end_in duties_names (split_on line_feed text)
+  head_wrong = FirstLine.head_wrong duties_names refl text r
 
 -- ---- a front that is written twice
 
@@ -63,9 +61,6 @@ over-over w v t e = ap (λ (k : ℕ). w ++ drop k (v ++ drop (length v) t)) e �
 -- ---- `judge_all`
 
 module _ (text table : List ℕ) (n : ℕ) (z : List ℤ) (from : ℕ) (g : Whole text table n z from) where
-  pub whole_places : n ≤ length z
-  whole_places = g.places
-
   module _ (u : List ℤ) (e : u ≡ over (replicate n (pos 0)) z) where
     zeros_at : (k : ℕ) → k < n → get_or u k (pos 0) ≡ pos 0
     unfolding over
@@ -92,41 +87,36 @@ module _ (text table : List ℕ) (n : ℕ) (z : List ℤ) (from : ℕ) (g : Whol
           duties = omega arith;
         }
 
-    pub judged_kept : (f : Found) → (z' : List ℤ) → Judges text table n u from f z' → f ≡ Found.Kept → (m : ℕ) → m ≡ n → Judged text table n z from (Accepted m) z'
-    judged_kept f z' j q m s = subst (λ (x : ℕ). Judged text table n z from (Accepted x) z') (sym s) (go f j q)
-      where
-        go : (f : Found) → Judges text table n u from f z' → f ≡ Found.Kept → Judged text table n z from (Accepted n) z'
-        go f (all_kept a b) q =
-            let same : length (map (balance_from none (rest_at text from)) (view text table n)) ≡ length (replicate n (pos 0)) =
-            length-map (view text table n) (balance_from none (rest_at text from)) ∙ names_long text table 0 n ∙ sym (length-replicate n (pos 0)) in
-            keeps a
-            (b
-            ∙ ap (over (map (balance_from none (rest_at text from)) (view text table n))) e
-            ∙ over-over (map (balance_from none (rest_at text from)) (view text table n)) (replicate n (pos 0)) z same)
-        go f (one_broken a b c d) q = let w : ◌≡◌ {A = ℕ} 0 1 = cc in absurd (omega arith)
-
-    module _ (f : Found) (z' : List ℤ) (j : Judges text table n u from f z') (row rule place : ℕ) (q : f ≡ Found.Broken row rule place) where
-      found : (row ≤ most_events) × (place ≤ most_text) × (broken (rest_at text from) ≡ some (record { row = row; number = rule })) × (place ≡ place_of_row text row)
-      found = go f j q
+    module _ (f : Result Unit Breach) (z' : List ℤ) (j : Judges text table n u from f z') where
+      pub judged_kept : f ≡ Ok tt → (m : ℕ) → m ≡ n → Judged text table n z from (Accepted m) z'
+      judged_kept q m s = subst (λ (x : ℕ). Judged text table n z from (Accepted x) z') (sym s) (go (rw q at j))
         where
-          go : (f : Found) → Judges text table n u from f z' → f ≡ Found.Broken row rule place
-              → (row ≤ most_events) × (place ≤ most_text) × (broken (rest_at text from) ≡ some (record { row = row; number = rule })) × (place ≡ place_of_row text row)
-          go f (all_kept a b) q = let w : ◌≡◌ {A = ℕ} 0 1 = cc in absurd (omega arith)
-          go f (one_broken {row = row'} {rule = rule'} {place = place'} a b c d) q =
-              let e : row' ≡ row = cc in
-              let r : rule' ≡ rule = cc in
-              let p : place' ≡ place = cc in
-              (omega arith, omega arith, c ∙ ap₂ (λ (x y : ℕ). some (record { row = x; number = y })) e r, sym p ∙ d ∙ ap (place_of_row text) e)
+          go : Judges text table n u from (Ok tt) z' → Judged text table n z from (Accepted n) z'
+          go (all_kept a b) =
+              let same : length (map (balance_from none (rest_at text from)) (view text table n)) ≡ length (replicate n (pos 0)) =
+              length-map (view text table n) (balance_from none (rest_at text from)) ∙ names_long text table 0 n ∙ sym (length-replicate n (pos 0)) in
+              keeps a
+              (b
+              ∙ ap (over (map (balance_from none (rest_at text from)) (view text table n))) e
+              ∙ over-over (map (balance_from none (rest_at text from)) (view text table n)) (replicate n (pos 0)) z same)
 
-      -- both fit the answer
-      pub judged_row : row < 2 ^ bits w32
-      judged_row = omega (arith, found.0)
+      module _ (b : Breach) (q : f ≡ Err b) where
+        found : (b.row ≤ most_events) × (b.place ≤ most_text) × (broken (rest_at text from) ≡ some (record { row = b.row; number = b.rule })) × (b.place ≡ place_of_row text b.row)
+        found = go (rw q at j)
+          where
+            go : Judges text table n u from (Err b) z'
+                → (b.row ≤ most_events) × (b.place ≤ most_text) × (broken (rest_at text from) ≡ some (record { row = b.row; number = b.rule })) × (b.place ≡ place_of_row text b.row)
+            go (one_broken most far first there) = (most, far, first, there)
 
-      pub judged_place : place < 2 ^ bits w32
-      judged_place = omega (arith, found.1)
+        -- both fit the answer
+        pub judged_row : b.row < 2 ^ bits w32
+        judged_row = omega (arith, found.0)
 
-      pub judged_broken : (b : BrokenRule) → b ≡ broken_rule row rule place → Judged text table n z from (Broken b) z'
-      judged_broken b s = subst (λ (x : BrokenRule). Judged text table n z from (Broken x) z') (sym s) (breaks found.2 found.3)
+        pub judged_place : b.place < 2 ^ bits w32
+        judged_place = omega (arith, found.1)
+
+        pub judged_broken : (r : BrokenRule) → r ≡ broken_rule b.row b.rule b.place → Judged text table n z from (Broken r) z'
+        judged_broken r s = subst (λ (x : BrokenRule). Judged text table n z from (Broken x) z') (sym s) (breaks found.2 found.3)
 
 -- ---- `read_all`
 
@@ -135,19 +125,18 @@ module _ (room : ℕ) (text t₀ : List ℕ) (z : List ℤ) (from : ℕ) (g : Pa
   unfolding duties_checked
   checked_from_lem = ap (λ (x : ℕ). duties_from text t₀ z (events_of x text)) (sym g.room_is) ∙ ap (duties_from text t₀ z) g.rows
 
-  module _ (p : Pass) (t : List ℕ) (h : Passes room text from t₀ p t) where
-    module _ (rows n : ℕ) (q : p ≡ Read rows n) where
-      all : (es : List Event) × AllRead room text from t₀ es rows n t
-      all = go p h q
-        where
-          go : (p : Pass) → Passes room text from t₀ p t → p ≡ Read rows n → (es : List Event) × AllRead room text from t₀ es rows n t
-          go p (at_fault a b) q = let w : ◌≡◌ {A = ℕ} 0 1 = cc in absurd (omega arith)
-          go p (all_read {rows = rows'} {n = n'} es a) q =
-              let e : rows' ≡ rows = cc in
-              let m : n' ≡ n = cc in
-              (es, subst (λ (x : ℕ). AllRead room text from t₀ es x n t) e (subst (λ (x : ℕ). AllRead room text from t₀ es rows' x t) m a))
+  module _ (answer : Result Pass Fault) (t : List ℕ) (h : Passes room text from t₀ answer t) where
+    module _ (p : Pass) (q : answer ≡ Ok p) where
+      abbrev n : ℕ
+      n = p.nodes
 
-      read : AllRead room text from t₀ all.0 rows n t
+      all : (es : List Event) × AllRead room text from t₀ es p.rows n t
+      all = go (rw q at h)
+        where
+          go : Passes room text from t₀ (Ok p) t → (es : List Event) × AllRead room text from t₀ es p.rows p.nodes t
+          go (all_read es a) = (es, a)
+
+      read : AllRead room text from t₀ all.0 p.rows n t
       read = all.1
 
       events : all.0 ≡ rest_at text from
@@ -189,21 +178,17 @@ module _ (room : ℕ) (text t₀ : List ℕ) (z : List ℤ) (from : ℕ) (g : Pa
           ∙ ap (duties_judged text t₀ z all.0) (ap broken events ∙ k)
           ∙ ap (λ (x : ℕ). not_accepted text t₀ z (Broken (broken_rule row rule x))) (sym e))
 
-    module _ (number place : ℕ) (q : p ≡ Fault number place) where
-      fault : (place ≤ most_text) × (left_at room text from [] ≡ refused (refusal number duties_file place))
-      fault = go p h q
+    module _ (f : Fault) (q : answer ≡ Err f) where
+      fault : (f.place ≤ most_text) × (left_at room text from [] ≡ refused (refusal f.number duties_file f.place))
+      fault = go (rw q at h)
         where
-          go : (p : Pass) → Passes room text from t₀ p t → p ≡ Fault number place → (place ≤ most_text) × (left_at room text from [] ≡ refused (refusal number duties_file place))
-          go p (all_read es a) q = let w : ◌≡◌ {A = ℕ} 0 1 = cc in absurd (omega arith)
-          go p (at_fault {f = f} {place = place'} a b) q =
-              let e : f ≡ number = cc in
-              let w : place' ≡ place = cc in
-              (omega arith, b ∙ ap₂ (λ (x y : ℕ). refused (refusal x duties_file y)) e w)
+          go : Passes room text from t₀ (Err f) t → (f.place ≤ most_text) × (left_at room text from [] ≡ refused (refusal f.number duties_file f.place))
+          go (at_fault far there) = (far, there)
 
-      pub read_place : place < 2 ^ bits w32
+      pub read_place : f.place < 2 ^ bits w32
       read_place = omega (arith, fault.0)
 
-      pub read_refused : (r : Refusal) → r ≡ refusal number duties_file place → (z' : List ℤ) → Tells text t₀ z (Refused r) t z'
+      pub read_refused : (r : Refusal) → r ≡ refusal f.number duties_file f.place → (z' : List ℤ) → Tells text t₀ z (Refused r) t z'
       read_refused r e z' = tells_refused (checked_from_lem ∙ ap (duties_from text t₀ z) fault.1 ∙ ap (λ (x : Refusal). not_accepted text t₀ z (Refused x)) (sym e))
 
 -- ---- `tell`
@@ -236,29 +221,3 @@ module _ (text t : List ℕ) (z : List ℤ) where
           room_is = e;
           rows = rw (le-leb (length text) most_text short) (headed-rows duties_names text from ends n duties_file (row_of room));
         }
-
--- ---- `check_duties`
-
-pub check-told : (text t₀ : List ℕ) (z₀ : List ℤ) (a : Told) (t : List ℕ) (z : List ℤ) → Tells text t₀ z₀ a t z → length t ≡ length t₀ → length z ≡ length z₀
-    → (t' : List ℕ) (z' : List ℤ) → t' ≡ nodes_after a t → z' ≡ balance_after a z → ChecksDuties text t₀ z₀ (record { answer = a }) t' z'
-check-told text t₀ z₀ a t z h lt lz t' z' p q = go a h p q
-  where
-    by : (a : Told) (u : List ℕ) (v : List ℤ) → duties_checked text t₀ z₀ ≡ record { answer = a; nodes = u; balance = v } → t' ≡ u → z' ≡ v → ChecksDuties text t₀ z₀ (record { answer = a }) t' z'
-    by a u v e p q =
-        record {
-          answer = sym (ap (λ (x : DutiesChecked). x.answer) e);
-          values = sym (ap (λ (x : DutiesChecked). told_values x.answer) e);
-          nodes = p ∙ sym (ap (λ (x : DutiesChecked). x.nodes) e);
-          balance = q ∙ sym (ap (λ (x : DutiesChecked). x.balance) e);
-        }
-
-    nodes_filled : filled unsigned_fill t ≡ filled unsigned_fill t₀
-    nodes_filled = ap (λ (k : ℕ). replicate k unsigned_fill) lt
-
-    balance_filled : filled signed_fill z ≡ filled signed_fill z₀
-    balance_filled = ap (λ (k : ℕ). replicate k signed_fill) lz
-
-    go : (a : Told) → Tells text t₀ z₀ a t z → t' ≡ nodes_after a t → z' ≡ balance_after a z → ChecksDuties text t₀ z₀ (record { answer = a }) t' z'
-    go a (accepts {n} e) p q = by (Accepted n) t z e p q
-    go a (tells_broken {b} e) p q = by (Broken b) (filled unsigned_fill t₀) (filled signed_fill z₀) e (p ∙ nodes_filled) (q ∙ balance_filled)
-    go a (tells_refused {r} e) p q = by (Refused r) (filled unsigned_fill t₀) (filled signed_fill z₀) e (p ∙ nodes_filled) (q ∙ balance_filled)

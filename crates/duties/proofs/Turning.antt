@@ -4,24 +4,23 @@ use mathlib.Core.Path.{◌≡◌, refl, sym, ap, ap₂, subst, ◌∙◌}
 use mathlib.Core.Bool.{Bool, true, false, cond}
 use mathlib.Core.List.{List, []}
 use native.Mathlib.Omega.{arith}
-use lib.Dec.{ltb, eqb}
+use lib.Dec.{eqb}
 use lib.ListN.{length, get_or, take, drop, drop_of_length-le}
 use lib.IntN.{ℤ, pos, negsuc, nat_abs, ◌+ℤ◌}
 use borrow.Author.Tests.{eq-eqb, ne_eqb}
 use Rattle.rules.specs.Lists.{same_list}
 use Rattle.rules.specs.Bytes.{line_feed, less_return}
-use Rattle.rules.specs.Duties.{duty_column, from_column, to_column, place_in}
+use Rattle.rules.specs.Duties.{from_column, to_column}
 use Rattle.rules_theorems.proofs.Parts.{size-part}
 use Rattle.text_read.specs.Places.{up_to}
 use Rattle.text_read.proofs.Laws.{found_within}
 use Rattle.duties_fields.specs.Fields.{content_in}
-use Rattle.duties_row.specs.Ruled.{follows_in, rule_in}
-use Rattle.duties_nodes.specs.Nodes.{view, Puts}
+use Rattle.duties_row.specs.Ruled.{follows_in}
+use Rattle.duties_nodes.specs.Nodes.{view}
 use Rattle.duties_nodes.specs.Balances.{bumped_at, most_balance, BumpRoom}
 use Rattle.duties_nodes.proofs.Walking.{names_long}
 use Rattle.duties_nodes.proofs.Bumping.{bumped_long, bumped_in}
-use Rattle.duties.specs.Steps.{Ready}
-use Rattle.duties.specs.Turns.{line_at, Rules, ended_in, turned_in, TurnRoom}
+use Rattle.duties.specs.Turns.{line_at, ended_in, turned_in, TurnRoom}
 
 -- ---- `line_at`
 
@@ -41,20 +40,6 @@ module _ (text : List ℕ) (place : ℕ) where
 
     pub line_here : (s : List ℕ) → s ≡ less_return (take (end - place) (drop place text)) → s ≡ line_at text place
     line_here s e = e ∙ line_cut
-
--- ---- `row_rule`
-
-pub rule_told : (text d : List ℕ) (m last place : ℕ) (line before : List ℕ) → line ≡ line_at text place → before ≡ line_at text last → (r : ℕ) (d' : List ℕ)
-    → Puts text d m (content_in duty_column line) (place + place_in duty_column line) r d' → (f : ℕ) → f ≡ rule_in (ltb m r) before line
-    → Rules text d m last place (record { duties = r; rule = f }) d'
-rule_told text d m last place line before p q r d' h f e =
-    record {
-      puts = subst (λ (x : List ℕ). Puts text d m (content_in duty_column x) (place + place_in duty_column x) r d') p h;
-      rule = e ∙ ap₂ (λ (x y : List ℕ). rule_in (ltb m r) x y) q p;
-    }
-
-pub ready_line : (text d : List ℕ) (m place : ℕ) (line : List ℕ) → line ≡ line_at text place → Ready d m place (line_at text place) duty_column → Ready d m place line duty_column
-ready_line text d m place line e h = subst (λ (x : List ℕ). Ready d m place x duty_column) (sym e) h
 
 -- ---- `end_duty`, `end_last`, `turn`
 
@@ -81,9 +66,6 @@ module _ (before : List ℕ) (names : List (List ℕ)) (z : List ℤ) where
 
 -- the other line, as the code has it
 module _ (names : List (List ℕ)) (z z' : List ℤ) (a b : List ℕ) (p : a ≡ b) where
-  pub ended_there : z' ≡ ended_in a names z → z' ≡ ended_in b names z
-  ended_there e = e ∙ ap (λ (x : List ℕ). ended_in x names z) p
-
   pub turned_there : (c d : List ℕ) → c ≡ d → z' ≡ turned_in a c names z → z' ≡ turned_in b d names z
   turned_there c d q e = e ∙ ap₂ (λ (x y : List ℕ). turned_in x y names z) p q
 

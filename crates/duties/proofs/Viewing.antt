@@ -1,19 +1,19 @@
 -- The nodes that the table shows, when a name is put behind them. Assumes nothing.
 use Prim.Native.Nat.{ℕ, zero, suc, ◌+◌, ◌*◌, ◌≤◌, ◌<◌}
-use mathlib.Core.Path.{◌≡◌, refl, sym, ap, ap₂, ◌∙◌, subst}
+use mathlib.Core.Path.{◌≡◌, refl, sym, ap, ap₂, ◌∙◌}
 use mathlib.Core.Bool.{Bool, true, false, cond}
 use mathlib.Core.List.{List, [], ◌∷◌, ◌++◌}
 use native.Mathlib.Omega.{arith}
 use native.Mathlib.Numerals.{add-one}
 use lib.ListN.{length, get_or, set, length-set, length-append}
-use lib.Seq.{get_or-set_same, get_or-set_other, length-sets}
+use lib.Seq.{get_or-set_same, get_or-set_other}
 use Rattle.rules.specs.Lists.{any, same_list}
-use Rattle.rules.specs.Duties.{Event, with_name, nodes_of, seen_at, row_of, place_in, from_column, to_column}
+use Rattle.rules.specs.Duties.{Event, with_name, nodes_of, row_of, from_column, to_column}
 use Rattle.duties_fields.specs.Fields.{part_of, content_in}
 use Rattle.duties_row.specs.Rowed.{event_in, judged_by, or_fault, line_fault, count_fault}
 use Rattle.duties_row.proofs.Forming.{row_judged}
 use Rattle.duties_nodes.specs.Nodes.{name_at, names_from, view, with_both, Puts}
-use Rattle.duties.specs.Steps.{row_fault, Ready, Good, PutsBoth}
+use Rattle.duties.specs.Steps.{row_fault}
 use Rattle.rules.specs.Limits.{node_width}
 
 -- ---- `row_fault`
@@ -31,9 +31,6 @@ module _ (N : List (List ℕ)) (rows room : ℕ) (line : List ℕ) (f : ℕ) (p 
       e
       ∙ ap (λ (x : ℕ). count_fault line rows x room) q
       ∙ ap (λ (x : ℕ). or_fault x (count_fault line rows (length (with_both N (content_in from_column line) (content_in to_column line))) room)) (sym z ∙ p)
-
-pub nodes_there : (N : List (List ℕ)) (a b c d : List ℕ) → a ≡ c → b ≡ d → (r : ℕ) → r ≡ length (with_both N a b) → r ≡ length (with_both N c d)
-nodes_there N a b c d p q r e = e ∙ ap₂ (λ (x y : List ℕ). length (with_both N x y)) p q
 
 -- what the definition judges is what `row_fault` answers
 pub step_judged : (room : ℕ) (before : List Event) (line : List ℕ) (r rows : ℕ) (N : List (List ℕ)) → rows ≡ length before → N ≡ nodes_of before → r ≡ row_fault N rows room line
@@ -100,11 +97,6 @@ module _ (text : List ℕ) where
             let d : r ≡ suc n = omega arith in
             ap₂ (view text) a d ∙ more (omega arith) ∙ sym (rw e)
 
--- ---- `put_field`
-
-pub puts_there : (text t : List ℕ) (n : ℕ) (name c : List ℕ) (at p r : ℕ) (t' : List ℕ) → name ≡ c → at ≡ p → Puts text t n name at r t' → Puts text t n c p r t'
-puts_there text t n name c at p r t' e q h = subst (λ (x : List ℕ). Puts text t n x p r t') e (subst (λ (y : ℕ). Puts text t n name y r t') q h)
-
 -- ---- `put_both`
 
 pub not_fewer : (N : List (List ℕ)) (x : List ℕ) → length N ≤ length (with_name N x)
@@ -113,19 +105,3 @@ not_fewer N x = go (any (same_list x) N)
     go : (b : Bool) → length N ≤ length (cond b N (N ++ x ∷ []))
     go true = omega arith
     go false = omega (arith, length-append N (x ∷ []))
-
-pub ready_from : (text t : List ℕ) (n place : ℕ) (line : List ℕ) → Good text t n place line → Ready t n place line from_column
-ready_from text t n place line g = record { fits = g.fits; near = g.from }
-
-pub ready_to : (text t : List ℕ) (n place : ℕ) (line : List ℕ) → Good text t n place line → (m : ℕ) (u : List ℕ)
-    → Puts text t n (content_in from_column line) (place + place_in from_column line) m u → Ready u m place line to_column
-ready_to text t n place line g m u p =
-    let l : length u ≡ length t = ap length p.table ∙ length-sets t (n * node_width) (seen_at (view text t n) (content_in from_column line) (place + place_in from_column line)) in
-    record {
-      fits = omega (arith, p.count, g.room, not_fewer (with_name (view text t n) (content_in from_column line)) (content_in to_column line));
-      near = g.to;
-    }
-
-pub both_put : (text t : List ℕ) (n place : ℕ) (line : List ℕ) (m : ℕ) (u : List ℕ) → Puts text t n (content_in from_column line) (place + place_in from_column line) m u
-    → (r : ℕ) (t' : List ℕ) → Puts text u m (content_in to_column line) (place + place_in to_column line) r t' → PutsBoth text t n place line r t'
-both_put text t n place line m u p r t' q = record { between = u; some_nodes = m; start = p; end = q }

@@ -1,5 +1,5 @@
 -- A row after the rows before it, by the nodes so far.
-use Rattle.std.specs.Prelude.{ℕ, ◌+◌, ◌*◌, ◌≤◌, ◌≡◌, List, [], length, drop}
+use Rattle.std.specs.Prelude.{ℕ, ◌+◌, ◌*◌, ◌≤◌, ◌≡◌, List, [], length, drop, Result, Ok, Err}
 use Rattle.rules.specs.Limits.{node_width, most_text, most_events, most_nodes}
 use Rattle.rules.specs.Answers.{Reading, good, refused, refusal, duties_file}
 use Rattle.rules.specs.Lists.{over}
@@ -7,7 +7,7 @@ use Rattle.rules.specs.Bytes.{line_feed, split_on, start_of}
 use Rattle.rules.specs.Rows.{rows_from, place_of_row}
 use Rattle.rules.specs.Duties.{Event, place_in, nodes_of, places_from, row_of, from_column, to_column}
 use Rattle.duties.specs.declared.pass.Pass.{Pass}
-use Rattle.duties.specs.declared.pass.Pass.TheVariants.{Read, Fault}
+use Rattle.duties.specs.declared.pass.Fault.{Fault}
 use Rattle.duties_fields.specs.Fields.{content_in}
 use Rattle.duties_row.specs.Rowed.{line_fault, count_fault, or_fault}
 use Rattle.duties_nodes.specs.Nodes.{view, with_both, Puts}
@@ -79,6 +79,6 @@ pub record AllRead (room : ℕ) (text : List ℕ) (from : ℕ) (t₀ : List ℕ)
   pub long : length t ≡ length t₀
 
 -- the answer of the first pass
-pub data Passes (room : ℕ) (text : List ℕ) (from : ℕ) (t₀ : List ℕ) : Pass → List ℕ → Type 0 where
-  all_read : {rows n : ℕ} {t : List ℕ} (es : List Event) → AllRead room text from t₀ es rows n t → Passes room text from t₀ (Read rows n) t
-  at_fault : {f place : ℕ} {t : List ℕ} → place ≤ most_text → left_at room text from [] ≡ refused (refusal f duties_file place) → Passes room text from t₀ (Fault f place) t
+pub data Passes (room : ℕ) (text : List ℕ) (from : ℕ) (t₀ : List ℕ) : Result Pass Fault → List ℕ → Type 0 where
+  all_read : {p : Pass} {t : List ℕ} (es : List Event) → AllRead room text from t₀ es p.rows p.nodes t → Passes room text from t₀ (Ok p) t
+  at_fault : {f : Fault} {t : List ℕ} → f.place ≤ most_text → left_at room text from [] ≡ refused (refusal f.number duties_file f.place) → Passes room text from t₀ (Err f) t

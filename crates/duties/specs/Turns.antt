@@ -1,5 +1,5 @@
 -- The second pass: a line by its place, the rows that are left, and the balances after a row.
-use Rattle.std.specs.Prelude.{ℕ, ◌+◌, ◌*◌, ◌≤◌, ◌<◌, ◌≡◌, cond, List, [], ◌∷◌, map, ltb, eqb, length, get_or, take, drop, ℤ, pos, negsuc, nat_abs}
+use Rattle.std.specs.Prelude.{ℕ, ◌+◌, ◌*◌, ◌≤◌, ◌<◌, ◌≡◌, cond, List, [], ◌∷◌, map, ltb, eqb, length, get_or, take, drop, ℤ, pos, negsuc, nat_abs, Result, Ok, Err}
 use Rattle.std.proofs.Math.Option.{none, some}
 use Rattle.rules.specs.Limits.{most_text, most_events, node_width}
 use Rattle.rules.specs.Lists.{over}
@@ -15,8 +15,7 @@ use Rattle.duties_nodes.specs.Nodes.{view, Puts}
 use Rattle.duties_nodes.specs.Balances.{bumped_at, most_balance}
 use Rattle.duties.specs.Steps.{left_at, RowsAt}
 use Rattle.duties.specs.declared.turns.Ruled.{Ruled}
-use Rattle.duties.specs.declared.judge.Found.{Found}
-use Rattle.duties.specs.declared.judge.Found.TheVariants.{Kept, Broken}
+use Rattle.duties.specs.declared.judge.Breach.{Breach}
 
 -- the line from a place on, less its CR
 unfoldable pub line_at : List ℕ → ℕ → List ℕ
@@ -64,7 +63,7 @@ pub record Starts (text table : List ℕ) (n : ℕ) (d : List ℕ) (z : List ℤ
   pub duties : most_events * node_width ≤ length d
 
 -- the answer of the second pass
-pub data Judges (text table : List ℕ) (n : ℕ) (z₀ : List ℤ) (from : ℕ) : Found → List ℤ → Type 0 where
-  all_kept : {z : List ℤ} → broken (rest_at text from) ≡ none → z ≡ over (map (balance_from none (rest_at text from)) (view text table n)) z₀ → Judges text table n z₀ from Kept z
-  one_broken : {row rule place : ℕ} {z : List ℤ} → row ≤ most_events → place ≤ most_text → broken (rest_at text from) ≡ some (record { row = row; number = rule })
-      → place ≡ place_of_row text row → Judges text table n z₀ from (Broken row rule place) z
+pub data Judges (text table : List ℕ) (n : ℕ) (z₀ : List ℤ) (from : ℕ) : Result Unit Breach → List ℤ → Type 0 where
+  all_kept : {z : List ℤ} → broken (rest_at text from) ≡ none → z ≡ over (map (balance_from none (rest_at text from)) (view text table n)) z₀ → Judges text table n z₀ from (Ok tt) z
+  one_broken : {b : Breach} {z : List ℤ} → b.row ≤ most_events → b.place ≤ most_text → broken (rest_at text from) ≡ some (record { row = b.row; number = b.rule })
+      → b.place ≡ place_of_row text b.row → Judges text table n z₀ from (Err b) z

@@ -7,8 +7,6 @@ ghost use Rattle.rules.specs.Promises.{ChecksDuties};
 ghost use Rattle.csv_header.specs.Heading.{end_in};
 ghost use Rattle.duties.specs.Entry.{Whole, Judged, Passed, Tells, nodes_after, balance_after};
 
-use crate::judge::Found;
-use crate::pass::Pass;
 use crate::{judge, pass};
 use csv_marks::Mark;
 use duties_nodes::balances;
@@ -30,25 +28,20 @@ fn no_duties() -> [u32; DUTIES]
 fn head_end(text: &[u8]) -> usize
     ensures { result ≡ end_in duties_names (split_on line_feed text.now) }
 {
-    let headed = csv_header::duties_header(text, 0, Mark::Bare);
-    if headed.right {
-        if Event::HEADER_LENGTH <= headed.head {
-            return headed.next;
-        }
+    let Ok(headed) = csv_header::duties_header(text, 0, Mark::Bare) else {
+        return 0;
+    };
+    if headed.head < Event::HEADER_LENGTH {
         return 0;
     }
-    0
+    headed.next
 }
 
 // The nodes that both tables take.
 fn room_of(nodes: usize, balance: usize) -> usize
     ensures { result ≡ min (nodes / node_width) balance }
 {
-    let room = nodes / Node::WIDTH;
-    if room <= balance {
-        return room;
-    }
-    balance
+    (nodes / Node::WIDTH).min(balance)
 }
 
 // The rows that were read, judged.
@@ -59,9 +52,11 @@ fn judge_all(text: &[u8], nodes: &[u32], n: usize, balance: &mut [i32], from: us
     balances::clear(balance, n);
     let mut duties = no_duties();
     match judge::judge_rows(text, nodes, n, &mut duties, balance, from) {
-        Found::Kept => Told::Accepted(n as u32),
-        Found::Broken(row, rule, place) => {
-            Told::Broken(BrokenRule::new(row as u32, rule, place as u32))
+        Ok(()) => Told::Accepted(n as u32),
+        Err(breach) => {
+            let row = breach.row as u32;
+            let place = breach.place as u32;
+            Told::Broken(BrokenRule::new(row, breach.rule, place))
         }
     }
 }
@@ -72,9 +67,10 @@ fn read_all(text: &[u8], nodes: &mut [u32], balance: &mut [i32], room: usize, fr
     ensures { Tells text.now nodes.old balance.old result nodes.new balance.new }
 {
     match pass::read_rows(text, nodes, room, from) {
-        Pass::Read(_, n) => judge_all(text, nodes, n, balance, from),
-        Pass::Fault(number, place) => {
-            Told::Refused(Refusal::new(number, File::DUTIES, place as u32))
+        Ok(read) => judge_all(text, nodes, read.nodes, balance, from),
+        Err(fault) => {
+            let place = fault.place as u32;
+            Told::Refused(Refusal::new(fault.number, File::DUTIES, place))
         }
     }
 }
@@ -100,8 +96,7 @@ fn empty_nodes(answer: Told, nodes: &mut [u32])
 {
     match answer {
         Told::Accepted(_) => {}
-        Told::Broken(_) => tables_fill::unsigned(nodes),
-        Told::Refused(_) => tables_fill::unsigned(nodes),
+        Told::Broken(_) | Told::Refused(_) => tables_fill::unsigned(nodes),
     }
 }
 
@@ -111,8 +106,7 @@ fn empty_balance(answer: Told, balance: &mut [i32])
 {
     match answer {
         Told::Accepted(_) => {}
-        Told::Broken(_) => tables_fill::signed(balance),
-        Told::Refused(_) => tables_fill::signed(balance),
+        Told::Broken(_) | Told::Refused(_) => tables_fill::signed(balance),
     }
 }
 

@@ -6,11 +6,12 @@ use crate::turns;
 use rules::sizes::Rule;
 use text_read::pieces;
 
-// Every row keeps every rule; or the first that does not: the row, its lowest rule, its place.
+// The first row that breaks a rule, its lowest such rule, and its place.
 #[derive(Clone, Copy)]
-pub enum Found {
-    Kept,
-    Broken(usize, u8, usize),
+pub struct Breach {
+    pub row: usize,
+    pub rule: u8,
+    pub place: usize,
 }
 
 // The rows from a place on: their duties are put into a table of their own, and each balance begins with 0.
@@ -21,7 +22,7 @@ pub fn judge_rows(
     duties: &mut [u32],
     balance: &mut [i32],
     from: usize,
-) -> Found
+) -> Result<(), Breach>
     requires { Starts text.now nodes.now n duties.old balance.old from }
     ensures { Judges text.now nodes.now n balance.old from result balance.new }
 {
@@ -29,10 +30,12 @@ pub fn judge_rows(
     let mut last = text.len();
     let mut row = 0;
     let mut count = 0;
+    // Kept (no plainer): a turn goes on behind the line that it has read, which no range does.
     while place < text.len() {
         let ruled = turns::row_rule(text, duties, count, last, place);
         if ruled.rule != Rule::NONE {
-            return Found::Broken(row, ruled.rule, place);
+            let rule = ruled.rule;
+            return Err(Breach { row, rule, place });
         }
         turns::turn(text, nodes, n, last, place, balance);
         count = ruled.duties;
@@ -41,5 +44,5 @@ pub fn judge_rows(
         row += 1;
     }
     turns::end_last(text, nodes, n, last, balance);
-    Found::Kept
+    Ok(())
 }

@@ -14,13 +14,13 @@ pub fn less_return<'a>(line: &'a [u8]) -> &'a [u8]
 {
     let all = line.len();
     if all == 0 {
-        return &line[0..0];
+        return line;
     }
     let last = all - 1;
     if line[last] == RETURN {
-        return &line[0..last];
+        return &line[..last];
     }
-    &line[0..all]
+    line
 }
 
 // The line from a place on, less its CR.
@@ -28,7 +28,7 @@ pub fn line_at<'a>(text: &'a [u8], place: usize) -> &'a [u8]
     ensures { result.now ≡ line_at text.now place }
 {
     if text.len() < place {
-        return &text[0..0];
+        return &[];
     }
     let end = pieces::find(text, LINE_FEED, place);
     less_return(&text[place..end])

@@ -18,6 +18,7 @@ const END: i32 = 1;
 const START: i32 = -1;
 
 // How many duties there are with the row's, and the lowest rule that it breaks, or 0.
+// Kept (law rule_in): the lowest rule is a number there, and 0 is none.
 #[derive(Clone, Copy)]
 pub struct Ruled {
     pub duties: usize,

@@ -1,38 +1,20 @@
 -- Names and parts of a text. Assumes nothing.
-use Prim.Native.Nat.{ℕ, ◌+◌, ◌-◌, ◌≤◌, ◌<◌}
+use Prim.Native.Nat.{ℕ, ◌+◌, ◌≤◌, ◌<◌}
 use mathlib.Core.Path.{◌≡◌, refl, sym, ap, ◌∙◌}
-use mathlib.Core.Bool.{Bool, true, false, not, and-false}
+use mathlib.Core.Bool.{Bool, true, false, and-false}
 use mathlib.Core.List.{List, [], ◌∷◌}
 use native.Mathlib.Omega.{arith}
 use native.Mathlib.Numerals.{add-one}
-use lib.Dec.{leb, eqb}
-use lib.ListN.{length, get_or, take, drop, drop_of_length-le, length-drop}
-use lib.Seq.{drop-cons, take_all}
-use borrow.Author.Tests.{le-leb, lt-leb, eq-eqb, ne_eqb}
+use lib.Dec.{leb}
+use lib.ListN.{length, get_or, drop, drop_of_length-le}
+use lib.Seq.{drop-cons}
+use borrow.Author.Tests.{le-leb, lt-leb}
 use Rattle.rules.specs.Lists.{every, same_list}
-use Rattle.rules.specs.Bytes.{comma, quote}
 use Rattle.rules.proofs.Lists.{same_equal}
 use Rattle.rules.specs.Limits.{least_name, most_name}
-use Rattle.rules.specs.Duties.{first_byte, last_byte, in_name, is_name}
-use Rattle.duties_fields.specs.Fields.{part_of}
-
-module _ (b : ℕ) where
-  pub byte_low : b < first_byte → false ≡ in_name b
-  byte_low h = rw (lt-leb first_byte b h)
-
-  pub byte_high : last_byte < b → false ≡ in_name b
-  byte_high h = rw (lt-leb b last_byte h, and-false (leb first_byte b))
-
-  pub byte-quote : b ≡ quote → false ≡ in_name b
-  byte-quote e = rw (eq-eqb b quote e, and-false (leb b last_byte), and-false (leb first_byte b))
-
-  pub byte_other : first_byte ≤ b → b ≤ last_byte → (b ≡ quote → ⊥) → not (eqb b comma) ≡ in_name b
-  byte_other h k n = rw (le-leb first_byte b h, le-leb b last_byte k, ne_eqb b quote n)
+use Rattle.rules.specs.Duties.{in_name, is_name}
 
 -- ---- `is_name`'s loop: the invariant is `every in_name (drop i s) ≡ every in_name s`
-
-pub name_none : (s : List ℕ) → length s < least_name → false ≡ is_name s
-name_none s h = rw (lt-leb least_name (length s) h)
 
 pub name_long : (s : List ℕ) → most_name < length s → false ≡ is_name s
 name_long s h = rw (lt-leb (length s) most_name h, and-false (leb least_name (length s)))
@@ -54,21 +36,6 @@ name_not s i e h t p y = rw (sym (name_stop s i (every in_name s) e h t p y), an
 pub name_all : (s : List ℕ) (i : ℕ) → every in_name (drop i s) ≡ every in_name s → length s ≤ i → least_name ≤ length s → length s ≤ most_name → true ≡ is_name s
 name_all s i e h n k =
     rw (sym (name_end s i (every in_name s) e h), le-leb least_name (length s) n, le-leb (length s) most_name k)
-
--- ---- `part`
-
-module _ (s : List ℕ) (at n : ℕ) where
-  none-taken : (k : ℕ) → ◌≡◌ {A = List ℕ} [] (take k [])
-  none-taken k = sym (take_all k [] (omega arith))
-
-  pub part-past : length s ≤ at → [] ≡ part_of s at n
-  part-past h = rw (drop_of_length-le s h) (none-taken n)
-
-  pub part_rest : length s - at ≤ n → take (length s - at) (drop at s) ≡ part_of s at n
-  part_rest h = take_all (length s - at) (drop at s) (omega (arith, length-drop at s)) ∙ sym (take_all n (drop at s) (omega (arith, length-drop at s)))
-
-  pub part_here : take (at + n - at) (drop at s) ≡ part_of s at n
-  part_here = let e : at + n - at ≡ n = omega arith in ap (λ (k : ℕ). take k (drop at s)) e
 
 -- ---- `same_name`
 

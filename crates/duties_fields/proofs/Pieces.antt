@@ -1,13 +1,13 @@
 -- The pieces of a text by their numbers: where piece k starts, and what it is. Assumes nothing.
 use Prim.Native.Nat.{ℕ, zero, suc, ◌+◌, ◌-◌, ◌≤◌, ◌<◌}
 use mathlib.Core.Path.{◌≡◌, refl, sym, ap, ◌∙◌}
-use mathlib.Core.Bool.{Bool, true, false, cond, ◌&&◌}
+use mathlib.Core.Bool.{Bool, true, false, cond, ◌&&◌, and-false}
 use mathlib.Core.List.{List, [], ◌∷◌}
 use native.Mathlib.Omega.{arith}
 use lib.Dec.{ltb, eqb}
 use lib.ListN.{length, get_or, take, drop, length-drop}
 use lib.Seq.{take_all, drop-drop, length-take-le}
-use borrow.Author.Tests.{ltb-true, ltb-false}
+use borrow.Author.Tests.{ltb-true, ltb-false, ne_eqb}
 use Rattle.rules.specs.Lists.{every}
 use Rattle.rules.specs.Bytes.{comma, quote, split_on, start_of, content_of}
 use Rattle.text_read.specs.Places.{up_to}
@@ -78,26 +78,20 @@ module _ (sep : ℕ) where
 
 -- ---- the loop of `start_of`: the invariant is `at + start_of left (split_on comma (drop at s)) ≡ r`
 
-module _ (s : List ℕ) (at left r end : ℕ) (e : at + start_of left (split_on comma (drop at s)) ≡ r) (b : at ≤ length s) (q : end ≡ at + up_to comma (drop at s)) (z : 0 < left) where
-  pub start-past : length s ≤ end → length s + 1 ≡ r
-  start-past h = go left z e
-    where
-      go : (l : ℕ) → 0 < l → at + start_of l (split_on comma (drop at s)) ≡ r → length s + 1 ≡ r
-      go zero k f = absurd (omega arith)
-      go (suc l) k f =
-          let g : at + (length (drop at s) + 1 + start_of l []) ≡ r = rw (pieces-last s comma at end q h) at f in
-          omega (arith, start_none l, length-drop at s)
+module _ (s : List ℕ) (at left rest r end : ℕ) (e : at + start_of left (split_on comma (drop at s)) ≡ r) (b : at ≤ length s) (q : end ≡ at + up_to comma (drop at s)) (z : left ≡ rest + 1) where
+  one_more : at + start_of (suc rest) (split_on comma (drop at s)) ≡ r
+  one_more = let w : suc rest ≡ left = omega arith in ap (λ (x : ℕ). at + start_of x (split_on comma (drop at s))) w ∙ e
 
-  pub start_next : end < length s → end + 1 + start_of (left - 1) (split_on comma (drop (end + 1) s)) ≡ r
-  start_next h = go left z e
-    where
-      go : (l : ℕ) → 0 < l → at + start_of l (split_on comma (drop at s)) ≡ r → end + 1 + start_of (l - 1) (split_on comma (drop (end + 1) s)) ≡ r
-      go zero k f = absurd (omega arith)
-      go (suc l) k f =
-          let g : at + (length (take (end - at) (drop at s)) + 1 + start_of l (split_on comma (drop (end + 1) s))) ≡ r = rw (pieces_next s comma at end q h) at f in
-          let n : length (take (end - at) (drop at s)) ≡ end - at = length-take-le (end - at) (drop at s) (omega (arith, length-drop at s)) in
-          let m : suc l - 1 ≡ l = omega arith in
-          ap (λ (x : ℕ). end + 1 + start_of x (split_on comma (drop (end + 1) s))) m ∙ omega arith
+  pub start-past : length s ≤ end → length s + 1 ≡ r
+  start-past h =
+      let g : at + (length (drop at s) + 1 + start_of rest []) ≡ r = rw (pieces-last s comma at end q h) at one_more in
+      omega (arith, start_none rest, length-drop at s)
+
+  pub start_next : end < length s → end + 1 + start_of rest (split_on comma (drop (end + 1) s)) ≡ r
+  start_next h =
+      let g : at + (length (take (end - at) (drop at s)) + 1 + start_of rest (split_on comma (drop (end + 1) s))) ≡ r = rw (pieces_next s comma at end q h) at one_more in
+      let n : length (take (end - at) (drop at s)) ≡ end - at = length-take-le (end - at) (drop at s) (omega (arith, length-drop at s)) in
+      omega arith
 
 pub start_here : (s : List ℕ) (at left r : ℕ) → at + start_of left (split_on comma (drop at s)) ≡ r → left ≤ 0 → at ≡ r
 start_here s at zero r e h = omega arith
@@ -153,6 +147,16 @@ module _ (s : List ℕ) (n at end : ℕ) (r : Bool) (e : ten_from n (split_on co
         go : (u : Bool) → ltb end (length s) ≡ u → false ≡ r
         go true l = rw (sym p ∙ y) at (ten_more (ltb-true end (length s) l))
         go false l = rw (sym p ∙ y) at (ten_last (ltb-false end (length s) l))
+
+-- a text has a piece at least
+split_some : (sep : ℕ) (s : List ℕ) → 1 ≤ length (split_on sep s)
+split_some sep s = by_piece sep (λ ps. 1 ≤ length ps) s (λ l. omega arith) (λ l. omega arith)
+
+-- more fields than there are columns
+pub ten_past : (s : List ℕ) (n at : ℕ) (r : Bool) → ten_from n (split_on comma (drop at s)) ≡ r → columns ≤ n → false ≡ r
+ten_past s n at r e h =
+    let far : eqb (n + length (split_on comma (drop at s))) columns ≡ false = ne_eqb (n + length (split_on comma (drop at s))) columns (λ q. omega (arith, split_some comma (drop at s))) in
+    rw (far, and-false (every sound (split_on comma (drop at s)))) at e
 
 -- ---- `content_at`, `place_at`
 

@@ -6,9 +6,9 @@ use mathlib.Core.List.{List, [], ◌∷◌}
 use mathlib.Core.Option.{Option, none, some}
 use native.Mathlib.Omega.{arith}
 use lib.Dec.{leb, eqb}
-use lib.ListN.{length, get_or, take, drop, length-drop, length-take, drop_of_length-le}
+use lib.ListN.{length, take, drop, length-drop, length-take, drop_of_length-le}
 use lib.Seq.{take_all}
-use borrow.Author.Tests.{eq-eqb, ne_eqb, eqb-true, eqb-false, leb-true, leb-false}
+use borrow.Author.Tests.{eqb-true, eqb-false, leb-true, leb-false}
 use Rattle.rules.specs.Lists.{is_some, lead}
 use Rattle.rules.specs.Bytes.{quote, split_on, onto, between, content_of}
 use Rattle.text_read.specs.Places.{up_to, is_other}
@@ -193,17 +193,3 @@ module _ (f : List ℕ) (t : Bool) (p : t ≡ is_some (content_of f)) where
 
     pub content_is : take (length f - m - m) (drop m f) ≡ or_empty (content_of f)
     content_is = here.is
-
--- ---- `mark`
-
-pub mark_none : (f : List ℕ) → length f ≡ 0 → 0 ≡ quoted_by f
-mark_none [] h = refl
-mark_none (b ∷ g) h = absurd (omega arith)
-
-pub mark_one : (f : List ℕ) → (length f ≡ 0 → ⊥) → get_or f 0 0 ≡ quote → 1 ≡ quoted_by f
-mark_one [] h e = absurd (h refl)
-mark_one (b ∷ g) h e = rw (eq-eqb b quote e)
-
-pub mark_zero : (f : List ℕ) → (length f ≡ 0 → ⊥) → (get_or f 0 0 ≡ quote → ⊥) → 0 ≡ quoted_by f
-mark_zero [] h e = absurd (h refl)
-mark_zero (b ∷ g) h e = rw (ne_eqb b quote e)

@@ -56,9 +56,5 @@ pub fn matches_time(s: &[u8], seconds: u32) -> bool
     }
     let d = digit(seconds / Clock::DAY);
     let before: [u8; PREFIX] = [d, b'd', b' '];
-    let all = s.len();
-    if words::spells(&s[0..PREFIX], &before) {
-        return is_clock(&s[PREFIX..all], seconds % Clock::DAY);
-    }
-    false
+    words::spells(&s[..PREFIX], &before) && is_clock(&s[PREFIX..], seconds % Clock::DAY)
 }

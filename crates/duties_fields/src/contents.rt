@@ -27,13 +27,7 @@ pub fn is_content(field: &[u8]) -> bool
 pub fn mark(field: &[u8]) -> usize
     ensures { result ≡ quoted_by field.now }
 {
-    if field.len() == 0 {
-        return 0;
-    }
-    if field[0] == QUOTE {
-        return 1;
-    }
-    0
+    usize::from(field.first() == Some(&QUOTE))
 }
 
 // The content; empty where there is none.
@@ -45,5 +39,5 @@ pub fn content<'a>(field: &'a [u8]) -> &'a [u8]
         let end = field.len() - from;
         return &field[from..end];
     }
-    &field[0..0]
+    &[]
 }

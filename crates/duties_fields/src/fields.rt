@@ -12,15 +12,13 @@ use text_read::pieces;
 pub fn start_of(line: &[u8], k: usize) -> usize
     ensures { result ≡ start_of k (split_on comma line.now) }
 {
-    let mut left = k;
     let mut at = 0;
-    while 0 < left {
+    for _ in 0..k {
         let end = pieces::find(line, COMMA, at);
         if line.len() <= end {
             return line.len() + 1;
         }
         at = end + 1;
-        left -= 1;
     }
     at
 }
@@ -30,7 +28,7 @@ pub fn field<'a>(line: &'a [u8], k: usize) -> &'a [u8]
 {
     let at = start_of(line, k);
     if line.len() < at {
-        return &line[0..0];
+        return &[];
     }
     let end = pieces::find(line, COMMA, at);
     &line[at..end]
@@ -61,18 +59,16 @@ pub fn place_at(line: &[u8], k: usize) -> usize
 pub fn is_ten(line: &[u8]) -> bool
     ensures { result ≡ is_ten line.now }
 {
-    let mut n = 0;
     let mut at = 0;
-    loop {
+    for n in 0..Column::ALL {
         let end = pieces::find(line, COMMA, at);
-        if contents::is_content(&line[at..end]) {
-            n += 1;
-            if line.len() <= end {
-                return n == Column::ALL;
-            }
-            at = end + 1;
-        } else {
+        if !contents::is_content(&line[at..end]) {
             return false;
         }
+        if line.len() <= end {
+            return n + 1 == Column::ALL;
+        }
+        at = end + 1;
     }
+    false
 }

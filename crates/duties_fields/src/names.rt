@@ -11,16 +11,7 @@ use text_read::words;
 pub fn in_name(b: u8) -> bool
     ensures { result ≡ in_name b }
 {
-    if b < Name::FIRST_BYTE {
-        return false;
-    }
-    if Name::LAST_BYTE < b {
-        return false;
-    }
-    if b == QUOTE {
-        return false;
-    }
-    b != COMMA
+    Name::FIRST_BYTE <= b && b <= Name::LAST_BYTE && b != QUOTE && b != COMMA
 }
 
 // 1 to 32 bytes, each of which may stand in a name.
@@ -34,11 +25,8 @@ pub fn is_name(s: &[u8]) -> bool
     if Name::MOST < s.len() {
         return false;
     }
-    let mut i = 0;
-    while i < s.len() {
-        if in_name(s[i]) {
-            i += 1;
-        } else {
+    for b in s {
+        if !in_name(*b) {
             return false;
         }
     }
@@ -50,14 +38,12 @@ pub fn part<'a>(text: &'a [u8], at: usize, n: usize) -> &'a [u8]
     ensures { result.now ≡ part_of text.now at n }
 {
     if text.len() <= at {
-        return &text[0..0];
+        return &[];
     }
     if text.len() - at <= n {
-        let all = text.len();
-        return &text[at..all];
+        return &text[at..];
     }
-    let end = at + n;
-    &text[at..end]
+    &text[at..at + n]
 }
 
 // Whether a text is a name. Names that begin alike are told apart by their lengths and last bytes, before all bytes are compared.

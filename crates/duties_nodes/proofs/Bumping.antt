@@ -15,36 +15,15 @@ use Rattle.rules.proofs.Truth.{by_case}
 use Rattle.rules_theorems.specs.Laying.{add_at}
 use Rattle.rules_theorems.proofs.Parts.{size-part}
 use Rattle.rules_theorems.proofs.Sizes.{fits-small}
-use Rattle.tables_fill.proofs.Filling.{Filling, filling_none, filling_more}
 use Rattle.duties_nodes.specs.Nodes.{name_at, names_from, view}
 use Rattle.duties_nodes.specs.Balances.{bumped_one, bumped_at, OneRoom, BumpRoom}
 use Rattle.duties_nodes.proofs.Walking.{one_off}
 
 -- ---- `clear`
 
--- i of the n first are 0
-pub record Clearing (t₀ : List ℤ) (n : ℕ) (t : List ℤ) (i : ℕ) : Type 0 where
-  pub most : i ≤ n
-  pub same : length t ≡ length t₀
-  pub front : Filling (pos 0) t₀ t i
-
-module _ (t₀ : List ℤ) (n : ℕ) where
-  pub none_cleared : Clearing t₀ n t₀ 0
-  none_cleared = record { most = omega arith; same = refl; front = filling_none (pos 0) t₀ }
-
-  module _ (t : List ℤ) (i : ℕ) (h : Clearing t₀ n t i) where
-    pub one_cleared : n ≤ length t₀ → i < n → Clearing t₀ n (set t i (pos 0)) (i + 1)
-    one_cleared l k =
-        let f = filling_more h.front (omega (arith, h.same)) in
-        record { most = omega arith; same = f.same; front = f }
-
-    pub all_cleared : n ≤ i → t ≡ over (replicate n (pos 0)) t₀
-    unfolding over
-    all_cleared k =
-        let e : i ≡ n = omega (arith, h.most) in
-        h.front.is
-        ∙ ap (λ (x : ℕ). replicate x (pos 0) ++ drop x t₀) e
-        ∙ ap (λ (x : ℕ). replicate n (pos 0) ++ drop x t₀) (sym (length-replicate n (pos 0)))
+pub cleared : (t u : List ℤ) (n : ℕ) → u ≡ replicate n (pos 0) → u ++ drop n t ≡ over (replicate n (pos 0)) t
+unfolding over
+cleared t u n e = ap (λ (x : List ℤ). x ++ drop n t) e ∙ ap (λ (k : ℕ). replicate n (pos 0) ++ drop k t) (sym (length-replicate n (pos 0)))
 
 -- ---- `bump_one`
 

@@ -11,11 +11,7 @@ pub fn clear(balance: &mut [i32], n: usize)
     requires { n ≤ length balance.old }
     ensures { balance.new ≡ over (replicate n (pos 0)) balance.old }
 {
-    let mut i = 0;
-    while i < n {
-        balance[i] = 0;
-        i += 1;
-    }
+    balance[..n].fill(0);
 }
 
 // Node i, where it has the name.
@@ -24,7 +20,7 @@ fn bump_one(text: &[u8], table: &[u32], i: usize, name: &[u8], balance: &mut [i3
     ensures { balance.new ≡ bumped_one name.now by i (name_at text.now table.now i) balance.old }
 {
     if name_is(text, table, i, name) {
-        balance[i] = balance[i] + by;
+        balance[i] += by;
     }
 }
 
@@ -33,9 +29,7 @@ pub fn bump(text: &[u8], table: &[u32], n: usize, name: &[u8], balance: &mut [i3
     requires { BumpRoom table.now n balance.old by }
     ensures { balance.new ≡ bumped_at name.now by 0 (view text.now table.now n) balance.old }
 {
-    let mut i = 0;
-    while i < n {
+    for i in 0..n {
         bump_one(text, table, i, name, balance, by);
-        i += 1;
     }
 }

@@ -28,19 +28,17 @@ fn name_is(text: &[u8], table: &[u32], i: usize, name: &[u8]) -> bool
     names::same_part(text, at, long, name)
 }
 
-// The place of a name among the n first, or n.
-pub fn place_of(text: &[u8], table: &[u32], n: usize, name: &[u8]) -> usize
+// The place of a name among the n first.
+pub fn place_of(text: &[u8], table: &[u32], n: usize, name: &[u8]) -> Option<usize>
     requires { n * node_width ≤ length table.now }
     ensures { result ≡ place_of name.now (view text.now table.now n) }
 {
-    let mut i = 0;
-    while i < n {
+    for i in 0..n {
         if name_is(text, table, i, name) {
-            return i;
+            return Some(i);
         }
-        i += 1;
     }
-    n
+    None
 }
 
 fn put_number(table: &mut [u32], i: usize, n: u32)
@@ -58,19 +56,18 @@ pub fn with_both(text: &[u8], table: &[u32], n: usize, from: &[u8], to: &[u8]) -
 {
     let a = place_of(text, table, n, from);
     let b = place_of(text, table, n, to);
-    if a < n {
-        if b < n {
-            return n;
+    match (a, b) {
+        (Some(_), Some(_)) => n,
+        (Some(_), None) => n + 1,
+        (None, Some(_)) => n + 1,
+        (None, None) => {
+            if names::same_name(from, to) {
+                n + 1
+            } else {
+                n + 2
+            }
         }
-        return n + 1;
     }
-    if b < n {
-        return n + 1;
-    }
-    if names::same_name(from, to) {
-        return n + 1;
-    }
-    n + 2
 }
 
 // A name that stands in the text is put behind the n others, where it is new: how many there are then.
@@ -78,12 +75,13 @@ pub fn put_node(text: &[u8], table: &mut [u32], n: usize, name: &[u8], at: u32, 
     requires { (n * node_width ≤ length table.old) × (long ≡ length name.now) }
     ensures { Puts text.now table.old n name.now at result table.new }
 {
-    let place = place_of(text, table, n, name);
-    if place < n {
-        return n;
+    match place_of(text, table, n, name) {
+        Some(_) => n,
+        None => {
+            let first = n * Node::WIDTH;
+            put_number(table, first, at);
+            put_number(table, first + Node::LENGTH_AT, long);
+            n + 1
+        }
     }
-    let first = n * Node::WIDTH;
-    put_number(table, first, at);
-    put_number(table, first + Node::LENGTH_AT, long);
-    n + 1
 }

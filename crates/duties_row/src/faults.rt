@@ -6,23 +6,23 @@ use crate::{forms, numbers};
 use rules::answers::Refusal;
 use rules::sizes::{Event, Node};
 
+// Kept (law or_fault): the lowest fault is a number there, and 0 is none.
 pub const NO_FAULT: u8 = 0;
 
 // By its line alone.
 pub fn line_fault(line: &[u8]) -> u8
     ensures { result ≡ line_fault line.now }
 {
-    if forms::is_row(line) {
-        if numbers::in_range(line) {
-            return NO_FAULT;
-        }
-        return Refusal::RANGE;
+    if !forms::is_row(line) {
+        return Refusal::ROW_FORM;
     }
-    Refusal::ROW_FORM
+    if numbers::in_range(line) {
+        return NO_FAULT;
+    }
+    Refusal::RANGE
 }
 
 // By the rows before it and the nodes with its own.
-#[tactic(auto, using(crate::proofs::Testing::count_rows))]
 pub fn count_fault(line: &[u8], rows: usize, nodes: usize, room: usize) -> u8
     ensures { result ≡ count_fault line.now rows nodes room }
 {
@@ -32,11 +32,11 @@ pub fn count_fault(line: &[u8], rows: usize, nodes: usize, room: usize) -> u8
     if Node::MOST < nodes {
         return Refusal::COUNT;
     }
-    if forms::known_in(line) {
-        if nodes <= room {
-            return NO_FAULT;
-        }
-        return Refusal::ROOM;
+    if !forms::known_in(line) {
+        return Refusal::UNKNOWN;
     }
-    Refusal::UNKNOWN
+    if nodes <= room {
+        return NO_FAULT;
+    }
+    Refusal::ROOM
 }

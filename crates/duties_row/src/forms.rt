@@ -18,13 +18,7 @@ fn is_train(s: &[u8]) -> bool
 fn is_known(s: &[u8]) -> bool
     ensures { result ≡ is_known s.now }
 {
-    if is_train(s) {
-        return true;
-    }
-    if words::spells(s, &Event::CHANGE_END) {
-        return true;
-    }
-    words::spells(s, &Event::SPARE)
+    is_train(s) || words::spells(s, &Event::CHANGE_END) || words::spells(s, &Event::SPARE)
 }
 
 // A name for TRAIN, and else empty.
@@ -34,7 +28,7 @@ fn is_course(kind: &[u8], course: &[u8]) -> bool
     if is_train(kind) {
         return names::is_name(course);
     }
-    course.len() == 0
+    course.is_empty()
 }
 
 fn name_at(line: &[u8], k: usize) -> bool
@@ -55,14 +49,10 @@ fn has_course(line: &[u8]) -> bool
 fn is_named(line: &[u8]) -> bool
     ensures { result ≡ is_named line.now }
 {
-    if name_at(line, Column::DUTY) {
-        if name_at(line, Column::FROM) {
-            if name_at(line, Column::TO) {
-                return has_course(line);
-            }
-        }
-    }
-    false
+    name_at(line, Column::DUTY)
+        && name_at(line, Column::FROM)
+        && name_at(line, Column::TO)
+        && has_course(line)
 }
 
 pub fn train_in(line: &[u8]) -> bool
@@ -80,10 +70,5 @@ pub fn known_in(line: &[u8]) -> bool
 pub fn is_row(line: &[u8]) -> bool
     ensures { result ≡ is_row line.now }
 {
-    if fields::is_ten(line) {
-        if is_named(line) {
-            return numbers::has_wholes(line);
-        }
-    }
-    false
+    fields::is_ten(line) && is_named(line) && numbers::has_wholes(line)
 }

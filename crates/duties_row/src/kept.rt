@@ -21,6 +21,7 @@ fn same_at(a: &[u8], j: usize, b: &[u8], k: usize) -> bool
 }
 
 // The line before is of the same duty.
+#[tactic(auto, unfolding(crate::specs::Ruled::follows_in))]
 pub fn follows(before: &[u8], line: &[u8]) -> bool
     ensures { result ≡ follows_in before.now line.now }
 {
@@ -28,6 +29,7 @@ pub fn follows(before: &[u8], line: &[u8]) -> bool
 }
 
 // 1: it ends after it starts.
+#[tactic(auto, unfolding(crate::specs::Ruled::later_in))]
 fn is_later(line: &[u8]) -> bool
     ensures { result ≡ later_in line.now }
 {
@@ -37,16 +39,15 @@ fn is_later(line: &[u8]) -> bool
 }
 
 // 2: only a TRAIN may end at another node.
+#[tactic(auto, unfolding(crate::specs::Ruled::stays_in))]
 fn stays(line: &[u8]) -> bool
     ensures { result ≡ stays_in line.now }
 {
-    if forms::train_in(line) {
-        return true;
-    }
-    same_at(line, Column::FROM, line, Column::TO)
+    forms::train_in(line) || same_at(line, Column::FROM, line, Column::TO)
 }
 
 // 4: SEQ runs from 1.
+#[tactic(auto, unfolding(crate::specs::Ruled::sequence_in))]
 fn is_next(before: &[u8], line: &[u8]) -> bool
     ensures { result ≡ sequence_in before.now line.now }
 {
@@ -68,16 +69,12 @@ fn at_its_end(before: &[u8], line: &[u8]) -> bool
 }
 
 // 5: within a duty it starts at the time and node at which the one before ended.
+#[tactic(auto, unfolding(crate::specs::Ruled::meets_in))]
 fn meets(before: &[u8], line: &[u8]) -> bool
     ensures { result ≡ meets_in before.now line.now }
 {
-    if follows(before, line) {
-        if at_its_end(before, line) {
-            return same_at(before, Column::TO, line, Column::FROM);
-        }
-        return false;
-    }
-    true
+    !follows(before, line)
+        || at_its_end(before, line) && same_at(before, Column::TO, line, Column::FROM)
 }
 
 // A time and its text.
@@ -89,48 +86,43 @@ fn text_at(line: &[u8], time: usize, text: usize) -> bool
 }
 
 // 6: both texts match their seconds.
+#[tactic(auto, unfolding(crate::specs::Ruled::texts_in))]
 fn has_texts(line: &[u8]) -> bool
     ensures { result ≡ texts_in line.now }
 {
-    if text_at(line, Column::START, Column::START_TEXT) {
-        return text_at(line, Column::END, Column::END_TEXT);
-    }
-    false
+    text_at(line, Column::START, Column::START_TEXT) && text_at(line, Column::END, Column::END_TEXT)
 }
 
 // The lowest of the first three; `new` says that its duty was not seen before.
 fn first_rules(new: bool, before: &[u8], line: &[u8]) -> u8
     ensures { result ≡ first_rules new before.now line.now }
 {
-    if is_later(line) {
-        if stays(line) {
-            if new {
-                return Rule::NONE;
-            }
-            if follows(before, line) {
-                return Rule::NONE;
-            }
-            return Rule::TOGETHER;
-        }
+    if !is_later(line) {
+        return Rule::LATER;
+    }
+    if !stays(line) {
         return Rule::STAYS;
     }
-    Rule::LATER
+    if new || follows(before, line) {
+        return Rule::NONE;
+    }
+    Rule::TOGETHER
 }
 
 // The lowest of the last three.
 fn later_rules(before: &[u8], line: &[u8]) -> u8
     ensures { result ≡ later_rules before.now line.now }
 {
-    if is_next(before, line) {
-        if meets(before, line) {
-            if has_texts(line) {
-                return Rule::NONE;
-            }
-            return Rule::TEXTS;
-        }
+    if !is_next(before, line) {
+        return Rule::SEQUENCE;
+    }
+    if !meets(before, line) {
         return Rule::MEETS;
     }
-    Rule::SEQUENCE
+    if has_texts(line) {
+        return Rule::NONE;
+    }
+    Rule::TEXTS
 }
 
 // The lowest rule that the row breaks, or 0.

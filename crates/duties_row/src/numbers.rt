@@ -13,8 +13,7 @@ fn is_whole(s: &[u8]) -> bool
     ensures { result ≡ is_whole s.now }
 {
     match numbers::read_whole(s) {
-        Whole::Number(_) => true,
-        Whole::Beyond => true,
+        Whole::Number(_) | Whole::Beyond => true,
         Whole::Malformed => false,
     }
 }
@@ -57,21 +56,11 @@ fn time_at(line: &[u8], k: usize) -> bool
 pub fn has_wholes(line: &[u8]) -> bool
     ensures { result ≡ has_wholes line.now }
 {
-    if whole_at(line, Column::SEQ) {
-        if whole_at(line, Column::START) {
-            return whole_at(line, Column::END);
-        }
-    }
-    false
+    whole_at(line, Column::SEQ) && whole_at(line, Column::START) && whole_at(line, Column::END)
 }
 
 pub fn in_range(line: &[u8]) -> bool
     ensures { result ≡ in_range line.now }
 {
-    if time_at(line, Column::SEQ) {
-        if time_at(line, Column::START) {
-            return time_at(line, Column::END);
-        }
-    }
-    false
+    time_at(line, Column::SEQ) && time_at(line, Column::START) && time_at(line, Column::END)
 }

@@ -6,6 +6,7 @@ use mathlib.Core.Bool.{true, false, true≢false}
 use mathlib.Core.List.{List}
 use mathlib.Core.Option.{some}
 use lib.ListN.{set}
+use Rattle.std.specs.Prelude.{Option as StdOption, Some, None}
 use Rattle.rules.specs.Limits.{most_listed}
 use Rattle.rules.specs.Earliest.{soonest}
 use Rattle.rules.specs.declared.sizes.Configuration.{Configuration}
@@ -25,18 +26,19 @@ module _ (legs configurations : List ℕ) (row by : ℕ) (k : Raisable legs conf
   pub least_fits : x.departure + by < 2 ^ 32
   least_fits = rw present_is k.early
 
-  module _ (place : ℕ) (s : Sought configurations leg x.travel (x.departure + by) place) where
+  module _ (r : StdOption ℕ) (s : Sought configurations leg x.travel (x.departure + by) r) where
     found_is : soonest (x.departure + by) (timed_part configurations x.travel leg) ≡ next_of legs configurations row by
     found_is = ap₂ (λ (y : Configuration) (l : Leg). soonest (y.departure + by) (timed_part configurations y.travel l)) present_is el
 
-    pub none-raised : leg.count ≤ place → Raised legs configurations row by false legs
-    none-raised h =
-        let e : place ≡ leg.count = omega (arith, s.within) in
-        record { none_left = λ q. (sym found_is ∙ s.missing e, refl); one_left = λ q. absurd (true≢false (sym q)) }
+    pub none-raised : r ≡ None → Raised legs configurations row by false legs
+    none-raised e = record { none_left = λ q. (sym found_is ∙ s.missing e, refl); one_left = λ q. absurd (true≢false (sym q)) }
 
-    module _ (h : place < leg.count) where
+    module _ (place : ℕ) (e : r ≡ Some place) where
       low : place < most_listed
-      low = let c : leg.count ≤ most_listed = rw el k.few in omega arith
+      low = let c : leg.count ≤ most_listed = rw el k.few in omega (arith, (s.found place e).0)
+
+      pub place_small : place < 2 ^ 32
+      place_small = let l : place < most_listed = low in omega arith
 
       pub place_fits : most_listed * place < 2 ^ 32
       place_fits = let l : place < most_listed = low in omega arith
@@ -45,14 +47,14 @@ module _ (legs configurations : List ℕ) (row by : ℕ) (k : Raisable legs conf
       pack_fits = let l : place < most_listed = low in omega arith
 
       pub raised_to : (legs' : List ℕ) → legs' ≡ set legs (last_at row) (packed (leg.nominal % most_listed) place) → Raised legs configurations row by true legs'
-      raised_to legs' e =
+      raised_to legs' q =
           record {
             none_left = λ q. absurd (true≢false q);
-            one_left = λ q.
+            one_left = λ z.
                 record {
                   place = place;
-                  listed = subst (λ (l : Leg). place < l.count) el h;
-                  next = sym found_is ∙ s.found h ∙ ap (λ (l : Leg). some (offer_at configurations l place)) el;
-                  stores = e ∙ ap (λ (l : Leg). set legs (last_at row) (packed (l.nominal % most_listed) place)) el;
+                  listed = subst (λ (l : Leg). place < l.count) el (s.found place e).0;
+                  next = sym found_is ∙ (s.found place e).1 ∙ ap (λ (l : Leg). some (offer_at configurations l place)) el;
+                  stores = q ∙ ap (λ (l : Leg). set legs (last_at row) (packed (l.nominal % most_listed) place)) el;
                 };
           }

@@ -1,5 +1,5 @@
 -- The offers of a leg in the tables, and the choice that stands beside its nominal.
-use Rattle.std.specs.Prelude.{ℕ, ◌+◌, ◌*◌, ◌/◌, ◌%◌, ◌≤◌, ◌<◌, ◌^◌, ◌≡◌, Bool, true, false, List, length, set}
+use Rattle.std.specs.Prelude.{ℕ, ◌+◌, ◌*◌, ◌/◌, ◌%◌, ◌≤◌, ◌<◌, ◌^◌, ◌≡◌, Bool, true, false, Option as StdOption, Some, None, List, length, set}
 use Rattle.std.proofs.Math.Option.{Option, none, some}
 use Rattle.rules.specs.Limits.{leg_width, most_listed}
 use Rattle.rules.specs.Earliest.{timed_of, soonest}
@@ -17,11 +17,10 @@ offer_at configurations l j = configuration_at configurations (l.first + j)
 abbrev pub timed_part : (configurations : List ℕ) → (travel : ℕ) → Leg → List Configuration
 timed_part configurations travel l = timed_of travel (part_of (configuration_at configurations) l)
 
--- the place of the soonest of them at a second or after it; as many as there are where there is none
-pub record Sought (configurations : List ℕ) (l : Leg) (travel least r : ℕ) : Type 0 where
-  pub within : r ≤ l.count
-  pub found : r < l.count → soonest least (timed_part configurations travel l) ≡ some (offer_at configurations l r)
-  pub missing : r ≡ l.count → soonest least (timed_part configurations travel l) ≡ none
+-- the place of the soonest of them at a second or after it, where there is one
+pub record Sought (configurations : List ℕ) (l : Leg) (travel least : ℕ) (r : StdOption ℕ) : Type 0 where
+  pub found : (j : ℕ) → r ≡ Some j → (j < l.count) × (soonest least (timed_part configurations travel l) ≡ some (offer_at configurations l j))
+  pub missing : r ≡ None → soonest least (timed_part configurations travel l) ≡ none
 
 -- ---- the choice: where a leg's last number stands, which is its nominal's place below the number of places there are, and the choice's above it
 

@@ -2,37 +2,41 @@
 // The search lends no table of its own: while it runs, a leg's last number holds the place of its choice beside that of its nominal, so that 19 is found however short the choice table is.
 #![tactic(auto)]
 
-ghost use Rattle.std.specs.Prelude.{◌≡◌, ◌<◌, length, set};
+ghost use Rattle.std.specs.Prelude.{◌≡◌, ◌<◌, ◌≤◌, ◌↔◌, length, set, IsTrue, MatchOption};
 ghost use Rattle.earliest_offer.specs.Offer.{Sought, last_at, chosen_of, chosen_at, Raisable, Raised};
 
 use rules::sizes::{Configuration, Leg};
 
-// The place in its list of a leg's soonest offer with a travel time, at second `least` or after it; `leg.count` where there is none.
+// An offer that is the soonest of those looked at.
+#[derive(Clone, Copy)]
+pub struct Best {
+    pub place: usize,
+    pub departure: u32,
+}
+
+// Of equal departures the one looked at last is taken.
+fn is_sooner(departure: u32, best: Option<Best>) -> bool
+    ensures { MatchOption best (IsTrue result) (λ b. IsTrue result ↔ (departure ≤ b.departure)) }
+{
+    best.is_none_or(|b| departure <= b.departure)
+}
+
+// The place in its list of a leg's soonest offer with a travel time, at second `least` or after it, where there is one.
 // The list is walked from its end, so that of equal departures the first listed stays.
-pub fn soonest_of(configurations: &[u32], leg: Leg, travel: u32, least: u32) -> usize
+pub fn soonest_of(configurations: &[u32], leg: Leg, travel: u32, least: u32) -> Option<usize>
     ensures { Sought configurations.now leg travel least result }
 {
     let first = leg.first as usize;
     let count = leg.count as usize;
-    let mut best = count;
-    let mut departure: u32 = 0;
-    let mut j = count;
-    while 0 < j {
-        j -= 1;
-        let offer = tables_views::configuration_at(configurations, first + j);
-        if offer.travel == travel {
-            if least <= offer.departure {
-                if best == count {
-                    best = j;
-                    departure = offer.departure;
-                } else if offer.departure <= departure {
-                    best = j;
-                    departure = offer.departure;
-                }
-            }
+    let mut best: Option<Best> = None;
+    for place in (0..count).rev() {
+        let offer = tables_views::configuration_at(configurations, first + place);
+        let departure = offer.departure;
+        if offer.travel == travel && least <= departure && is_sooner(departure, best) {
+            best = Some(Best { place, departure });
         }
     }
-    best
+    Some(best?.place)
 }
 
 // The choice of a leg: its last number has the place above that of the nominal.
@@ -67,10 +71,9 @@ pub fn raise(legs: &mut [u32], configurations: &[u32], row: usize, by: u32) -> b
     let leg = tables_views::leg_at(legs, row);
     let present = chosen_of(configurations, leg);
     let least = present.departure + by;
-    let place = soonest_of(configurations, leg, present.travel, least);
-    if leg.count as usize <= place {
+    let Some(place) = soonest_of(configurations, leg, present.travel, least) else {
         return false;
-    }
+    };
     let most = Leg::MOST_CONFIGURATIONS;
     put_last(legs, row, leg.nominal % most + most * place as u32);
     true

@@ -1,5 +1,5 @@
 -- The way back: the choices into their own table, and the places of the nominals alone. Assumes nothing.
-use Prim.Native.Nat.{ℕ, suc, ◌+◌, ◌*◌, ◌%◌, ◌≤◌, ◌<◌}
+use Prim.Native.Nat.{ℕ, ◌+◌, ◌*◌, ◌%◌, ◌≤◌, ◌<◌}
 use native.Mathlib.Omega.{arith}
 use native.Mathlib.Numerals.{add-one}
 use mathlib.Core.Path.{◌≡◌, refl, sym, ap, ◌∙◌}
@@ -21,15 +21,6 @@ use Rattle.earliest_search.specs.WayOut.{choices_over, Restored}
 
 -- ---- the choices
 
--- three numbers stored are those of a configuration
-pub put_is : (t : List ℕ) (i d v p : ℕ)
-    → set (set (set t (i * configuration_width + 0) d) (i * configuration_width + 1) v) (i * configuration_width + 2) p ≡ sets t (i * configuration_width) (d ∷ v ∷ p ∷ [])
-put_is t i d v p =
-    let a : i * configuration_width + 0 ≡ i * configuration_width = omega arith in
-    let b : i * configuration_width + 1 ≡ suc (i * configuration_width) = omega arith in
-    let c : i * configuration_width + 2 ≡ suc (suc (i * configuration_width)) = omega arith in
-    rw (a, b, c)
-
 module _ (n : ℕ) (legs configurations choices₀ : List ℕ) where
   abbrev written : ℕ → List ℕ
   written i = flat configuration_numbers (tabulate i (chosen_at legs configurations))
@@ -50,12 +41,6 @@ module _ (n : ℕ) (legs configurations choices₀ : List ℕ) where
   unpack_first f = record { fits = f; within = omega arith; long = refl; now_is = refl }
 
   module _ (i : ℕ) (choices : List ℕ) (u : Unpacking i choices) where
-    pub unpack_room : i < n → i * configuration_width + configuration_width ≤ length choices
-    unpack_room h = omega (arith, u.long, u.fits)
-
-    pub unpack_ends : n ≤ i → choices ≡ choices_over n legs configurations choices₀
-    unpack_ends h = let e : i ≡ n = omega (arith, u.within) in u.now_is ∙ ap (λ (k : ℕ). choices_over k legs configurations choices₀) e
-
     pub unpack_on : i < n → (c : Configuration) → c ≡ chosen_at legs configurations i → (choices' : List ℕ)
         → choices' ≡ sets choices (i * configuration_width) (configuration_numbers c) → Unpacking (i + 1) choices'
     unpack_on h c ec choices' e =
@@ -94,9 +79,6 @@ module _ (n : ℕ) (legs₀ : List ℕ) where
     pub long : length legs ≡ length legs₀
     pub same : (p : ℕ) → ((j : ℕ) → j < i → p ≢ last_at j) → get_or legs p 0 ≡ get_or legs₀ p 0
     pub places : (j : ℕ) → j < i → get_or legs (last_at j) 0 ≡ get_or legs₀ (last_at j) 0 % most_listed
-
-  pub restore_first : leg_width * n ≤ length legs₀ → Restoring 0 legs₀
-  restore_first w = record { wide = w; within = omega arith; long = refl; same = λ p d. refl; places = λ j l. absurd (omega arith) }
 
   module _ (i : ℕ) (legs : List ℕ) (b : Restoring i legs) where
     pub restore_ends : n ≤ i → Restored n legs₀ legs

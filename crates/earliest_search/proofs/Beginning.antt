@@ -7,10 +7,11 @@ use mathlib.Core.Logic.{◌≢◌}
 use mathlib.Core.Bool.{Bool, true, false}
 use mathlib.Core.List.{List}
 use mathlib.Core.Option.{some}
-use lib.Dec.{T, eqb, ltb}
+use lib.Dec.{T, eqb}
 use lib.ListN.{length, get_or, set, length-set}
 use lib.Seq.{get_or-set_same, get_or-set_other}
-use borrow.Author.Tests.{eqb-true, eqb-false, ltb-true, ltb-false}
+use borrow.Author.Tests.{eqb-true, eqb-false}
+use Rattle.std.specs.Prelude.{Option as StdOption, Some, None, is_some}
 use Rattle.rules.specs.Limits.{leg_width, most_listed}
 use Rattle.rules.specs.Energy.{tabulate}
 use Rattle.rules.specs.Timetable.{same, offers}
@@ -31,28 +32,29 @@ offers-at (suc n) f zero h = or_left (same (f 0) (f 0)) (offers (tabulate n (λ 
 offers-at (suc n) f (suc j) h = or_right (same (f (suc j)) (f 0)) (offers (tabulate n (λ i. f (suc i))) (f (suc j))) (offers-at n (λ i. f (suc i)) j (le_of_suc-le-suc h))
 
 -- THE NOMINAL IS THERE: so there is a soonest offer
-pub first_is : (configurations : List ℕ) (l : Leg) → Nominal l → (x : Configuration) → x ≡ offer_at configurations l l.nominal
-    → (place : ℕ) → Sought configurations l x.travel 0 place → First configurations l place
-first_is configurations l k x ex place s =
-    record {
-      within = inside (ltb place l.count) refl;
-      soonest_is = ap (λ (y : Configuration). soonest 0 (timed_of y.travel list)) (sym ex) ∙ s.found (inside (ltb place l.count) refl);
-    }
-  where
-    list : List Configuration
-    list = part_of (configuration_at configurations) l
+module _ (configurations : List ℕ) (l : Leg) (k : Nominal l) (x : Configuration) (ex : x ≡ offer_at configurations l l.nominal)
+    (r : StdOption ℕ) (s : Sought configurations l x.travel 0 r) where
+  abbrev list : List Configuration
+  list = part_of (configuration_at configurations) l
 
-    nominal_offered : T (offers (timed_of x.travel list) x)
-    nominal_offered =
-        (timed_in_lem x.travel x list).1
-        (subst (λ (y : Configuration). T (offers list y)) (sym ex) (offers-at l.count (offer_at configurations l) l.nominal k.listed), refl)
+  nominal_offered : T (offers (timed_of x.travel list) x)
+  nominal_offered =
+      (timed_in_lem x.travel x list).1
+      (subst (λ (y : Configuration). T (offers list y)) (sym ex) (offers-at l.count (offer_at configurations l) l.nominal k.listed), refl)
 
-    inside : (b : Bool) → ltb place l.count ≡ b → place < l.count
-    inside true e = ltb-true place l.count e
-    inside false e =
-        let le : l.count ≤ place = ltb-false place l.count e in
-        let here : place ≡ l.count = omega (arith, s.within) in
-        absurd (subst (Picked 0 (timed_of x.travel list)) (s.missing here) (picked 0 (timed_of x.travel list)) x nominal_offered (omega arith))
+  pub first_there : is_some r ≡ true
+  first_there = go r refl
+    where
+      go : (o : StdOption ℕ) → r ≡ o → is_some o ≡ true
+      go None e = absurd (subst (Picked 0 (timed_of x.travel list)) (s.missing e) (picked 0 (timed_of x.travel list)) x nominal_offered (omega arith))
+      go (Some place) e = refl
+
+  pub first_is : (place : ℕ) → r ≡ Some place → First configurations l place
+  first_is place e =
+      record {
+        within = (s.found place e).0;
+        soonest_is = ap (λ (y : Configuration). soonest 0 (timed_of y.travel list)) (sym ex) ∙ (s.found place e).1;
+      }
 
 -- ---- one row
 
@@ -99,16 +101,6 @@ module _ (n : ℕ) (legs₀ configurations : List ℕ) where
     pub same : (p : ℕ) → ((j : ℕ) → j < i → p ≢ last_at j) → get_or legs p 0 ≡ get_or legs₀ p 0
     pub places : (j : ℕ) → j < i → get_or legs (last_at j) 0 % most_listed ≡ get_or legs₀ (last_at j) 0
     pub soonests : (j : ℕ) → j < i → soonest 0 (own_offers configurations (leg_at legs₀ j)) ≡ some (chosen_at legs configurations j)
-
-  pub begin_first : Beginning 0 legs₀
-  begin_first =
-      record {
-        within = omega arith;
-        long = refl;
-        same = λ p d. refl;
-        places = λ j l. absurd (omega arith);
-        soonests = λ j l. absurd (omega arith);
-      }
 
   module _ (k : Readable n legs₀) (i : ℕ) (legs : List ℕ) (b : Beginning i legs) where
     pub begin_ends : n ≤ i → Begun n legs₀ configurations legs

@@ -1,8 +1,8 @@
 -- The turn of a record over the search's tables: kept, its row raised, or never kept. Assumes nothing.
 use Prim.Native.Nat.{ℕ, zero, suc, ◌+◌, ◌%◌, ◌≤◌, ◌<◌, ◌^◌}
 use native.Mathlib.Omega.{arith}
-use mathlib.Core.Path.{◌≡◌, refl, sym, ap, ap₂, ◌∙◌, subst}
-use mathlib.Core.Logic.{◌≢◌, ⊎_elim}
+use mathlib.Core.Path.{◌≡◌, sym, ap, ap₂, ◌∙◌, subst}
+use mathlib.Core.Logic.{⊎_elim}
 use mathlib.Core.Bool.{Bool, true, false}
 use mathlib.Core.List.{List, [], ◌∷◌}
 use mathlib.Core.Option.{Option, none, some}
@@ -19,10 +19,10 @@ use Rattle.rules.specs.declared.sizes.Constraint.{Constraint}
 use Rattle.rules.proofs.Lists.{tabulate-length, tabulate-at}
 use Rattle.rules_theorems.proofs.Tables.{same_eq}
 use Rattle.tables_views.specs.View.{configuration_at, constraint_at, leg_at, list_in, constraints_in}
-use Rattle.verdict.specs.Found.{finding_of}
+use Rattle.std.specs.Prelude.{Option as StdOption, Some, None, Ok, Err}
+use Rattle.verdict.specs.Found.{Finding, finding_of}
 use Rattle.verdict.specs.Within.{Timely, Within, most_shortfall}
-use Rattle.verdict.specs.declared.records.Finding.{Finding}
-use Rattle.verdict.specs.declared.records.Finding.TheVariants as found
+use Rattle.verdict.specs.declared.records.Failing.{Failing}
 use Rattle.verdict.proofs.KindRows.{by_choices}
 use Rattle.verdict.proofs.Fits.{failed}
 use Rattle.earliest_theorems.specs.Search.{Picked, Lates}
@@ -138,74 +138,69 @@ module _ (n m i : ℕ) (legs configurations constraints : List ℕ) (t : Turning
   abbrev here : Constraint
   here = constraint_at constraints i
 
-  pub late_kept : (y : ℕ) → v ≡ found.Kept y → LateAt n m i legs configurations constraints (record { row = 0; by = 0 })
+  pub late_kept : (y : ℕ) → v ≡ Ok y → LateAt n m i legs configurations constraints None
   late_kept y e =
       record {
         kept = λ q. subst (λ (d : Constraint). Kept xs d) ec (subst (λ (o : Finding). Lates xs (λ s. Kept s c) (Kept xs c) (late_of c o)) e lates);
-        raises = λ q. absurd (omega arith);
-        late = λ q. absurd (omega arith);
+        raises = λ l q. (cc);
+        late = λ l q. (cc);
       }
 
-  module _ (k short : ℕ) (e : v ≡ found.Fails k short) where
-    is_late : Lates xs (λ s. Kept s c) (Kept xs c) (some (record { row = held_back c k; by = short }))
+  module _ (f : Failing) (e : v ≡ Err f) where
+    is_late : Lates xs (λ s. Kept s c) (Kept xs c) (some (record { row = held_back c f.inequality; by = f.short }))
     is_late = subst (λ (o : Finding). Lates xs (λ s. Kept s c) (Kept xs c) (late_of c o)) e lates
 
-    row_in : held_back c k < n
+    row_in : held_back c f.inequality < n
     row_in = rw (← tabulate-length n (chosen_at legs configurations)) is_late.0
 
-    short_small : short ≤ most_shortfall
+    short_small : f.short ≤ most_shortfall
     short_small =
-        (failed m (constraint_at constraints) xs (within n m legs configurations constraints w) i t.within c ec v found_is k short e).small
+        (failed m (constraint_at constraints) xs (within n m legs configurations constraints w) i t.within c ec v found_is f e).small
 
-    pub short_fits : short < 2 ^ 32
-    short_fits = let h : short ≤ most_shortfall = short_small in omega arith
+    pub short_fits : f.short < 2 ^ 32
+    short_fits = let h : f.short ≤ most_shortfall = short_small in omega arith
 
-    pub late_fails : (row : ℕ) → row ≡ held_back c k → LateAt n m i legs configurations constraints (record { row = row; by = short })
+    abbrev found_late : (row : ℕ) → code.Late
+    found_late row = record { row = row; by = f.short }
+
+    pub late_fails : (row : ℕ) → row ≡ held_back c f.inequality → LateAt n m i legs configurations constraints (Some (record { row = row; by = f.short }))
     late_fails row er =
         let h : row < n = rw er row_in in
-        let l : short ≤ most_shortfall = short_small in
-        let b : 0 < short = is_late.1 in
+        let small : f.short ≤ most_shortfall = short_small in
         record {
-          kept = λ q. absurd (omega arith);
-          raises = λ q.
-              record {
+          kept = λ q. (cc);
+          raises = λ l q.
+              let one : found_late row ≡ l = cc in
+              rw (← one)
+              (record {
                 there = omega (arith, w.based.wide);
                 few = w.based.few row h;
                 early = omega (arith, timely_row n m legs configurations constraints w row h);
-              };
-          late = λ q.
-              subst (λ (d : Constraint). Lates xs (λ s. Kept s d) (Kept xs d) (some (record { row = row; by = short }))) ec
-              (subst (λ (r : ℕ). Lates xs (λ s. Kept s c) (Kept xs c) (some (record { row = r; by = short }))) (sym er) is_late);
+              });
+          late = λ l q.
+              let one : found_late row ≡ l = cc in
+              rw (← one)
+              (subst (λ (d : Constraint). Lates xs (λ s. Kept s d) (Kept xs d) (some (record { row = row; by = f.short }))) ec
+              (subst (λ (r : ℕ). Lates xs (λ s. Kept s c) (Kept xs c) (some (record { row = r; by = f.short }))) (sym er) is_late));
         }
 
 module _ (n m i : ℕ) (legs configurations constraints : List ℕ) (t : Turning n m i legs configurations constraints)
-    (r : code.Late) (la : LateAt n m i legs configurations constraints r) where
+    (o : StdOption code.Late) (la : LateAt n m i legs configurations constraints o) where
   abbrev ws : Searching n m legs configurations constraints
   ws = t.searching
 
   abbrev xt : List Configuration
   xt = chosen_in n legs configurations
 
-  pub visit_kept : r.by ≡ 0 → Turned n m i legs configurations constraints turn.Kept legs
-  visit_kept e =
-      record {
-        kept = λ q. (refl, la.kept e);
-        raised = λ q. absurd (kept_not-raised q);
-        never = λ q. absurd (kept_not_never q);
-      }
-
-  module _ (nz : r.by ≢ 0) where
-    some_late : 0 < r.by
-    some_late = omega arith
-
+  module _ (r : code.Late) (is : o ≡ Some r) where
     pub visit_raises : Raisable legs configurations r.row r.by
-    visit_raises = la.raises some_late
+    visit_raises = la.raises r is
 
     abbrev late : Late
     late = record { row = r.row; by = r.by }
 
     is_late_here : Lates xt (λ s. Kept s (constraint_at constraints i)) (Kept xt (constraint_at constraints i)) (some late)
-    is_late_here = la.late some_late
+    is_late_here = la.late r is
 
     row_here : r.row < n
     row_here = rw (← tabulate-length n (chosen_at legs configurations)) is_late_here.0
@@ -214,9 +209,9 @@ module _ (n m i : ℕ) (legs configurations constraints : List ℕ) (t : Turning
     keeps s a = every_tabulated (Kept s) m (constraint_at constraints) a.kept i t.within
 
     module _ (b : Bool) (legs' : List ℕ) (z : Raised legs configurations r.row r.by b legs') where
-      picks : (o : Option Configuration) → next_of legs configurations r.row r.by ≡ o
-          → Picked ((choice_at xt r.row).departure + r.by) (get_or (timed_in n legs configurations) r.row []) o
-      picks o q =
+      picks : (p : Option Configuration) → next_of legs configurations r.row r.by ≡ p
+          → Picked ((choice_at xt r.row).departure + r.by) (get_or (timed_in n legs configurations) r.row []) p
+      picks p q =
           subst (Picked ((choice_at xt r.row).departure + r.by) (get_or (timed_in n legs configurations) r.row []))
           (next_is n m legs configurations constraints ws r.row r.by row_here ∙ q)
           (picked ((choice_at xt r.row).departure + r.by) (get_or (timed_in n legs configurations) r.row []))

@@ -1,5 +1,5 @@
 -- The search for the earliest timetable over the tables: what it keeps, and what a record's turn, a pass and the passes give.
-use Rattle.std.specs.Prelude.{ℕ, ◌+◌, ◌*◌, ◌%◌, ◌≤◌, ◌<◌, ◌≡◌, ◌≢◌, Bool, true, false, List, length, get_or}
+use Rattle.std.specs.Prelude.{ℕ, ◌+◌, ◌*◌, ◌%◌, ◌≤◌, ◌<◌, ◌≡◌, ◌≢◌, Bool, true, false, Option, Some, None, List, length, get_or}
 use Rattle.std.proofs.Math.Option.{some}
 use Rattle.rules.specs.Limits.{leg_width, most_legs, most_listed, most_constraints}
 use Rattle.rules.specs.Energy.{tabulate}
@@ -9,9 +9,8 @@ use Rattle.rules.specs.Earliest.{timed_of}
 use Rattle.rules.specs.declared.sizes.Configuration.{Configuration}
 use Rattle.rules.specs.declared.sizes.Constraint.{Constraint}
 use Rattle.tables_views.specs.View.{configuration_at, constraint_at, leg_at, list_in, constraints_in}
-use Rattle.verdict.specs.Found.{finding_of}
+use Rattle.verdict.specs.Found.{Finding, finding_of}
 use Rattle.verdict.specs.Within.{Timely, Brief}
-use Rattle.verdict.specs.declared.records.Finding.{Finding}
 use Rattle.earliest_theorems.specs.Search.{ahead, Lates, Low}
 use Rattle.earliest_offer.specs.Offer.{last_at, chosen_at, Raisable}
 use Rattle.earliest_search.specs.declared.rounds.Late as code
@@ -65,21 +64,11 @@ abbrev pub found_by : (c : Constraint) → (one two : Configuration) → Finding
 found_by c one two = finding_of (rule_of c.kind c.low c.high c.connection one two)
 
 -- record i is kept, or its row is late
-pub record LateAt (n m i : ℕ) (legs configurations constraints : List ℕ) (r : code.Late) : Type 0 where
-  pub kept : r.by ≡ 0 → Kept (chosen_in n legs configurations) (constraint_at constraints i)
-  pub raises : 0 < r.by → Raisable legs configurations r.row r.by
-  pub late : 0 < r.by
-      → Lates (chosen_in n legs configurations) (λ s. Kept s (constraint_at constraints i)) (Kept (chosen_in n legs configurations) (constraint_at constraints i)) (some (record { row = r.row; by = r.by }))
-
-abbrev pub never_turn : Turn → Bool
-never_turn turn.Kept = false
-never_turn turn.Raised = false
-never_turn turn.Never = true
-
-abbrev pub kept_turn : Turn → Bool
-kept_turn turn.Kept = true
-kept_turn turn.Raised = false
-kept_turn turn.Never = false
+pub record LateAt (n m i : ℕ) (legs configurations constraints : List ℕ) (r : Option code.Late) : Type 0 where
+  pub kept : r ≡ None → Kept (chosen_in n legs configurations) (constraint_at constraints i)
+  pub raises : (l : code.Late) → r ≡ Some l → Raisable legs configurations l.row l.by
+  pub late : (l : code.Late) → r ≡ Some l
+      → Lates (chosen_in n legs configurations) (λ s. Kept s (constraint_at constraints i)) (Kept (chosen_in n legs configurations) (constraint_at constraints i)) (some (record { row = l.row; by = l.by }))
 
 abbrev pub NoSolution : (n m : ℕ) → (legs configurations constraints : List ℕ) → Type 0
 NoSolution n m legs configurations constraints =

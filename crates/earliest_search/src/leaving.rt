@@ -22,11 +22,9 @@ pub fn unpack_choices(legs: &[u32], n: usize, configurations: &[u32], choices: &
     requires { n * configuration_width ≤ length choices.old }
     ensures { choices.new ≡ choices_over n legs.now configurations.now choices.old }
 {
-    let mut i = 0;
-    while i < n {
+    for i in 0..n {
         let c = earliest_offer::chosen_at(legs, configurations, i);
         put_choice(choices, i, c);
-        i += 1;
     }
 }
 
@@ -35,10 +33,8 @@ pub fn restore(legs: &mut [u32], n: usize)
     requires { leg_width * n ≤ length legs.old }
     ensures { Restored n legs.old legs.new }
 {
-    let mut i = 0;
-    while i < n {
+    for i in 0..n {
         let at = Leg::WIDTH * i + Leg::NOMINAL_AT;
         legs[at] = legs[at] % Leg::MOST_CONFIGURATIONS;
-        i += 1;
     }
 }

@@ -1,9 +1,9 @@
 // Rounds over the constraint table: the leg that a failing inequality holds back is moved on to its next offer, until a round moves none. Which record comes first is no matter: what the search keeps
 // leads to the same choices in any order (`low_kept` of `earliest_theorems`). Every move passes over an offer, so there are no more rounds than offers.
-ghost use Rattle.std.specs.Prelude.{◌≡◌, ◌&&◌};
+ghost use Rattle.std.specs.Prelude.{◌≡◌};
 ghost use Rattle.rules.specs.Earliest.{held_back};
 ghost use Rattle.earliest_offer.specs.Offer.{chosen_at};
-ghost use Rattle.earliest_search.specs.Searching.{found_by, Searching, Turning, LateAt, Turned, never_turn, kept_turn, Passed, Sorted};
+ghost use Rattle.earliest_search.specs.Searching.{found_by, Searching, Turning, LateAt, Turned, Passed, Sorted};
 
 use rules::kinds::Kind;
 use rules::sizes::Constraint;
@@ -32,10 +32,8 @@ const AT_MOST: u8 = 2;
 fn held_back(c: Constraint, inequality: u8) -> u32
     ensures { result ≡ held_back c inequality }
 {
-    if c.kind == Kind::CONNECTION as u32 {
-        if inequality == AT_MOST {
-            return c.first;
-        }
+    if c.kind == Kind::CONNECTION as u32 && inequality == AT_MOST {
+        return c.first;
     }
     c.second
 }
@@ -49,7 +47,7 @@ fn found_at(legs: &[u32], configurations: &[u32], c: Constraint) -> Finding
     records::find_record(c, one, two)
 }
 
-// The row that record `i`, of `m`, holds back over the choices of `n` rows, and by how much; by 0 where the record is kept.
+// The row that record `i`, of `m`, holds back over the choices of `n` rows, and by how much; None where the record is kept.
 fn late_at(
     legs: &[u32],
     n: usize,
@@ -57,19 +55,19 @@ fn late_at(
     constraints: &[u32],
     m: usize,
     i: usize,
-) -> Late
+) -> Option<Late>
     requires { Turning n m i legs.now configurations.now constraints.now }
     ensures { LateAt n m i legs.now configurations.now constraints.now result }
 {
     let c = tables_views::constraint_at(constraints, i);
-    if let Finding::Fails(inequality, short) = found_at(legs, configurations, c) {
-        let row = held_back(c, inequality);
-        return Late {
+    if let Err(failing) = found_at(legs, configurations, c) {
+        let row = held_back(c, failing.inequality);
+        return Some(Late {
             row: row as usize,
-            by: short as u32,
-        };
+            by: failing.short as u32,
+        });
     }
-    Late { row: 0, by: 0 }
+    None
 }
 
 // The turn of record `i`.
@@ -84,40 +82,13 @@ fn visit(
     requires { Turning n m i legs.old configurations.now constraints.now }
     ensures { Turned n m i legs.old configurations.now constraints.now result legs.new }
 {
-    let late = late_at(legs, n, configurations, constraints, m, i);
-    if late.by == 0 {
+    let Some(late) = late_at(legs, n, configurations, constraints, m, i) else {
         return Turn::Kept;
-    }
+    };
     if earliest_offer::raise(legs, configurations, late.row, late.by) {
         return Turn::Raised;
     }
     Turn::Never
-}
-
-fn is_never(turn: Turn) -> bool
-    ensures { result ≡ never_turn turn }
-{
-    match turn {
-        Turn::Kept => false,
-        Turn::Raised => false,
-        Turn::Never => true,
-    }
-}
-
-fn is_kept(turn: Turn) -> bool
-    ensures { result ≡ kept_turn turn }
-{
-    match turn {
-        Turn::Kept => true,
-        Turn::Raised => false,
-        Turn::Never => false,
-    }
-}
-
-fn both(a: bool, b: bool) -> bool
-    ensures { result ≡ (a && b) }
-{
-    a && b
 }
 
 // All records in order, each over the choices as those before have left them.
@@ -126,20 +97,14 @@ fn pass(legs: &mut [u32], n: usize, configurations: &[u32], constraints: &[u32],
     ensures { Passed n m legs.old configurations.now constraints.now result legs.new }
 {
     let mut quiet = true;
-    let mut i = 0;
-    while i < m {
-        let turned = visit(legs, n, configurations, constraints, m, i);
-        if is_never(turned) {
-            return Turn::Never;
+    for i in 0..m {
+        match visit(legs, n, configurations, constraints, m, i) {
+            Turn::Kept => {}
+            Turn::Raised => quiet = false,
+            Turn::Never => return Turn::Never,
         }
-        let kept = is_kept(turned);
-        quiet = both(quiet, kept);
-        i += 1;
     }
-    if quiet {
-        return Turn::Kept;
-    }
-    Turn::Raised
+    if quiet { Turn::Kept } else { Turn::Raised }
 }
 
 // Rounds, until one moves nothing. False where no solution keeps all records.
@@ -153,14 +118,11 @@ pub fn raise_all(
     requires { Searching n m legs.old configurations.now constraints.now }
     ensures { Sorted n m legs.old configurations.now constraints.now result legs.new }
 {
-    let answer = 'rounds: loop {
-        let passed = pass(legs, n, configurations, constraints, m);
-        if is_never(passed) {
-            break false;
+    'rounds: loop {
+        match pass(legs, n, configurations, constraints, m) {
+            Turn::Kept => return true,
+            Turn::Raised => {}
+            Turn::Never => return false,
         }
-        if is_kept(passed) {
-            break true;
-        }
-    };
-    answer
+    }
 }

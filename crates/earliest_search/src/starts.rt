@@ -10,7 +10,7 @@ fn first_place(configurations: &[u32], leg: Leg) -> usize
 {
     let at = leg.first as usize + leg.nominal as usize;
     let nominal = tables_views::configuration_at(configurations, at);
-    earliest_offer::soonest_of(configurations, leg, nominal.travel, 0)
+    earliest_offer::soonest_of(configurations, leg, nominal.travel, 0).unwrap()
 }
 
 fn first_choice(legs: &mut [u32], configurations: &[u32], row: usize)
@@ -28,9 +28,7 @@ pub fn first_choices(legs: &mut [u32], n: usize, configurations: &[u32])
     requires { Readable n legs.old }
     ensures { Begun n legs.old configurations.now legs.new }
 {
-    let mut i = 0;
-    while i < n {
+    for i in 0..n {
         first_choice(legs, configurations, i);
-        i += 1;
     }
 }

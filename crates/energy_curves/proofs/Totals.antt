@@ -3,11 +3,13 @@ use Prim.Native.Nat.{ℕ, zero, suc, ◌+◌, ◌*◌, ◌-◌, ◌≤◌, ◌<�
 use native.Mathlib.Omega.{arith}
 use native.Mathlib.Numerals.{add-one}
 use native.Mathlib.Nat.{le_trans}
-use mathlib.Core.Path.{◌≡◌, sym, ap, ap₂, ◌∙◌, subst}
+use mathlib.Core.Path.{◌≡◌, refl, sym, ap, ap₂, ◌∙◌, subst}
 use mathlib.Core.Bool.{Bool, true, false, cond}
 use mathlib.Core.List.{List}
 use lib.IntN.{ℤ, nat_abs, neg_ℤ, ◌+ℤ◌, ◌-ℤ◌}
 use lib.Signed.{le_z}
+use Rattle.std.specs.Int.{int_max, int_min}
+use Rattle.std.proofs.lemmas.Int.{ints, clamps}
 use mir.Syntax.{w32, w64}
 use mir.Val.{SFits, to_z, of_z}
 use mir.Facts.{to_z-of_z, sfits_widen}
@@ -59,17 +61,21 @@ module _ (H n : ℕ) (P : List ℤ) (t : CurveTable H n P) (i : ℕ) where
       pub total_added : to_z w64 (of_z w64 (sum +ℤ to_z w64 (of_z w64 (to_z w32 (of_z w32 (power_in H P s i)))))) ≡ total_in H P (s + 1) i
       total_added = to_z-of_z total_adds ∙ both_held ∙ sym (ap (λ m. total_in H P m i) (add-one s))
 
--- ---- the greater and the lesser of two, as the machine compares them
+-- ---- the greater and the lesser of two, as the law picks them
 
-module _ (a b : ℤ) (fa : SFits w64 a) (fb : SFits w64 b) where
-  pub picked : (c : Bool) → le_z (to_z w64 (of_z w64 a)) (to_z w64 (of_z w64 b)) ≡ c → le_z a b ≡ c
-  picked c e = sym (ap₂ le_z (to_z-of_z fa) (to_z-of_z fb)) ∙ e
+max_picks : (a b : ℤ) → int_max a b ≡ cond (le_z a b) b a
+max_picks a b = go (le_z a b) refl
+  where
+    go : (c : Bool) → le_z a b ≡ c → int_max a b ≡ cond c b a
+    go true e = omega (arith, ints, clamps)
+    go false e = omega (arith, ints, clamps)
 
-pub takes-second : (R : Bool) (a b : ℤ) → SFits w64 b → R ≡ true → to_z w64 (of_z w64 b) ≡ cond R b a
-takes-second R a b fb e = to_z-of_z fb ∙ sym (ap (λ r. cond r b a) e)
-
-pub keeps_first : (R : Bool) (a b : ℤ) → SFits w64 a → R ≡ false → to_z w64 (of_z w64 a) ≡ cond R b a
-keeps_first R a b fa e = to_z-of_z fa ∙ sym (ap (λ r. cond r b a) e)
+min_picks : (a b : ℤ) → int_min a b ≡ cond (le_z b a) b a
+min_picks a b = go (le_z b a) refl
+  where
+    go : (c : Bool) → le_z b a ≡ c → int_min a b ≡ cond c b a
+    go true e = omega (arith, ints, clamps)
+    go false e = omega (arith, ints, clamps)
 
 -- ---- over the seconds 0 .. t - 1: the greatest total and the least
 
@@ -131,17 +137,17 @@ module _ (H n : ℕ) (P : List ℤ) (c : CurveTable H n P) where
           let last : t ≡ suc (t - 1) = omega (arith, r.begun) in
           ap₂ (λ e x. cond (R e x) x e) he (hx ∙ ap (total_in H P n) last) ∙ sym (ap (extreme R (total_in H P n)) this)
 
-      pub range_more : (a b : ℤ) → a ≡ cond (le_z hi (to_z w64 (of_z w64 z))) (to_z w64 (of_z w64 z)) hi
-          → b ≡ cond (le_z (to_z w64 (of_z w64 z)) lo) (to_z w64 (of_z w64 z)) lo → Ranged H n P (to_z w64 (of_z w64 a)) (to_z w64 (of_z w64 b)) (t + 1)
+      pub range_more : (a b : ℤ) → a ≡ int_max hi (to_z w64 (of_z w64 z)) → b ≡ int_min lo (to_z w64 (of_z w64 z))
+          → Ranged H n P (to_z w64 (of_z w64 a)) (to_z w64 (of_z w64 b)) (t + 1)
       range_more a b ea eb =
+          let x : ℤ = to_z w64 (of_z w64 z) in
           record {
             begun = omega arith;
             within = omega arith;
             most =
-                held a (greatest (total_in H P n) (t + 1 - 1)) (ea ∙ next le_z hi (to_z w64 (of_z w64 z)) r.most z_is)
-                (extreme-fits le_z up (t + 1 - 1));
+                held a (greatest (total_in H P n) (t + 1 - 1)) (ea ∙ max_picks hi x ∙ next le_z hi x r.most z_is) (extreme-fits le_z up (t + 1 - 1));
             fewest =
-                held b (least (total_in H P n) (t + 1 - 1)) (eb ∙ next (λ a b. le_z b a) lo (to_z w64 (of_z w64 z)) r.fewest z_is)
+                held b (least (total_in H P n) (t + 1 - 1)) (eb ∙ min_picks lo x ∙ next (λ a b. le_z b a) lo x r.fewest z_is)
                 (extreme-fits (λ a b. le_z b a) down (t + 1 - 1));
           }
 

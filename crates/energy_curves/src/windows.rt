@@ -18,11 +18,7 @@ pub struct Window {
 pub fn clear(table: &mut [i32])
     ensures { table.new ≡ filled (pos 0) table.old }
 {
-    let mut i: usize = 0;
-    while i < table.len() {
-        table[i] = 0;
-        i += 1;
-    }
+    table.fill(0);
 }
 
 // Number by number, from a place on.
@@ -30,11 +26,8 @@ fn add(table: &mut [i32], at: usize, xs: &[i32])
     requires { (at + length xs.now ≤ length table.old) × AddRoom table.old xs.now }
     ensures { table.new ≡ added_from at xs.now table.old }
 {
-    let mut j: usize = 0;
-    while j < xs.len() {
-        let at_j = at + j;
-        table[at_j] = table[at_j] + xs[j];
-        j += 1;
+    for (j, &x) in xs.iter().enumerate() {
+        table[at + j] += x;
     }
 }
 
@@ -43,8 +36,7 @@ fn lay_run(table: &mut [i32], w: Window, subnet: usize, start: usize, xs: &[i32]
     requires { WindowRoom w.from w.size subnet table.old xs.now }
     ensures { table.new ≡ laid_run w.from w.size subnet start xs.now table.old }
 {
-    let from = w.from;
-    let size = w.size;
+    let Window { from, size } = w;
     let first = runs::samples_before(from, start, xs.len());
     let last = runs::samples_before(from + size, start, xs.len());
     if first < last {

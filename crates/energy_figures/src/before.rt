@@ -31,11 +31,9 @@ fn add_leg(
     let profile = runs::profile_of(profiles, counts.profiles, choice.profile);
     let first = profile.first as usize;
     let last = first + profile.count as usize;
-    let start = choice.departure as usize;
-    let run = sides::sides_of(&samples[first..last]);
-    let whole = sum.whole + run.above;
-    let sums = sum.quarters;
-    let quarters = quarters::add_run(sums, &samples[first..last], start);
+    let run = &samples[first..last];
+    let whole = sum.whole + sides::sides_of(run).above;
+    let quarters = quarters::add_run(sum.quarters, run, choice.departure as usize);
     Before { whole, quarters }
 }
 
@@ -52,11 +50,9 @@ pub fn add_legs(
 {
     let quarters = [0i64; Horizon::QUARTERS];
     let mut sum = Before { whole: 0, quarters };
-    let mut i: usize = 0;
-    while i < counts.legs {
+    for i in 0..counts.legs {
         let more = add_leg(sum, h, i, counts, choices, profiles, samples);
         sum = more;
-        i += 1;
     }
     sum
 }

@@ -56,12 +56,10 @@ fn lay_legs(
     requires { Laying h w.from w.size (given counts choices.now legs.now profiles.now samples.now tracks.now) 0 table.old }
     ensures { table.new ≡ laid_legs w.from w.size (given counts choices.now legs.now profiles.now samples.now tracks.now) table.old }
 {
-    let mut i: usize = 0;
-    while i < counts.legs {
+    for i in 0..counts.legs {
         lay_leg(
             table, h, w, i, counts, choices, legs, profiles, samples, tracks,
         );
-        i += 1;
     }
 }
 

@@ -29,20 +29,16 @@ fn figures(
 {
     let n = counts.subnets;
     let legs = before::add_legs(h, counts, choices, profiles, samples);
-    let legs_quarters = legs.quarters;
     let subnets = sides::sides_of(curves);
     let subnets_quarters = sums::drawn_quarters(curves, n, h);
-    let fluctuation = sums::fluctuation(curves, n, h);
-    let before_peak = quarters::greatest_of(legs_quarters);
-    let drawn_peak = quarters::greatest_of(subnets_quarters);
     Figures {
         before: legs.whole,
         drawn: subnets.above,
         lost: subnets.below,
-        fluctuation,
+        fluctuation: sums::fluctuation(curves, n, h),
         peaks: Peaks {
-            before: before_peak,
-            drawn: drawn_peak,
+            before: quarters::greatest_of(legs.quarters),
+            drawn: quarters::greatest_of(subnets_quarters),
         },
     }
 }

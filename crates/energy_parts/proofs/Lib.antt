@@ -1,6 +1,5 @@
 pub mod Once
 pub mod Patterns
-pub mod CutAtZero
 pub mod Listed
 pub mod SideSums
 pub mod Lookup

@@ -22,17 +22,11 @@ pub fn for_desk(g: Figures) -> Desk
     requires { Exact g }
     ensures { result ≡ desk_of g }
 {
-    let peaks = g.peaks;
-    let drawn_peak = peaks.drawn;
-    let before = divided(g.before, Figures::KJ_A_MWH);
-    let drawn = divided(g.drawn, Figures::KJ_A_MWH);
-    let lost = divided(g.lost, Figures::KJ_A_MWH);
-    let peak = divided(drawn_peak.kj, Figures::KJ_A_MW);
     Desk {
-        before,
-        drawn,
-        lost,
-        peak,
+        before: divided(g.before, Figures::KJ_A_MWH),
+        drawn: divided(g.drawn, Figures::KJ_A_MWH),
+        lost: divided(g.lost, Figures::KJ_A_MWH),
+        peak: divided(g.peaks.drawn.kj, Figures::KJ_A_MW),
     }
 }
 

@@ -26,7 +26,7 @@ fn quarters_before(second: usize) -> usize
     requires { second ≤ most_horizon }
     ensures { result ≡ quarters_before second }
 {
-    (second + (Horizon::QUARTER as usize - 1)) / Horizon::QUARTER as usize
+    second.div_ceil(Horizon::QUARTER as usize)
 }
 
 // The sums with what a run draws added: a leg's samples, or a subnet's powers.
@@ -39,12 +39,11 @@ pub fn add_run(
     ensures { result ≡ with_run start run.now sums }
 {
     let mut out = sums;
+    let first = start / Horizon::QUARTER as usize;
     let last = quarters_before(start + run.len());
-    let mut k = start / Horizon::QUARTER as usize;
-    while k < last {
+    for k in first..last {
         let more = in_quarter(run, start, k);
-        out[k] = out[k] + more as i64;
-        k += 1;
+        out[k] += more as i64;
     }
     out
 }
@@ -65,10 +64,8 @@ pub fn greatest_of(sums: [i64; Horizon::QUARTERS]) -> Peak
     ensures { result ≡ greatest_sum sums }
 {
     let mut best = Peak { kj: 0, quarter: 0 };
-    let mut k: usize = 0;
-    while k < Horizon::QUARTERS {
-        best = higher(best, energy_sign::above(sums[k]), k as u32);
-        k += 1;
+    for (k, &sum) in sums.iter().enumerate() {
+        best = higher(best, energy_sign::above(sum), k as u32);
     }
     best
 }

@@ -58,9 +58,5 @@ pub fn home_of(tracks: &[u32], n: Entries, track: u32) -> Found
 pub fn samples_before(second: usize, start: usize, count: usize) -> usize
     ensures { result ≡ min count (second - start) }
 {
-    if second <= start {
-        return 0;
-    }
-    let gone = second - start;
-    if gone < count { gone } else { count }
+    second.saturating_sub(start).min(count)
 }

@@ -15,14 +15,14 @@ pub struct Sides {
 pub fn above(x: i32) -> u64
     ensures { SmallPart (energy.above x) result }
 {
-    if 0 < x { x as u64 } else { 0 }
+    x.max(0) as u64
 }
 
 // max(-x, 0)
 pub fn below(x: i32) -> u64
     ensures { SmallPart (energy.below x) result }
 {
-    if x < 0 { (0 - x as i64) as u64 } else { 0 }
+    x.min(0).unsigned_abs() as u64
 }
 
 // Of the numbers of a curve, or of several.
@@ -32,12 +32,9 @@ pub fn sides_of(p: &[i32]) -> Sides
 {
     let mut drawn: u64 = 0;
     let mut lost: u64 = 0;
-    let mut i: usize = 0;
-    while i < p.len() {
-        let x = p[i];
+    for &x in p {
         drawn += above(x);
         lost += below(x);
-        i += 1;
     }
     Sides {
         above: drawn,

@@ -6,6 +6,8 @@ use mathlib.Core.List.{List}
 use native.Mathlib.Omega.{arith}
 use lib.Dec.{leb}
 use lib.ListN.{length}
+use Rattle.std.specs.Prelude.{Some, is_some}
+use Rattle.tables_lent.specs.declared.Counts.{Counts}
 use lib.IntN.{ℤ}
 use Rattle.rules.specs.Answers.{is_refusal, is_accepted, Reading, refused, good}
 use Rattle.rules.specs.Reading.{Texts}
@@ -72,50 +74,55 @@ module _ {S : Stated} {x : Texts} {s : List ℕ} {t : Tables} {c : List ℕ} {j 
     tallied : j.tally ≡ (verdict_of found.0.files found.0.choices).tally
     tallied = read.tallies ∙ checked-tally S x s t c found.0 found.1
 
-    -- accepted: the tables are what the energies are worked out of
-    pub accepted_left : Left S.horizon j.counts c' t'.legs t'.profiles t'.samples t'.tracks
-    accepted_left =
-        let w = found.0 in
-        let kept = read.writes w found.1 in
-        record {
-          stated = S;
-          at = refl;
-          texts = x;
-          solution = s;
-          lent = t;
-          lent_choices = c;
-          whole = w;
-          read = found.1;
-          fair = found.2;
-          counted = kept.2;
-          choices_are = kept.1;
-          legs_are_lem = ap (λ (q : Tables). q.legs) kept.0;
-          profiles_are = ap (λ (q : Tables). q.profiles) kept.0;
-          samples_are = ap (λ (q : Tables). q.samples) kept.0;
-          tracks_are = ap (λ (q : Tables). q.tracks) kept.0;
-        }
+    -- accepted: there are counts
+    pub counts_there : is_some j.counts ≡ true
+    counts_there = rw (read.writes found.0 found.1).2
 
-    -- and so is the report
-    pub reported-tested : {p p' : List ℤ} {r : Report} → Tests S.horizon j.tally j.counts c' t'.legs t'.profiles t'.samples t'.tracks p r p' → ReportRead S x s t c p r t' c' p'
-    unfolding found accepted_left
-    reported-tested {p} {p'} {r} tests =
-        let w = found.0 in
-        let fits = leb (w.files.document.opened * S.horizon) (length p) in
-        let same : reported S x s t c p ≡ report_accepted fits S.horizon j.tally w t c p =
-        report-fits S x s t c p w found.1 found.2 fits refl ∙ ap (λ (n : Tally). report_accepted fits S.horizon n w t c p) (sym tallied) in
-        let k : Tested fits S.horizon j.tally w t c p r p' = tests accepted_left in
-        record {
-          answers = k.answer ∙ sym (ap (λ (q : Reported). q.answer) same);
-          tallies = k.tally ∙ sym (ap (λ (q : Reported). q.tally) same);
-          figures_are = k.figures ∙ sym (ap (λ (q : Reported). q.figures) same);
-          desk_is = k.desk ∙ sym (ap (λ (q : Reported). q.desk) same);
-          writes = λ z. kept fits same (ap is_refusal (sym k.answer) ∙ z);
-          lays = λ z. k.curves z ∙ sym (ap (λ (q : Reported). q.curves) same);
-        }
-      where
-        kept : (fits : Bool) → reported S x s t c p ≡ report_accepted fits S.horizon j.tally found.0 t c p → is_refusal (report_accepted fits S.horizon j.tally found.0 t c p).answer ≡ false
-            → (t' ≡ (reported S x s t c p).tables) × (c' ≡ (reported S x s t c p).choices)
-        kept true e z =
-            let left = read.writes found.0 found.1 in
-            (left.0 ∙ sym (ap (λ (q : Reported). q.tables) e), left.1 ∙ sym (ap (λ (q : Reported). q.choices) e))
-        kept false e z = let q : ◌≡◌ {A = ℕ} 0 1 = cc in absurd (omega arith)
+    module _ {counts : Counts} (there : j.counts ≡ Some counts) where
+      -- and the tables are what the energies are worked out of
+      pub accepted_left : Left S.horizon counts c' t'.legs t'.profiles t'.samples t'.tracks
+      accepted_left =
+          let w = found.0 in
+          let kept = read.writes w found.1 in
+          record {
+            stated = S;
+            at = refl;
+            texts = x;
+            solution = s;
+            lent = t;
+            lent_choices = c;
+            whole = w;
+            read = found.1;
+            fair = found.2;
+            counted = cc (sym there ∙ kept.2);
+            choices_are = kept.1;
+            legs_are_lem = ap (λ (q : Tables). q.legs) kept.0;
+            profiles_are = ap (λ (q : Tables). q.profiles) kept.0;
+            samples_are = ap (λ (q : Tables). q.samples) kept.0;
+            tracks_are = ap (λ (q : Tables). q.tracks) kept.0;
+          }
+
+      -- and so is the report
+      pub reported-tested : {p p' : List ℤ} {r : Report} → Tests S.horizon j.tally counts c' t'.legs t'.profiles t'.samples t'.tracks p r p' → ReportRead S x s t c p r t' c' p'
+      unfolding found accepted_left
+      reported-tested {p} {p'} {r} tests =
+          let w = found.0 in
+          let fits = leb (w.files.document.opened * S.horizon) (length p) in
+          let same : reported S x s t c p ≡ report_accepted fits S.horizon j.tally w t c p =
+          report-fits S x s t c p w found.1 found.2 fits refl ∙ ap (λ (n : Tally). report_accepted fits S.horizon n w t c p) (sym tallied) in
+          let k : Tested fits S.horizon j.tally w t c p r p' = tests accepted_left in
+          record {
+            answers = k.answer ∙ sym (ap (λ (q : Reported). q.answer) same);
+            tallies = k.tally ∙ sym (ap (λ (q : Reported). q.tally) same);
+            figures_are = k.figures ∙ sym (ap (λ (q : Reported). q.figures) same);
+            desk_is = k.desk ∙ sym (ap (λ (q : Reported). q.desk) same);
+            writes = λ z. kept fits same (ap is_refusal (sym k.answer) ∙ z);
+            lays = λ z. k.curves z ∙ sym (ap (λ (q : Reported). q.curves) same);
+          }
+        where
+          kept : (fits : Bool) → reported S x s t c p ≡ report_accepted fits S.horizon j.tally found.0 t c p → is_refusal (report_accepted fits S.horizon j.tally found.0 t c p).answer ≡ false
+              → (t' ≡ (reported S x s t c p).tables) × (c' ≡ (reported S x s t c p).choices)
+          kept true e z =
+              let left = read.writes found.0 found.1 in
+              (left.0 ∙ sym (ap (λ (q : Reported). q.tables) e), left.1 ∙ sym (ap (λ (q : Reported). q.choices) e))
+          kept false e z = let q : ◌≡◌ {A = ℕ} 0 1 = cc in absurd (omega arith)

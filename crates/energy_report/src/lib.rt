@@ -73,8 +73,8 @@ pub fn read_and_report(
     );
     let answer = judged.answer;
     let tally = judged.tally;
-    let counts = judged.counts;
     if acceptance::is_accepted(answer) {
+        let counts = judged.counts.unwrap();
         return working::report_accepted(
             stated.horizon,
             tally,

@@ -8,5 +8,5 @@ ghost use Rattle.rules.specs.Energy as energy;
 pub fn above(x: i64) -> u64
     ensures { result ≡ energy.above x }
 {
-    if 0 < x { x as u64 } else { 0 }
+    x.max(0) as u64
 }

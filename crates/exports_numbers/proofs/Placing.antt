@@ -1,39 +1,14 @@
--- Values that are put in place of numbers one by one: what holds at the loop's head, its start, its step and its end; and what is told, from the two that are put. Assumes nothing.
-use Prim.Native.Nat.{ℕ, ◌+◌, ◌≤◌, ◌<◌, zero-le}
-use native.Mathlib.Omega.{arith}
+-- What is told, from the two lists of values that are put in place of numbers. Assumes nothing.
+use Prim.Native.Nat.{ℕ, ◌+◌, ◌≤◌}
 use native.Mathlib.Nat.{zero-add}
-use native.Mathlib.Numerals.{add-one, add-one-le}
 use mathlib.Core.Path.{◌≡◌, sym, ap, ◌∙◌}
 use mathlib.Core.List.{List, ◌++◌, append_assoc}
-use lib.ListN.{length, drop, get_or, set, replicate}
-use lib.Seq.{take-length, take_at, drop-append-le, drop-append-add, paste, paste-zero, paste-suc}
+use lib.ListN.{length, drop, replicate}
+use lib.Seq.{take-length, take_at, drop-append-le, drop-append-add, paste}
 use Rattle.rules.specs.Lists.{over}
 use Rattle.rules.proofs.Lists.{over-length}
 use Rattle.rules.specs.declared.answers.Tally.{Tally}
 use Rattle.exports_numbers.specs.Numbers.{lent_values, lent_tests, lent_numbers, padded, tally_numbers, told}
-
--- the first i values stand from the place on
-pub record Placed (numbers : List ℕ) (place : ℕ) (values all : List ℕ) (i : ℕ) : Type 0 where
-  pub fit : place + length values ≤ length numbers
-  pub within : i ≤ length values
-  pub is : all ≡ paste numbers place values i
-
-module _ {numbers : List ℕ} {place : ℕ} {values : List ℕ} where
-  pub placed-none : place + length values ≤ length numbers → Placed numbers place values numbers 0
-  placed-none h = record { fit = h; within = zero-le; is = paste-zero numbers place values }
-
-  pub placed-more : {all : List ℕ} {i : ℕ} → Placed numbers place values all i → i < length values
-      → Placed numbers place values (set all (place + i) (get_or values i 0)) (i + 1)
-  placed-more {all} {i} p h =
-      let x = get_or values i 0 in
-      record {
-        fit = p.fit;
-        within = add-one-le h;
-        is = ap (λ (l : List ℕ). set l (place + i) x) p.is ∙ rw (add-one i) (paste-suc numbers place values i 0 (omega (arith, p.fit)) h);
-      }
-
-  pub placed_all : {all : List ℕ} {i : ℕ} → Placed numbers place values all i → length values ≤ i → all ≡ paste numbers place values (length values)
-  placed_all {all} {i} p h = let end : i ≡ length values = omega (arith, p.within) in rw end at p.is
 
 -- ---- the values in front of 0s, and then the tests behind them
 

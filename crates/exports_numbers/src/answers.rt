@@ -43,28 +43,27 @@ pub fn of_answer(answer: Answer, tally: Tally, accepted: &[u64]) -> Numbers
     requires { length accepted.now ≤ lent_values }
     ensures { result ≡ answer_numbers accepted.now tally answer }
 {
-    let none = Tally::none();
     match answer {
         Answer::Accepted => crate::told(accepted, tally),
         Answer::Violated(v) => of_violation(v, tally),
-        Answer::Refused(f) => of_refusal(f, none),
+        Answer::Refused(f) => of_refusal(f, Tally::none()),
     }
 }
 
 pub fn of_check(checked: Checked) -> Numbers
     ensures { result ≡ check_numbers checked }
 {
-    let answer = checked.answer;
-    let tally = checked.tally;
-    of_answer(answer, tally, &[Code::ACCEPTED])
+    of_answer(checked.answer, checked.tally, &[Code::ACCEPTED])
 }
 
 pub fn of_merge(merged: Merged) -> Numbers
     ensures { result ≡ merge_numbers merged }
 {
-    let answer = merged.answer;
-    let tally = merged.tally;
-    of_answer(answer, tally, &[Code::ACCEPTED, merged.length as u64])
+    of_answer(
+        merged.answer,
+        merged.tally,
+        &[Code::ACCEPTED, merged.length as u64],
+    )
 }
 
 pub fn of_row(start: usize, length: usize) -> Numbers

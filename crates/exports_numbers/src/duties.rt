@@ -37,6 +37,5 @@ fn of_told(answer: Told) -> Numbers
 pub fn of_duties(duties: Duties) -> Numbers
     ensures { result ≡ duties_numbers duties }
 {
-    let answer = duties.answer;
-    of_told(answer)
+    of_told(duties.answer)
 }

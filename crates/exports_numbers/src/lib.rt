@@ -53,11 +53,7 @@ fn placed(numbers: Numbers, place: usize, values: &[u64]) -> Numbers
     ensures { result ≡ paste numbers place values.now (length values.now) }
 {
     let mut all = numbers;
-    let mut i = 0;
-    while i < values.len() {
-        all[place + i] = values[i];
-        i += 1;
-    }
+    all[place..place + values.len()].copy_from_slice(values);
     all
 }
 

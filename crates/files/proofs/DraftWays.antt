@@ -4,6 +4,7 @@ use mathlib.Core.Path.{◌≡◌, refl, sym, ap, ◌∙◌}
 use mathlib.Core.List.{List}
 use native.Mathlib.Omega.{arith}
 use lib.ListN.{length}
+use Rattle.std.specs.Prelude.{Result, Ok, Err}
 use Rattle.rules.specs.Limits.{leg_width, configuration_width}
 use Rattle.rules.specs.Answers.{timetable_file, refusal, Reading, refused, good}
 use Rattle.rules.specs.Timetable.{Row, listed, timetable_of}
@@ -13,8 +14,9 @@ use Rattle.rules.specs.declared.stated.Known.{Known}
 use Rattle.rules.specs.declared.stated.Known.TheVariants as Stating
 use Rattle.rules.specs.declared.answers.Refusal.{Refusal}
 use Rattle.rules_theorems.proofs.FileRefusals.{Refuses, refuses, timetable-refuses}
+use Rattle.timetable_row.specs.declared.fault.Fault.{Fault}
+use Rattle.timetable_row.specs.Faults.{fault_at}
 use Rattle.timetable.specs.declared.reader.Rows.{Rows}
-use Rattle.timetable.specs.declared.reader.Rows.TheVariants.{Fault, Read}
 use Rattle.timetable.specs.Held.{tables}
 use Rattle.timetable.specs.Promise.{answer_of, ReadAs, Tabled}
 use Rattle.tables_lent.specs.declared.Filed.TheVariants.{Whole, Refused}
@@ -34,8 +36,10 @@ is_known_lem (good s) e = (s, refl)
 
 -- ---- the timetable's refusals lie in the timetable
 
-own_file : (o : Reading (List Row)) → Refuses (λ r. r.file ≡ timetable_file) o → (number place : ℕ) → Fault number place ≡ answer_of o → o ≡ refused (refusal number timetable_file place)
-own_file (refused r) (refuses f) number place e = same-refusal r (cc) f (cc)
+own_file : (o : Reading (List Row)) → Refuses (λ r. r.file ≡ timetable_file) o → (number place : ℕ) → Err (fault_at number place) ≡ answer_of o → o ≡ refused (refusal number timetable_file place)
+own_file (refused r) (refuses f) number place e =
+    let same : fault_at number place ≡ fault_at r.number r.place = cc in
+    same-refusal r (ap (λ (x : Fault). x.number) same) f (ap (λ (x : Fault). x.place) same)
 own_file (good rows) q number place e = let z : ◌≡◌ {A = ℕ} 0 1 = cc in absurd (omega arith)
 
 -- ---- the ways out
@@ -45,7 +49,7 @@ module _ (S : Stated) (text legs configurations legs' configurations' : List ℕ
   unfolding draft_of
   draft-unknown {r} e = part_refused r (rw (not_known (known S) r (sym e ∙ m)))
 
-  module _ (all : test ≡ Stating.Whole) {answer : Rows} (read : ReadAs S.horizon text (tables legs configurations) answer (tables legs' configurations')) where
+  module _ (all : test ≡ Stating.Whole) {answer : Result Rows Fault} (read : ReadAs S.horizon text (tables legs configurations) answer (tables legs' configurations')) where
     abbrev outcome : Reading (List Row)
     outcome = timetable_of S.horizon (length legs / leg_width) (length configurations / configuration_width) text
 
@@ -53,22 +57,22 @@ module _ (S : Stated) (text legs configurations legs' configurations' : List ℕ
     unfolding draft_of
     draft_is = rw (is_known_lem (known S) (sym all ∙ m)).1
 
-    pub draft_fault : {number place : ℕ} {r : Refusal} → answer ≡ Fault number place → r ≡ refusal number timetable_file place
+    pub draft_fault : {fault : Fault} {r : Refusal} → answer ≡ Err fault → r ≡ refusal fault.number timetable_file fault.place
         → DraftRead S text legs configurations (Refused r) legs' configurations'
-    draft_fault {number} {place} {r} a e =
+    draft_fault {fault} {r} a e =
         part_refused r
         (draft_is
-        ∙ own_file outcome (timetable-refuses S.horizon _ _ text (record { at_start = λ n h. refl; at_place = λ n p h. refl })) number place (sym a ∙ read.answers)
+        ∙ own_file outcome (timetable-refuses S.horizon _ _ text (record { at_start = λ n h. refl; at_place = λ n p h. refl })) fault.number fault.place (sym a ∙ read.answers)
         ∙ ap refused (sym e))
 
-    pub draft_right : {n k : ℕ} → answer ≡ Read n k
-        → DraftRead S text legs configurations (Whole (record { legs = n; configurations = k; profiles = 0; samples = 0; constraints = 0; tracks = 0; subnets = 0 })) legs' configurations'
-    draft_right {n} {k} a = go outcome refl (sym a ∙ read.answers) read.fills
+    pub draft_right : {x : Rows} → answer ≡ Ok x
+        → DraftRead S text legs configurations (Whole (record { legs = x.rows; configurations = x.configurations; profiles = 0; samples = 0; constraints = 0; tracks = 0; subnets = 0 })) legs' configurations'
+    draft_right {x} a = go outcome refl (sym a ∙ read.answers) read.fills
       where
-        go : (o : Reading (List Row)) → outcome ≡ o → Read n k ≡ answer_of o → Tabled (tables legs configurations) o (tables legs' configurations')
-            → DraftRead S text legs configurations (Whole (record { legs = n; configurations = k; profiles = 0; samples = 0; constraints = 0; tracks = 0; subnets = 0 })) legs' configurations'
+        go : (o : Reading (List Row)) → outcome ≡ o → Ok x ≡ answer_of o → Tabled (tables legs configurations) o (tables legs' configurations')
+            → DraftRead S text legs configurations (Whole (record { legs = x.rows; configurations = x.configurations; profiles = 0; samples = 0; constraints = 0; tracks = 0; subnets = 0 })) legs' configurations'
         go (refused r) q e f = let z : ◌≡◌ {A = ℕ} 0 1 = cc in absurd (omega arith)
         go (good rows) q e f =
-            let many : n ≡ length rows = cc in
-            let listed : k ≡ listed rows = cc in
+            let many : x.rows ≡ length rows = cc in
+            let listed : x.configurations ≡ listed rows = cc in
             part_good rows (draft_is ∙ q) (cc) (f.legs_filled, f.configurations_filled)

@@ -1,10 +1,12 @@
 -- Each way out of reading the profiles, 12 and 13. Assumes nothing.
+use Rattle.std.specs.Prelude.{Result, Ok, Err}
 use Prim.Native.Nat.{ℕ, ◌/◌}
 use mathlib.Core.Path.{◌≡◌, refl, sym, ap, ◌∙◌}
 use mathlib.Core.List.{List}
 use mathlib.Core.Option.{Option, none, some}
 use native.Mathlib.Omega.{arith}
 use lib.ListN.{length}
+use Rattle.std.specs.Prelude.{Option as StdOption, Some, None}
 use lib.IntN.{ℤ}
 use Rattle.rules.specs.Limits.{profile_width}
 use Rattle.rules.specs.Lists.{over}
@@ -16,9 +18,7 @@ use Rattle.rules.specs.declared.answers.Refusal.{Refusal}
 use Rattle.tables_ids.specs.Column.{Records}
 use Rattle.tables_ids.proofs.Curves.{profiles-length}
 use Rattle.profiles.specs.declared.reader.Rows.{Rows}
-use Rattle.profiles.specs.declared.reader.Rows.TheVariants.{Refused as NotRead, Read}
 use Rattle.files_tests.specs.declared.lists.Fault.{Fault}
-use Rattle.files_tests.specs.declared.lists.Fault.TheVariants.{Row as AtRow, Nothing}
 use Rattle.profiles.specs.Reads.{rows_of, Reads}
 use Rattle.profiles_row.specs.Row.{profile_table}
 use Rattle.files_tests.specs.Counts.{Tables, Tabled, fault_of, FirstFault}
@@ -29,32 +29,35 @@ use Rattle.tables_lent.specs.declared.Filed.TheVariants.{Whole, Refused}
 use Rattle.files.specs.Parts.{powers_of, Draft, Lists, Listed, PowersRead}
 use Rattle.files.proofs.Parted.{WasRead, was_read, part_refused, part_good}
 
-not-read : (o : Reading (List Curve)) (r : Refusal) → NotRead r ≡ rows_of o → o ≡ refused r
+not-read : (o : Reading (List Curve)) (r : Refusal) → Err r ≡ rows_of o → o ≡ refused r
 not-read (refused s) r e = cc
 not-read (good curves) r e = let z : ◌≡◌ {A = ℕ} 0 1 = cc in absurd (omega arith)
 
-no_fault : (o : Option RowFault) → Nothing ≡ fault_of o → o ≡ none
+no_fault : (o : Option RowFault) → None ≡ fault_of o → o ≡ none
 no_fault none e = refl
-no_fault (some f) e = let z : ◌≡◌ {A = ℕ} 0 1 = cc in absurd (omega arith)
+no_fault (some f) e = (cc)
 
-a_fault : (o : Option RowFault) (row number : ℕ) → AtRow row number ≡ fault_of o → o ≡ some (record { row = row; number = number })
-a_fault none row number e = let z : ◌≡◌ {A = ℕ} 0 1 = cc in absurd (omega arith)
-a_fault (some f) row number e =
-    let parts : f ≡ record { row = f.row; number = f.number } = refl in
-    cc
+a_fault : (o : Option RowFault) (fault : Fault) → Some fault ≡ fault_of o → o ≡ some (record { row = fault.row; number = fault.number })
+a_fault none fault e = (cc)
+a_fault (some f) fault e =
+    let same : record { row = f.row; number = f.number } ≡ fault = cc in
+    ap (λ (x : Fault). some (record { row = x.row; number = x.number })) same
 
 module _ (counts : Counts) (timetable text legs configurations profiles : List ℕ) (samples : List ℤ) (profiles' : List ℕ) (samples' : List ℤ)
-    {answer : Rows} (read : Reads text profiles samples answer profiles' samples') where
+    {answer : Result Rows Refusal} (read : Reads text profiles samples answer profiles' samples') where
   abbrev outcome : Reading (List Curve)
   outcome = profiles_of (length profiles / profile_width) (length samples) text
 
-  pub powers_refused : {r : Refusal} → answer ≡ NotRead r → PowersRead counts timetable text legs configurations profiles samples (Refused r) profiles' samples'
+  pub powers_refused : {r : Refusal} → answer ≡ Err r → PowersRead counts timetable text legs configurations profiles samples (Refused r) profiles' samples'
   unfolding powers_of
   powers_refused {r} a rows draft lists = part_refused r (rw (not-read outcome r (sym a ∙ read.answer)))
 
-  module _ {m k : ℕ} (a : answer ≡ Read m k) where
-    got : WasRead rows_of (Read m k) outcome
-    got = was_read rows_of (Read m k) (λ r e. let z : ◌≡◌ {A = ℕ} 0 1 = cc in omega arith) outcome (sym a ∙ read.answer)
+  module _ {rows : Rows} (a : answer ≡ Ok rows) where
+    got : WasRead rows_of (Ok rows) outcome
+    got = was_read rows_of (Ok rows) (λ r e. let z : ◌≡◌ {A = ℕ} 0 1 = cc in omega arith) outcome (sym a ∙ read.answer)
+
+    abbrev m : ℕ
+    m = rows.profiles
 
     profiles_many : m ≡ length got.what
     profiles_many = cc got.told
@@ -80,19 +83,19 @@ module _ (counts : Counts) (timetable text legs configurations profiles : List �
           (profiles_many ∙ sym (profiles-length 0 got.what)) table,
     )
 
-    module _ {fault : Fault} (f : FirstFault legs counts.legs configurations profiles' m fault) where
-      found : (rows : List Row) → Draft timetable legs counts.legs rows → Lists configurations rows → fault ≡ fault_of (first_fault 0 (profile_fault got.what) rows)
+    module _ {found_fault : StdOption Fault} (f : FirstFault legs counts.legs configurations profiles' m found_fault) where
+      found : (rows : List Row) → Draft timetable legs counts.legs rows → Lists configurations rows → found_fault ≡ fault_of (first_fault 0 (profile_fault got.what) rows)
       found rows draft lists = f rows got.what (tabled rows draft lists)
 
-      pub powers_row : {row number : ℕ} {r : Refusal} → fault ≡ AtRow row number → r ≡ refusal number timetable_file (place_of_row timetable row)
+      pub powers_row : {fault : Fault} {r : Refusal} → found_fault ≡ Some fault → r ≡ refusal fault.number timetable_file (place_of_row timetable fault.row)
           → PowersRead counts timetable text legs configurations profiles samples (Refused r) profiles' samples'
       unfolding powers_of
-      powers_row {row} {number} {r} q e rows draft lists =
-          part_refused r (rw (got.was, a_fault (first_fault 0 (profile_fault got.what) rows) row number (sym q ∙ found rows draft lists)) (ap refused (sym e)))
+      powers_row {fault} {r} q e rows draft lists =
+          part_refused r (rw (got.was, a_fault (first_fault 0 (profile_fault got.what) rows) fault (sym q ∙ found rows draft lists)) (ap refused (sym e)))
 
-      pub powers_whole : fault ≡ Nothing
+      pub powers_whole : found_fault ≡ None
           → PowersRead counts timetable text legs configurations profiles samples
-          (Whole (record { legs = counts.legs; configurations = counts.configurations; profiles = m; samples = k; constraints = 0; tracks = 0; subnets = 0 })) profiles' samples'
+          (Whole (record { legs = counts.legs; configurations = counts.configurations; profiles = m; samples = rows.samples; constraints = 0; tracks = 0; subnets = 0 })) profiles' samples'
       unfolding powers_of
       powers_whole q rows draft lists =
           part_good got.what (rw (got.was, no_fault (first_fault 0 (profile_fault got.what) rows) (sym q ∙ found rows draft lists)))

@@ -19,8 +19,10 @@ use Rattle.rules_theorems.proofs.FileRefusals.{Refuses, refuses, constraints_ref
 use Rattle.tables_ids.specs.declared.Found.{Found}
 use Rattle.tables_ids.specs.declared.Found.TheVariants.{At, Nothing}
 use Rattle.tables_ids.specs.Column.{Records, Apart, column}
-use Rattle.constraints.specs.declared.Read.{Read}
-use Rattle.constraints.specs.declared.Read.TheVariants.{Whole as WholeText, Refused as NotRead}
+use Rattle.std.proofs.Common.{Result, Ok, Err}
+use Rattle.constraints_states.specs.declared.Counts.{Counts as ReadCounts}
+use Rattle.constraints_states.specs.declared.Fault.{Fault}
+use Rattle.constraints_states.specs.Steps.{counts_of}
 use Rattle.constraints.specs.Tables.{read_of, reading, Reads}
 use Rattle.files_tests.specs.Subnets.{fault_at, Fifteen}
 use Rattle.constraints.proofs.Filling.{tracks_held}
@@ -33,16 +35,16 @@ use Rattle.files.specs.Parts.{rules_of, Draft, Drafted, RulesRead}
 use Rattle.files.proofs.Parted.{WasRead, was_read, part_refused, part_good}
 
 -- the constraints' refusals lie in the constraints
-own_file : (o : Reading Document) → Refuses (λ r. r.file ≡ constraints_file) o → (number place : ℕ) → NotRead number place ≡ read_of o → o ≡ refused (refusal number constraints_file place)
-own_file (refused r) (refuses f) number place e = same-refusal r (cc) f (cc)
-own_file (good d) q number place e = let z : ◌≡◌ {A = ℕ} 0 1 = cc in absurd (omega arith)
+own_file : (o : Reading Document) → Refuses (λ r. r.file ≡ constraints_file) o → (f : Fault) → Err f ≡ read_of o → o ≡ refused (refusal f.number constraints_file f.place)
+own_file (refused r) (refuses own) f e = let same : f ≡ record { number = r.number; place = r.place } = cc in same-refusal r (ap (λ (x : Fault). x.number) same) own (ap (λ (x : Fault). x.place) same)
+own_file (good d) q f e = let z : ◌≡◌ {A = ℕ} 0 1 = cc in absurd (omega arith)
 
 -- what the constraints are read over
 pub rules_able : {timetable legs : List ℕ} {n : ℕ} → Drafted timetable legs n → Apart leg_width n legs × (n ≤ most_legs)
 rules_able {legs = legs} {n = n} d = (legs-apart legs n d.rows d.draft.many d.draft.legs_hold d.draft.apart, d.draft.few)
 
 module _ (S : Stated) {rules : Rules} (by : rules ≡ rules_by S) (counts : Counts) (timetable text legs constraints tracks constraints' tracks' : List ℕ)
-    {answer : Read} (read : Reads (reading rules text legs counts.legs constraints tracks) constraints tracks answer constraints' tracks') where
+    {answer : Result ReadCounts Fault} (read : Reads (reading rules text legs counts.legs constraints tracks) constraints tracks answer constraints' tracks') where
   abbrev outcome : Reading Document
   outcome = reading rules text legs counts.legs constraints tracks
 
@@ -50,33 +52,49 @@ module _ (S : Stated) {rules : Rules} (by : rules ≡ rules_by S) (counts : Coun
       → constraints_of (leg_ids rows) (length constraints / constraint_width) (length tracks / track_width) (rules_by S) text ≡ outcome
   by_rows rows draft = rw (by, legs-ids legs counts.legs rows draft.many draft.legs_hold)
 
-  pub rules_refused : {number place : ℕ} {r : Refusal} → answer ≡ NotRead number place → r ≡ refusal number constraints_file place
+  pub rules_refused : {f : Fault} {r : Refusal} → answer ≡ Err f → r ≡ refusal f.number constraints_file f.place
       → RulesRead S counts timetable text legs constraints tracks (Refused r) constraints' tracks'
   unfolding rules_of
-  rules_refused {number} {place} {r} a e rows draft =
+  rules_refused {f} {r} a e rows draft =
       part_refused r
       (rw (
         by_rows rows draft,
-        own_file outcome (constraints_refuse _ _ _ (record { at_start = λ n h. refl; at_place = λ n p h. refl }) rules text) number place (sym a ∙ read.answer),
+        own_file outcome (constraints_refuse _ _ _ (record { at_start = λ n h. refl; at_place = λ n p h. refl }) rules text) f (sym a ∙ read.answer),
       )
       (ap refused (sym e)))
 
-  module _ {k m opened : ℕ} (a : answer ≡ WholeText k m opened) where
-    got : WasRead read_of (WholeText k m opened) outcome
-    got = was_read read_of (WholeText k m opened) (λ r e. let z : ◌≡◌ {A = ℕ} 0 1 = cc in omega arith) outcome (sym a ∙ read.answer)
+  module _ {seen : ReadCounts} (a : answer ≡ Ok seen) where
+    got : WasRead read_of (Ok seen) outcome
+    got = was_read read_of (Ok seen) (λ r e. let z : ◌≡◌ {A = ℕ} 0 1 = cc in omega arith) outcome (sym a ∙ read.answer)
 
-    tracks_many : m ≡ length got.what.tracks
-    tracks_many = cc got.told
+    told : seen ≡ counts_of got.what
+    told = cc got.told
+
+    tracks_many : seen.tracks ≡ length got.what.tracks
+    tracks_many = ap (λ (c : ReadCounts). c.tracks) told
 
     track_table : tracks' ≡ over (flat track_numbers got.what.tracks) tracks
     track_table = (read.tables got.what got.was).by_file
 
+    -- the counts of all that is held then
+    abbrev counted : ReadCounts → Counts
+    counted x =
+        record {
+          legs = counts.legs;
+          configurations = counts.configurations;
+          profiles = counts.profiles;
+          samples = counts.samples;
+          constraints = x.constraints;
+          tracks = x.tracks;
+          subnets = x.subnets;
+        }
+
     -- what 15 is tested over
-    pub fifteen_able : Drafted timetable legs counts.legs → Records leg_width counts.legs legs × Records track_width m tracks'
+    pub fifteen_able : Drafted timetable legs counts.legs → Records leg_width counts.legs legs × Records track_width seen.tracks tracks'
     fifteen_able d =
         ((rules_able d).0.records, front_records track_numbers track_width (omega arith) (λ t. refl) got.what.tracks tracks tracks_many track_table)
 
-    module _ (found : Found) (f : Fifteen legs counts.legs tracks' m found) where
+    module _ (found : Found) (f : Fifteen legs counts.legs tracks' seen.tracks found) where
       fault : (rows : List Row) → Draft timetable legs counts.legs rows → fault_at found ≡ first_fault 0 (subnet_fault got.what.tracks) rows
       fault rows draft =
           f rows got.what.tracks
@@ -93,18 +111,9 @@ module _ (S : Stated) {rules : Rules} (by : rules ≡ rules_by S) (counts : Coun
 
       pub rules_whole : found ≡ Nothing
           → RulesRead S counts timetable text legs constraints tracks
-          (Whole
-          (record {
-            legs = counts.legs;
-            configurations = counts.configurations;
-            profiles = counts.profiles;
-            samples = counts.samples;
-            constraints = k;
-            tracks = m;
-            subnets = opened;
-          }))
+          (Whole (counted seen))
           constraints' tracks'
       unfolding rules_of
       rules_whole q rows draft =
           part_good got.what (rw (by_rows rows draft, got.was, ← fault rows draft, q))
-          (cc got.told) ((read.tables got.what got.was).by_kind, track_table)
+          (ap counted told) ((read.tables got.what got.was).by_kind, track_table)

@@ -1,7 +1,6 @@
 // The reading in three parts. Each answers the counts so far, or the refusal that ends everything.
 ghost use Rattle.files.specs.Parts.{DraftRead, Listed, PowersRead, Drafted, RulesRead};
 
-use constraints::Read;
 use csv_lines::places;
 use files_tests::lists::Fault;
 use files_tests::{lists, subnets};
@@ -28,12 +27,12 @@ pub fn read_draft(
             legs,
             configurations,
         ) {
-            timetable::reader::Rows::Fault(number, place) => {
-                Filed::Refused(Refusal::new(number, File::TIMETABLE, place))
+            Err(fault) => {
+                Filed::Refused(Refusal::new(fault.number, File::TIMETABLE, fault.place))
             }
-            timetable::reader::Rows::Read(rows, listed) => Filed::Whole(Counts {
-                legs: rows as usize,
-                configurations: listed as usize,
+            Ok(read) => Filed::Whole(Counts {
+                legs: read.rows as usize,
+                configurations: read.configurations as usize,
                 profiles: 0,
                 samples: 0,
                 constraints: 0,
@@ -58,19 +57,19 @@ pub fn read_powers(
     ensures { PowersRead counts timetable.now text.now legs.now configurations.now profiles.old samples.old result profiles.new samples.new }
 {
     match profiles::reader::read_profiles(text, profiles, samples) {
-        profiles::reader::Rows::Refused(refusal) => Filed::Refused(refusal),
-        profiles::reader::Rows::Read(curves, sampled) => {
+        Err(refusal) => Filed::Refused(refusal),
+        Ok(read) => {
             let n = counts.legs;
-            let m = curves as usize;
+            let m = read.profiles as usize;
             match lists::profile_fault(legs, n, configurations, profiles, m) {
-                Fault::Row(row, number) => {
+                Some(Fault { row, number }) => {
                     Filed::Refused(places::row_refusal(number, File::TIMETABLE, timetable, row))
                 }
-                Fault::Nothing => Filed::Whole(Counts {
+                None => Filed::Whole(Counts {
                     legs: n,
                     configurations: counts.configurations,
                     profiles: m,
-                    samples: sampled as usize,
+                    samples: read.samples as usize,
                     constraints: 0,
                     tracks: 0,
                     subnets: 0,
@@ -96,27 +95,23 @@ pub fn read_rules(
     let n = counts.legs;
     let rules = stated.rules();
     match constraints::read_constraints(rules, text, legs, n, constraints, tracks) {
-        Read::Refused(number, place) => {
-            Filed::Refused(Refusal::new(number, File::CONSTRAINTS, place))
-        }
-        Read::Whole(records, listed, opened) => {
-            match subnets::subnet_fault(legs, n, tracks, listed) {
-                Found::At(row) => Filed::Refused(places::row_refusal(
-                    Refusal::NO_SUBNET,
-                    File::TIMETABLE,
-                    timetable,
-                    row,
-                )),
-                Found::Nothing => Filed::Whole(Counts {
-                    legs: n,
-                    configurations: counts.configurations,
-                    profiles: counts.profiles,
-                    samples: counts.samples,
-                    constraints: records,
-                    tracks: listed,
-                    subnets: opened,
-                }),
-            }
-        }
+        Err(fault) => { Filed::Refused(Refusal::new(fault.number, File::CONSTRAINTS, fault.place)) }
+        Ok(read) => match subnets::subnet_fault(legs, n, tracks, read.tracks) {
+            Found::At(row) => Filed::Refused(places::row_refusal(
+                Refusal::NO_SUBNET,
+                File::TIMETABLE,
+                timetable,
+                row,
+            )),
+            Found::Nothing => Filed::Whole(Counts {
+                legs: n,
+                configurations: counts.configurations,
+                profiles: counts.profiles,
+                samples: counts.samples,
+                constraints: read.constraints,
+                tracks: read.tracks,
+                subnets: read.subnets,
+            }),
+        },
     }
 }

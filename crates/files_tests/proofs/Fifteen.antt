@@ -68,12 +68,11 @@ in_legs r h = omega (arith, r.whole)
 
 -- every track before row i is listed: what is left has the fault that all has
 pub record Listed (legs : List ℕ) (n : ℕ) (tracks : List ℕ) (m i : ℕ) : Type 0 where
-  pub inside : i ≤ n
   pub left : unlisted_from legs n tracks m i ≡ unlisted_from legs n tracks m 0
 
 module _ {legs : List ℕ} {n : ℕ} {tracks : List ℕ} {m : ℕ} where
   pub listed-none : Listed legs n tracks m 0
-  listed-none = record { inside = omega arith; left = refl }
+  listed-none = record { left = refl }
 
   -- the walk's answer is that of the definition
   fifteen : (r : Found) → r ≡ found_of (unlisted_from legs n tracks m 0) → Fifteen legs n tracks m r
@@ -85,12 +84,16 @@ module _ {legs : List ℕ} {n : ℕ} {tracks : List ℕ} {m : ℕ} where
     found_by_lem : f ≡ place_of (leg_at legs i).track (column track_width m tracks)
     found_by_lem = q ∙ ap (λ (x : ℕ). place_of x (column track_width m tracks)) e
 
-    pub listed_next : {row : ℕ} → f ≡ At row → Listed legs n tracks m (i + 1)
-    listed_next {row} is =
-        let there = some_there (leg_at legs i).track (column track_width m tracks) f found_by_lem row is in
-        let on : unlisted_from legs n tracks m i ≡ unlisted_from legs n tracks m (i + 1) =
-        simp add-one (rw (drop-cons (leg_tracks n legs) i 0 (rw (tracks-length legs n) h), track_at_lem legs n i h, there)) in
-        record { inside = omega arith; left = sym on ∙ l.left }
+    pub listed_next : (f ≡ Nothing → ⊥) → Listed legs n tracks m (i + 1)
+    listed_next is = go f refl
+      where
+        go : (g : Found) → f ≡ g → Listed legs n tracks m (i + 1)
+        go Nothing same = absurd (is same)
+        go (At row) same =
+            let there = some_there (leg_at legs i).track (column track_width m tracks) f found_by_lem row same in
+            let on : unlisted_from legs n tracks m i ≡ unlisted_from legs n tracks m (i + 1) =
+            simp add-one (rw (drop-cons (leg_tracks n legs) i 0 (rw (tracks-length legs n) h), track_at_lem legs n i h, there)) in
+            record { left = sym on ∙ l.left }
 
     pub listed_gone : f ≡ Nothing → Fifteen legs n tracks m (At i)
     listed_gone is =

@@ -6,18 +6,17 @@ use mathlib.Core.List.{List, [], ◌∷◌, map}
 use mathlib.Core.Option.{Option, none, some}
 use native.Mathlib.Omega.{arith}
 use native.Mathlib.Nat.{add-zero, not-suc-le-zero, zero-add}
-use lib.Dec.{eqb, ltb}
+use borrow.Author.Count.{below_more}
+use lib.Dec.{eqb}
 use lib.ListN.{length, get_or, drop, length-append}
-use borrow.Author.Tests.{ltb-true, ltb-false}
+use Rattle.std.specs.Prelude.{Option as StdOption, Some, None}
 use Rattle.rules.specs.Limits.{leg_width, configuration_width, profile_width}
 use Rattle.rules.specs.Lists.{every, is_some, flat, over, place_from}
-use Rattle.rules.specs.Answers.{not_there, wrong_samples}
 use Rattle.rules.specs.Rows.{first_fault}
 use Rattle.rules.specs.Energy.{tabulate}
 use Rattle.rules.specs.Timetable.{Row, legs_from, legs_of, leg_numbers, configurations_of, configuration_numbers}
 use Rattle.rules.specs.Profiles.{Curve, curve_of, lasts, profile_fault, profiles_from, profile_numbers}
 use Rattle.rules.specs.Verdict.{All, offered}
-use Rattle.rules.specs.declared.sizes.Configuration.{Configuration}
 use Rattle.rules.specs.declared.sizes.Leg.{Leg}
 use Rattle.rules.specs.declared.sizes.Profile.{Profile}
 use Rattle.rules.proofs.Truth.{all_map}
@@ -28,8 +27,7 @@ use Rattle.tables_ids.proofs.Curves.{curves-column}
 use Rattle.tables_views.specs.View.{as_profile, leg_at, profile_at, legs_in, list_in, offers_in}
 use Rattle.tables_views.proofs.Views.{profile_layout, record_is}
 use Rattle.tables_views.proofs.Offers.{legs-length, legs_seen, offers-written}
-use Rattle.files_tests.specs.declared.lists.Fault.TheVariants.{Row as AtRow, Nothing as Clear}
-use Rattle.files_tests.specs.Counts.{count_found, count_at, lasts_for, list_fault, number_of, InTables, Tables, Tabled, FirstFault}
+use Rattle.files_tests.specs.Counts.{count_found, count_at, lasts_for, list_fault, std_option, InTables, Tables, Tabled, FirstFault}
 
 -- records at the front are within the table
 pub front_records : {A : Type 0} (f : A → List ℕ) (width : ℕ) → 1 ≤ width → ((x : A) → length (f x) ≡ width) → (xs : List A) (t : List ℕ)
@@ -180,51 +178,37 @@ module _ {legs : List ℕ} {n : ℕ} {configurations profiles : List ℕ} {m : �
 
 -- ---- the loop
 
-none_fault : (count : ℕ → Option ℕ) (list : List Configuration) → number_of (list_fault count list) ≡ 0 → list_fault count list ≡ none
-none_fault count list = go (every (λ c. is_some (count c.profile)) list) (every (λ c. lasts_for c.travel (count c.profile)) list)
-  where
-    go : (s t : Bool) → number_of (cond s (cond t none (some wrong_samples)) (some not_there)) ≡ 0 → cond s (cond t none (some wrong_samples)) (some not_there) ≡ none
-    go true true e = refl
-    go true false e = absurd (omega arith)
-    go false t e = absurd (omega arith)
+option_none : (o : Option ℕ) → None ≡ std_option o → o ≡ none
+option_none none e = refl
+option_none (some k) e = (cc)
 
-some_fault : (count : ℕ → Option ℕ) (list : List Configuration) → (number_of (list_fault count list) ≡ 0 → ⊥) → list_fault count list ≡ some (number_of (list_fault count list))
-some_fault count list = go (list_fault count list)
-  where
-    go : (o : Option ℕ) → (number_of o ≡ 0 → ⊥) → o ≡ some (number_of o)
-    go none e = absurd (e refl)
-    go (some k) e = refl
+option_some : (o : Option ℕ) (n : ℕ) → Some n ≡ std_option o → o ≡ some n
+option_some none n e = (cc)
+option_some (some k) n e = let q : k ≡ n = cc in ap some q
 
 pub row_in : {legs : List ℕ} {n : ℕ} {configurations : List ℕ} {i : ℕ} → Tables legs n configurations → i < n → InTables legs configurations i
 row_in {i = i} t h = t.each_row i h
 
 -- no row before i is at fault
-pub record Passing (legs : List ℕ) (n : ℕ) (configurations profiles : List ℕ) (m i : ℕ) : Type 0 where
-  pub inside : i ≤ n
+pub record Passing (legs configurations profiles : List ℕ) (m i : ℕ) : Type 0 where
   pub clear : (j : ℕ) → j < i → list_fault (count_at profiles m) (list_in legs configurations j) ≡ none
 
-module _ {legs : List ℕ} {n : ℕ} {configurations profiles : List ℕ} {m : ℕ} where
-  pub passing_none : Passing legs n configurations profiles m 0
-  passing_none = record { inside = omega arith; clear = λ j h. absurd (not-suc-le-zero h) }
+module _ {legs configurations profiles : List ℕ} {m : ℕ} where
+  pub passing_none : Passing legs configurations profiles m 0
+  passing_none = record { clear = λ j h. absurd (not-suc-le-zero h) }
 
-  module _ {i : ℕ} (p : Passing legs n configurations profiles m i) where
-    pub passing_next : {r : ℕ} → i < n → r ≡ number_of (list_fault (count_at profiles m) (list_in legs configurations i)) → r ≡ 0 → Passing legs n configurations profiles m (i + 1)
-    passing_next h e z = record { inside = omega arith; clear = λ j k. go j k (ltb j i) refl }
-      where
-        go : (j : ℕ) → j < i + 1 → (t : Bool) → ltb j i ≡ t → list_fault (count_at profiles m) (list_in legs configurations j) ≡ none
-        go j k true x = p.clear j (ltb-true j i x)
-        go j k false x =
-            let same : j ≡ i = omega (arith, ltb-false j i x) in
-            rw same (none_fault (count_at profiles m) (list_in legs configurations i) (sym e ∙ z))
+  module _ {i : ℕ} (p : Passing legs configurations profiles m i) {r : StdOption ℕ} (e : r ≡ std_option (list_fault (count_at profiles m) (list_in legs configurations i))) where
+    pub passing_next : r ≡ None → Passing legs configurations profiles m (i + 1)
+    passing_next q = record { clear = below_more _ _ p.clear (option_none _ (sym q ∙ e)) }
 
-    pub passing_fault : {r : ℕ} → i < n → r ≡ number_of (list_fault (count_at profiles m) (list_in legs configurations i)) → (r ≡ 0 → ⊥) → FirstFault legs n configurations profiles m (AtRow i r)
-    passing_fault h e z rows curves t =
-        let found = some_fault (count_at profiles m) (list_in legs configurations i) (λ q. z (e ∙ q)) in
-        let first = fault_at_lem (list_fault (count_at profiles m)) n (list_in legs configurations) 0 i _ h p.clear found in
-        rw (← tabled_faults t, first, ← e, zero-add i)
+    pub passing_fault : {n k : ℕ} → i < n → r ≡ Some k → FirstFault legs n configurations profiles m (Some (record { row = i; number = k }))
+    passing_fault {n} {k} h q rows curves t =
+        let found = option_some (list_fault (count_at profiles m) (list_in legs configurations i)) k (sym q ∙ e) in
+        let first = fault_at_lem (list_fault (count_at profiles m)) n (list_in legs configurations) 0 i k h p.clear found in
+        rw (← tabled_faults t, first, zero-add i)
 
-    pub passing_end : n ≤ i → FirstFault legs n configurations profiles m Clear
-    passing_end h rows curves t =
-        rw (← tabled_faults t, fault_none (list_fault (count_at profiles m)) n (list_in legs configurations) 0 (λ j k. p.clear j (omega arith)))
+  pub passing_end : {n i : ℕ} → Passing legs configurations profiles m i → n ≤ i → FirstFault legs n configurations profiles m None
+  passing_end {n} p h rows curves t =
+      rw (← tabled_faults t, fault_none (list_fault (count_at profiles m)) n (list_in legs configurations) 0 (λ j k. p.clear j (omega arith)))
 
 pub ruleset holding = (row_in, passing_none, passing_next, passing_fault, passing_end)

@@ -1,5 +1,5 @@
 -- 12 and 13 over the flat tables of legs, configurations and profiles.
-use Rattle.std.specs.Prelude.{ℕ, ◌+◌, ◌*◌, ◌≤◌, ◌<◌, ◌≡◌, Bool, true, false, not, cond, List, [], ◌∷◌, ◌++◌, eqb, length}
+use Rattle.std.specs.Prelude.{ℕ, ◌+◌, ◌*◌, ◌≤◌, ◌<◌, ◌≡◌, Bool, true, false, not, cond, Option as StdOption, Some, None, IfSome, List, [], ◌∷◌, ◌++◌, eqb, length}
 use Rattle.std.proofs.Math.Option.{Option, none, some}
 use Rattle.rules.specs.Limits.{profile_width, configuration_width, leg_width}
 use Rattle.rules.specs.Lists.{every, is_some, flat, over}
@@ -14,13 +14,9 @@ use Rattle.tables_ids.specs.declared.Found.{Found}
 use Rattle.tables_ids.specs.declared.Found.TheVariants.{At, Nothing}
 use Rattle.tables_ids.specs.Column.{column, place_of}
 use Rattle.tables_views.specs.View.{leg_at, profile_at}
+use Rattle.files_tests.specs.declared.lists.Entry.{Entry}
 use Rattle.files_tests.specs.declared.lists.Seen.{Seen}
-use Rattle.files_tests.specs.declared.lists.Sight.{Sight}
-use Rattle.files_tests.specs.declared.lists.Sight.TheVariants.{On, Gone}
 use Rattle.files_tests.specs.declared.lists.Fault.{Fault}
-use Rattle.files_tests.specs.declared.lists.Fault.TheVariants.{Row, Nothing as Clear}
-use Rattle.files_tests.specs.declared.lists.Counted.{Counted}
-use Rattle.files_tests.specs.declared.lists.Counted.TheVariants.{Samples, Missing}
 
 -- how many samples the profile with an id has
 abbrev pub count_found : List ℕ → Found → Option ℕ
@@ -30,9 +26,10 @@ count_found profiles Nothing = none
 abbrev pub count_at : List ℕ → (m id : ℕ) → Option ℕ
 count_at profiles m id = count_found profiles (place_of id (column profile_width m profiles))
 
-abbrev pub counted_of : Option ℕ → Counted
-counted_of none = Missing
-counted_of (some n) = Samples n
+-- the law's option as the code has it
+abbrev pub std_option : Option ℕ → StdOption ℕ
+std_option none = None
+std_option (some n) = Some n
 
 -- a part of the configurations
 abbrev pub list_at : (ℕ → Configuration) → (first count : ℕ) → List Configuration
@@ -47,26 +44,22 @@ abbrev pub list_fault : (ℕ → Option ℕ) → List Configuration → Option �
 list_fault count list =
     cond (every (λ c. is_some (count c.profile)) list) (cond (every (λ c. lasts_for c.travel (count c.profile)) list) none (some wrong_samples)) (some not_there)
 
-abbrev pub number_of : Option ℕ → ℕ
-number_of none = 0
-number_of (some n) = n
-
 -- ---- entry by entry
 
 -- what was seen of a list: no profile is missing, whether one has another length, and the last entry's travel time and profile
 pub record Sighted (count : ℕ → Option ℕ) (list : List Configuration) (seen : Seen) : Type 0 where
   pub there : every (λ c. is_some (count c.profile)) list ≡ true
   pub wrong : seen.wrong ≡ not (every (λ c. lasts_for c.travel (count c.profile)) list)
-  pub last : seen.any ≡ true → (is_some (count seen.profile) ≡ true) × (seen.wrong ≡ false → lasts_for seen.travel (count seen.profile) ≡ true)
+  pub last : IfSome seen.before (λ e. (is_some (count e.profile) ≡ true) × (seen.wrong ≡ false → lasts_for e.travel (count e.profile) ≡ true))
 
 -- an entry more
-abbrev pub SightedBy : (ℕ → Option ℕ) → List Configuration → Configuration → Sight → Type 0
-SightedBy count list c (On seen) = Sighted count (list ++ c ∷ []) seen
-SightedBy count list c Gone = is_some (count c.profile) ≡ false
+abbrev pub SightedBy : (ℕ → Option ℕ) → List Configuration → Configuration → StdOption Seen → Type 0
+SightedBy count list c (Some seen) = Sighted count (list ++ c ∷ []) seen
+SightedBy count list c None = is_some (count c.profile) ≡ false
 
-abbrev pub Sees : (ℕ → Option ℕ) → Seen → (travel profile : ℕ) → Sight → Type 0
-Sees count seen travel profile r =
-    (list : List Configuration) (departure : ℕ) → Sighted count list seen → SightedBy count list (configuration departure travel profile) r
+abbrev pub Sees : (ℕ → Option ℕ) → Seen → Entry → StdOption Seen → Type 0
+Sees count seen e r =
+    (list : List Configuration) (departure : ℕ) → Sighted count list seen → SightedBy count list (configuration departure e.travel e.profile) r
 
 -- ---- row by row
 
@@ -86,10 +79,10 @@ pub record Tabled (legs : List ℕ) (n : ℕ) (configurations profiles : List �
   pub profiles_many : m ≡ length curves
   pub profiles_hold : profiles ≡ over (flat profile_numbers (profiles_from 0 curves)) profiles
 
-abbrev pub fault_of : Option RowFault → Fault
-fault_of none = Clear
-fault_of (some f) = Row f.row f.number
+abbrev pub fault_of : Option RowFault → StdOption Fault
+fault_of none = None
+fault_of (some f) = Some (record { row = f.row; number = f.number })
 
-abbrev pub FirstFault : List ℕ → ℕ → List ℕ → List ℕ → ℕ → Fault → Type 0
+abbrev pub FirstFault : List ℕ → ℕ → List ℕ → List ℕ → ℕ → StdOption Fault → Type 0
 FirstFault legs n configurations profiles m r =
     (rows : List Timetable.Row) (curves : List Curve) → Tabled legs n configurations profiles m rows curves → r ≡ fault_of (first_fault 0 (profile_fault curves) rows)

@@ -3,7 +3,7 @@ ghost use Rattle.std.specs.Prelude.{◌≡◌, ◌+◌, ◌*◌, ◌≤◌, ◌<
 ghost use Rattle.rules.specs.Limits.{profile_width, configuration_width};
 ghost use Rattle.tables_ids.specs.Column.{Records, Rising};
 ghost use Rattle.tables_views.specs.View.{profile_at, configuration_at, list_in};
-ghost use Rattle.files_tests.specs.Counts.{count_at, counted_of, list_at, list_fault, number_of, Sees, InTables, Tables, FirstFault};
+ghost use Rattle.files_tests.specs.Counts.{count_at, std_option, list_at, list_fault, Sees, InTables, Tables, FirstFault};
 
 use rules::answers::Refusal;
 use rules::sizes::{Configuration, Leg, Profile};
@@ -18,76 +18,52 @@ fn count_at(profiles: &[u32], i: usize) -> u32
 }
 
 // How many samples a profile has, where it is there.
-#[derive(Clone, Copy)]
-pub enum Counted {
-    Samples(u32),
-    Missing,
-}
-
-fn count_of(profiles: &[u32], m: usize, rising: usize, id: u32) -> Counted
+#[tactic(auto, using(crate::proofs::Counts::counts))]
+fn count_of(profiles: &[u32], m: usize, rising: usize, id: u32) -> Option<u32>
     requires { Rising profile_width m rising profiles.now }
-    ensures { result ≡ counted_of (count_at profiles.now m id) }
+    ensures { result ≡ std_option (count_at profiles.now m id) }
 {
     match tables_ids::find(profiles, Profile::WIDTH, m, rising, id) {
-        Found::At(i) => Counted::Samples(count_at(profiles, i)),
-        Found::Nothing => Counted::Missing,
+        Found::At(i) => Some(count_at(profiles, i)),
+        Found::Nothing => None,
     }
+}
+
+// What an entry is tested by.
+#[derive(Clone, Copy, PartialEq, Eq)]
+pub struct Entry {
+    pub travel: u32,
+    pub profile: u32,
 }
 
 // The entry before, where there is one, and whether an entry so far has a profile of another length. None has a missing one.
 #[derive(Clone, Copy)]
 pub struct Seen {
-    pub any: bool,
-    pub travel: u32,
-    pub profile: u32,
+    pub before: Option<Entry>,
     pub wrong: bool,
 }
 
-// An entry more, or one whose profile is missing.
-#[derive(Clone, Copy)]
-pub enum Sight {
-    On(Seen),
-    Gone,
-}
-
 // A travel time and a profile that are not those of the entry before are looked up.
-fn look(seen: Seen, profiles: &[u32], m: usize, rising: usize, travel: u32, id: u32) -> Sight
+fn look(seen: Seen, profiles: &[u32], m: usize, rising: usize, entry: Entry) -> Option<Seen>
     requires { Rising profile_width m rising profiles.now }
-    ensures { Sees (count_at profiles.now m) seen travel id result }
+    ensures { Sees (count_at profiles.now m) seen entry result }
 {
-    match count_of(profiles, m, rising, id) {
-        Counted::Samples(count) => {
-            if count == travel {
-                return Sight::On(Seen {
-                    any: true,
-                    travel,
-                    profile: id,
-                    wrong: seen.wrong,
-                });
-            }
-            Sight::On(Seen {
-                any: true,
-                travel,
-                profile: id,
-                wrong: true,
-            })
-        }
-        Counted::Missing => Sight::Gone,
-    }
+    let count = count_of(profiles, m, rising, entry.profile)?;
+    Some(Seen {
+        before: Some(entry),
+        wrong: seen.wrong || count != entry.travel,
+    })
 }
 
-fn see(seen: Seen, profiles: &[u32], m: usize, rising: usize, travel: u32, id: u32) -> Sight
+// What is seen with an entry more, or None where its profile is missing.
+fn see(seen: Seen, profiles: &[u32], m: usize, rising: usize, entry: Entry) -> Option<Seen>
     requires { Rising profile_width m rising profiles.now }
-    ensures { Sees (count_at profiles.now m) seen travel id result }
+    ensures { Sees (count_at profiles.now m) seen entry result }
 {
-    if seen.any {
-        if seen.travel == travel {
-            if seen.profile == id {
-                return Sight::On(seen);
-            }
-        }
+    if seen.before == Some(entry) {
+        return Some(seen);
     }
-    look(seen, profiles, m, rising, travel, id)
+    look(seen, profiles, m, rising, entry)
 }
 
 fn configuration_at(configurations: &[u32], j: usize) -> Configuration
@@ -102,8 +78,9 @@ fn configuration_at(configurations: &[u32], j: usize) -> Configuration
     }
 }
 
-// The fault of a list: 12 where a profile is missing, else 13 where one has another length, else 0.
+// The fault of a list: 12 where a profile is missing, else 13 where one has another length.
 // An entry with the travel time and the profile of the entry before it has no other fault than that one.
+#[tactic(auto, using(crate::proofs::Counts::counts))]
 fn list_fault(
     configurations: &[u32],
     first: usize,
@@ -111,29 +88,29 @@ fn list_fault(
     profiles: &[u32],
     m: usize,
     rising: usize,
-) -> u8
+) -> Option<u8>
     requires { ((first + count) * configuration_width ≤ length configurations.now) × Rising profile_width m rising profiles.now }
-    ensures { result ≡ number_of (list_fault (count_at profiles.now m) (list_at (configuration_at configurations.now) first count)) }
+    ensures { result ≡ std_option (list_fault (count_at profiles.now m) (list_at (configuration_at configurations.now) first count)) }
 {
     let mut seen = Seen {
-        any: false,
-        travel: 0,
-        profile: 0,
+        before: None,
         wrong: false,
     };
-    let mut k = 0;
-    while k < count {
+    for k in 0..count {
         let c = configuration_at(configurations, first + k);
-        let Sight::On(next) = see(seen, profiles, m, rising, c.travel, c.profile) else {
-            return Refusal::NOT_THERE;
+        let entry = Entry {
+            travel: c.travel,
+            profile: c.profile,
+        };
+        let Some(next) = see(seen, profiles, m, rising, entry) else {
+            return Some(Refusal::NOT_THERE);
         };
         seen = next;
-        k += 1;
     }
     if seen.wrong {
-        return Refusal::SAMPLES;
+        return Some(Refusal::SAMPLES);
     }
-    0
+    None
 }
 
 // The fault of row i's list.
@@ -144,9 +121,9 @@ fn leg_fault(
     profiles: &[u32],
     m: usize,
     rising: usize,
-) -> u8
+) -> Option<u8>
     requires { InTables legs.now configurations.now i × Rising profile_width m rising profiles.now }
-    ensures { result ≡ number_of (list_fault (count_at profiles.now m) (list_in legs.now configurations.now i)) }
+    ensures { result ≡ std_option (list_fault (count_at profiles.now m) (list_in legs.now configurations.now i)) }
 {
     let at = Leg::WIDTH * i;
     let first = legs[at + Leg::FIRST_AT] as usize;
@@ -154,32 +131,30 @@ fn leg_fault(
     list_fault(configurations, first, count, profiles, m, rising)
 }
 
-// The first row at fault, with 12 or 13.
+// A row at fault, with 12 or 13.
 #[derive(Clone, Copy)]
-pub enum Fault {
-    Row(usize, u8),
-    Nothing,
+pub struct Fault {
+    pub row: usize,
+    pub number: u8,
 }
 
 // For tables that hold rows and profiles, it is the first of these rows at fault.
+#[tactic(auto, using(crate::proofs::Holding::holding))]
 pub fn profile_fault(
     legs: &[u32],
     n: usize,
     configurations: &[u32],
     profiles: &[u32],
     m: usize,
-) -> Fault
+) -> Option<Fault>
     requires { Tables legs.now n configurations.now × Records profile_width m profiles.now }
     ensures { FirstFault legs.now n configurations.now profiles.now m result }
 {
     let rising = tables_ids::rising_of(profiles, Profile::WIDTH, m);
-    let mut i = 0;
-    while i < n {
-        let fault = leg_fault(legs, i, configurations, profiles, m, rising);
-        if fault != 0 {
-            return Fault::Row(i, fault);
+    for row in 0..n {
+        if let Some(number) = leg_fault(legs, row, configurations, profiles, m, rising) {
+            return Some(Fault { row, number });
         }
-        i += 1;
     }
-    Fault::Nothing
+    None
 }

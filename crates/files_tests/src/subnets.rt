@@ -7,19 +7,16 @@ use rules::sizes::{Leg, Track};
 use tables_ids::Found;
 
 // The number of the first of n rows whose track is not among m tracks.
+#[tactic(auto, using(crate::proofs::Fifteen::listing))]
 pub fn subnet_fault(legs: &[u32], n: usize, tracks: &[u32], m: usize) -> Found
     requires { Records leg_width n legs.now × Records track_width m tracks.now }
     ensures { Fifteen legs.now n tracks.now m result }
 {
     let rising = tables_ids::rising_of(tracks, Track::WIDTH, m);
-    let mut i = 0;
-    while i < n {
+    for i in 0..n {
         let track = legs[Leg::WIDTH * i + Leg::TRACK_AT];
-        match tables_ids::find(tracks, Track::WIDTH, m, rising, track) {
-            Found::At(_) => {
-                i += 1;
-            }
-            Found::Nothing => return Found::At(i),
+        if let Found::Nothing = tables_ids::find(tracks, Track::WIDTH, m, rising, track) {
+            return Found::At(i);
         }
     }
     Found::Nothing

@@ -1,48 +1,34 @@
 // A reader, read into a lent room until the room is full or there is no more. A read may give less than was asked: 0 is the end, an error a read that failed. The small program reads its files by it.
 #![tactic(auto)]
 
+ghost use Rattle.std.specs.Result.{IfOk};
 ghost use Rattle.input.specs.Counts.{IsPrefixLen};
 
 use std::io::Read;
 
+// Why the whole was not read.
 #[derive(Clone, Copy)]
-pub enum End {
+pub enum Unread {
     // There may be more than the room holds.
-    Full,
-    // There is no more.
-    Ended,
+    TooLong,
     // A read failed.
     Broken,
 }
 
-// How the reading ended, and how many bytes stand at the front of the room.
-#[derive(Clone, Copy)]
-pub struct Taken {
-    pub end: End,
-    pub length: usize,
-}
-
-pub fn read_all(reader: &mut impl Read, room: &mut [u8]) -> Taken
-    ensures { IsPrefixLen result.length room.new }
+// How many bytes stand at the front of the room, where they are the whole.
+pub fn read_all(reader: &mut impl Read, room: &mut [u8]) -> Result<usize, Unread>
+    ensures { IfOk result (λ n. IsPrefixLen n room.new) }
 {
     let mut done = 0;
+    // Kept (no plainer): a turn goes on by what a read gave, which no range does.
     while done < room.len() {
         let Ok(more) = reader.read(&mut room[done..]) else {
-            return Taken {
-                end: End::Broken,
-                length: done,
-            };
+            return Err(Unread::Broken);
         };
         if more == 0 {
-            return Taken {
-                end: End::Ended,
-                length: done,
-            };
+            return Ok(done);
         }
         done += more;
     }
-    Taken {
-        end: End::Full,
-        length: done,
-    }
+    Err(Unread::TooLong)
 }

@@ -27,8 +27,7 @@ use Rattle.verdict.proofs.GoodReading.{choices_many}
 use Rattle.text_write.specs.Written.{last_place, Written}
 use Rattle.merge_text.specs.Merges.{merged_in}
 use Rattle.merge_choice.specs.Travels.{travels_of}
-use Rattle.merge_choice.specs.declared.Travels.{Travels}
-use Rattle.merge_choice.specs.declared.Travels.TheVariants.{Equal, UnequalAt}
+use Rattle.std.specs.Prelude.{Option as StdOption, Some, None}
 use Rattle.text_write.proofs.Writing.{written-length}
 use Rattle.merge_text.proofs.Filled.{unequal_seen, merged-fits, merged_whole}
 use Rattle.merge_order.specs.Order.{travel_answer, room_answer, first_of}
@@ -37,11 +36,11 @@ use Rattle.merge.proofs.Standing.{never}
 
 -- ---- the answer of the test for travel times
 
-was_unequal : (o : Option ℕ) (row : ℕ) → UnequalAt row ≡ travels_of o → o ≡ some row
+was_unequal : (o : Option ℕ) (row : ℕ) → Some row ≡ travels_of o → o ≡ some row
 was_unequal none row e = let z : ◌≡◌ {A = ℕ} 0 1 = cc in absurd (omega arith)
 was_unequal (some n) row e = cc
 
-was_equal : (o : Option ℕ) → Equal ≡ travels_of o → o ≡ none
+was_equal : (o : Option ℕ) → None ≡ travels_of o → o ≡ none
 was_equal none e = refl
 was_equal (some n) e = let z : ◌≡◌ {A = ℕ} 0 1 = cc in absurd (omega arith)
 
@@ -79,17 +78,17 @@ module _ {counts : Counts} {second legs configurations choices second_choices : 
   abbrev written : Direction → List ℕ
   written d = text_of (chosen f.rows (merge_of d k.both.a k.both.b))
 
-  module _ (d : Direction) (text : List ℕ) {v : Travels}
+  module _ (d : Direction) (text : List ℕ) {v : StdOption ℕ}
       (told : v ≡ travels_of (unequal_from 0 (configurations_in counts.legs choices) (configurations_in counts.legs second_choices))) where
     -- 17
-    unequal_way : {row : ℕ} {x : Refusal} {r : Merged} {text' : List ℕ} → v ≡ UnequalAt row → x ≡ refusal unequal_travel second_file (place_of_row second row)
+    unequal_way : {row : ℕ} {x : Refusal} {r : Merged} {text' : List ℕ} → v ≡ Some row → x ≡ refusal unequal_travel second_file (place_of_row second row)
         → r ≡ not_written (Refused x) → Made (merged_equal k d text) r text'
     unequal_way {row} {x} {r} {text'} e q s =
         subst (λ o. Made (merge_travel k.left.lent k.lent k.lent_second text second (merge_of d) o (both_of k)) r text')
         (sym (was_unequal (unequal_from 0 k.both.a k.both.b) row (sym e ∙ told ∙ ap travels_of travels_seen)))
         (rw (s, q) (record { answer = refl; tally = refl; length = refl; puts = λ z. never (sym z) }))
 
-    module _ (e : v ≡ Equal) {text' : List ℕ} {n : ℕ} (small : length text < last_place)
+    module _ (e : v ≡ None) {text' : List ℕ} {n : ℕ} (small : length text < last_place)
         (put : Written text 0 (text_of (merged_in d counts.legs legs configurations choices second_choices)) text' n)
         {fits : Bool} (tested : fits ≡ (leb n (length text') && leb n most_text)) where
       put_left : Written text 0
@@ -145,15 +144,15 @@ module _ {counts : Counts} {second legs configurations choices second_choices : 
       ends : Ends
       ends = go v refl
         where
-          room : v ≡ Equal → (fits : Bool) → (leb n (length text') && leb n most_text) ≡ fits → Ends
+          room : v ≡ None → (fits : Bool) → (leb n (length text') && leb n most_text) ≡ fits → Ends
           room e true h =
               ends_accepted (first ∙ (λ j. first_of (travel_answer second (e j)) (room_answer (h j)))) (text_way e small put refl h)
           room e false h =
               ends_refused (first ∙ (λ j. first_of (travel_answer second (e j)) (room_answer (h j)))) (room_way e small put refl h refl refl)
 
-          go : (w : Travels) → v ≡ w → Ends
-          go (UnequalAt row) e = ends_refused (first ∙ (λ j. first_of (travel_answer second (e j)) (room_answer (leb n (length text') && leb n most_text)))) (unequal_way e refl refl)
-          go Equal e = room e (leb n (length text') && leb n most_text) refl
+          go : (w : StdOption ℕ) → v ≡ w → Ends
+          go (Some row) e = ends_refused (first ∙ (λ j. first_of (travel_answer second (e j)) (room_answer (leb n (length text') && leb n most_text)))) (unequal_way e refl refl)
+          go None e = room e (leb n (length text') && leb n most_text) refl
 
       pub text_ends : is_accepted answer ≡ true → {r : Merged} → r ≡ written_as answer n → Made (merged_equal k d text) r text'
       text_ends h {r} e = subst (λ q. Made (merged_equal k d text) q text') (sym e) (ends.0 h)

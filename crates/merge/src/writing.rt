@@ -33,7 +33,7 @@ pub fn write_merge(
     ensures { Writes direction counts second.now legs.now configurations.now choices.now second_choices.now text.old result text.new }
 {
     let n = counts.legs;
-    let travels = merge_choice::unequal(choices, second_choices, n);
+    let unequal = merge_choice::unequal(choices, second_choices, n);
     let length = merge_text::put_merged(
         direction,
         legs,
@@ -43,7 +43,7 @@ pub fn write_merge(
         second_choices,
         text,
     );
-    let answer = merge_order::of_merge(travels, second, length, text.len());
+    let answer = merge_order::of_merge(unequal, second, length, text.len());
     if acceptance::is_accepted(answer) {
         return written(answer, length);
     }

@@ -19,25 +19,16 @@ pub fn choose(direction: Direction, a: Configuration, b: Configuration) -> Confi
     }
 }
 
-// Whether two solutions run every leg for as long as each other, or the first row where they do not.
-#[derive(Clone, Copy)]
-pub enum Travels {
-    Equal,
-    UnequalAt(usize),
-}
-
-// 17 over the first `n` choices.
-pub fn unequal(first: &[u32], second: &[u32], n: usize) -> Travels
+// 17 over the first `n` choices: the first row where the travel times of two solutions are unequal.
+pub fn unequal(first: &[u32], second: &[u32], n: usize) -> Option<usize>
     ensures { result ≡ travels_of (unequal_from 0 (configurations_in n first.now) (configurations_in n second.now)) }
 {
-    let mut i = 0;
-    while i < n {
+    for i in 0..n {
         let a = tables_views::configuration_at(first, i);
         let b = tables_views::configuration_at(second, i);
         if a.travel != b.travel {
-            return Travels::UnequalAt(i);
+            return Some(i);
         }
-        i += 1;
     }
-    Travels::Equal
+    None
 }

@@ -8,7 +8,6 @@ ghost use Rattle.merge_order.specs.Both.{BothReady, ChoosesBoth, JudgesBoth};
 ghost use Rattle.merge_order.specs.Order.{travel_answer, room_answer, first_of};
 
 use csv_lines::places;
-use merge_choice::Travels;
 use rules::answers::{Answer, File, Refusal, Ruling};
 use solution_verdict::Chosen;
 use tables_lent::{Counts, acceptance};
@@ -75,13 +74,13 @@ pub fn judge_both(
 }
 
 // 17 lies in the second solution, at the row.
-fn of_travels(travels: Travels, second: &[u8]) -> Answer
+fn of_travels(unequal: Option<usize>, second: &[u8]) -> Answer
     requires { length second.now ≤ most_text }
-    ensures { result ≡ travel_answer second.now travels }
+    ensures { result ≡ travel_answer second.now unequal }
 {
-    match travels {
-        Travels::Equal => Answer::Accepted,
-        Travels::UnequalAt(row) => {
+    match unequal {
+        None => Answer::Accepted,
+        Some(row) => {
             let refusal = places::row_refusal(Refusal::TRAVEL, File::SECOND_SOLUTION, second, row);
             Answer::Refused(refusal)
         }
@@ -109,11 +108,11 @@ fn first_of(one: Answer, two: Answer) -> Answer
 }
 
 // Of two accepted solutions, by their travel times and by the size of the merged text.
-pub fn of_merge(travels: Travels, second: &[u8], size: usize, room: usize) -> Answer
+pub fn of_merge(unequal: Option<usize>, second: &[u8], size: usize, room: usize) -> Answer
     requires { length second.now ≤ most_text }
-    ensures { result ≡ first_of (travel_answer second.now travels) (room_answer (leb size room && leb size most_text)) }
+    ensures { result ≡ first_of (travel_answer second.now unequal) (room_answer (leb size room && leb size most_text)) }
 {
-    let travel = of_travels(travels, second);
+    let travel = of_travels(unequal, second);
     let fitting = of_room(size, room);
     first_of(travel, fitting)
 }

@@ -22,14 +22,12 @@ fn put_rows(
     ensures { Written text.old at (rows_text (merged_in direction n legs.now configurations.now first.now second.now)) text.new result }
 {
     let mut place = at;
-    let mut i = 0;
-    while i < n {
+    for i in 0..n {
         let leg = tables_views::leg_at(legs, i);
         let a = tables_views::configuration_at(first, i);
         let b = tables_views::configuration_at(second, i);
         let chosen = merge_choice::choose(direction, a, b);
         place = timetable_writer::put_row(text, place, leg, chosen, configurations);
-        i += 1;
     }
     place
 }

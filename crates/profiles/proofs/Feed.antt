@@ -1,7 +1,8 @@
 -- A part of a text: the loop's turns are the reading's bytes, one by one or whole samples at once. Assumes nothing.
+use Rattle.std.specs.Prelude.{Option, Some, Result, Ok, Err}
 use Prim.Native.Nat.{ℕ, suc, ◌+◌, ◌*◌, ◌-◌, ◌/◌, ◌≤◌, ◌<◌}
 use mathlib.Core.Path.{◌≡◌, refl, ap, sym, subst, ◌∙◌}
-use mathlib.Core.Bool.{Bool, true, false, cond, false≢true}
+use mathlib.Core.Bool.{Bool, true, false, cond}
 use mathlib.Core.List.{List, []}
 use native.Mathlib.Omega.{arith}
 use native.Mathlib.Nat.{add-zero}
@@ -26,10 +27,8 @@ use Rattle.csv_header.proofs.Part.{past_header, header_law}
 use Rattle.profiles_row.specs.declared.number.Number.{Number}
 use Rattle.profiles_row.specs.declared.number.Number.TheVariants.{Empty}
 use Rattle.profiles_sample.specs.declared.Spaced.{Spaced}
-use Rattle.profiles_sample.specs.declared.Spaced.TheVariants.{At}
 use Rattle.profiles_row.specs.declared.row.Past.{Past}
 use Rattle.profiles_row.specs.declared.row.Listed.{Listed}
-use Rattle.profiles_row.specs.declared.sample.Tail.{Tail}
 use Rattle.profiles_row.specs.Near.{empty_near}
 use Rattle.profiles_row.specs.Row.{Closed, ClosesTo}
 use Rattle.profiles_state.specs.declared.state.State.{State}
@@ -44,7 +43,6 @@ use Rattle.profiles.specs.declared.reader.Crossed.{Crossed}
 use Rattle.profiles.specs.Feeds.{Held, in_header_lem, in_rows, Feeds, Alive, Lined, opened, begun_at, count_in, ManyRead, Skips, Quickens, TurnedAt, CrossedTo}
 use Rattle.profiles_sample.specs.Quick.{Samples, lasting}
 use Rattle.profiles_sample.specs.declared.Headed.{Headed as Head}
-use Rattle.profiles_sample.specs.declared.Headed.TheVariants.{At as HeadAt}
 use Rattle.profiles_sample.specs.Heads.{ListAfter, Heads, headed as head-there}
 use Rattle.profiles_state.proofs.Fraction.{fraction_space}
 use Rattle.profiles_state.proofs.Marking.{Other, other_space, turn_plain}
@@ -67,11 +65,11 @@ module _ {part : List ℕ} {past : Past} {l : Listed} {from : ℕ} {samples₁ :
   pub sampling_count : l.count + length part ≤ most_text + from → i < length part → cur.count < most_text
   sampling_count h k = omega (arith, s.few)
 
-  pub sampling_next : {x : Spaced} {t : Tail} {next : ℕ} {cur' : Listed} {samples' : List ℤ} → Samples part i false x → x ≡ At t next → ClosesTo past cur t samples cur' samples'
-      → length samples' ≡ length samples → Sampling part past l from samples₁ cur' (next + 1) samples'
-  sampling_next {x} {t} {next} {cur'} {samples'} found e closes long = go (rw e at found)
+  pub sampling_next : {x : Option Spaced} {r : Spaced} {cur' : Listed} {samples' : List ℤ} → Samples part i false x → x ≡ Some r → ClosesTo past cur r.tail samples cur' samples'
+      → length samples' ≡ length samples → Sampling part past l from samples₁ cur' (r.next + 1) samples'
+  sampling_next {x} {r} {cur'} {samples'} found e closes long = go (rw e at found)
     where
-      go : Samples part i false (At t next) → Sampling part past l from samples₁ cur' (next + 1) samples'
+      go : Samples part i false (Some r) → Sampling part past l from samples₁ cur' (r.next + 1) samples'
       go (lasting h q z j) =
           record {
             inside = omega arith;
@@ -79,14 +77,14 @@ module _ {part : List ℕ} {past : Past} {l : Listed} {from : ℕ} {samples₁ :
             long = long ∙ s.long;
             leaps =
                 λ mark m profiles. leap_then (s.leaps mark m profiles)
-                (leap_then (j past cur mark m profiles samples) (leap_step m (subst Other (sym q) other_space) h (fraction_space past cur cur' t (get_or part next 0) profiles samples samples' z closes.closes q)));
+                (leap_then (j past cur mark m profiles samples) (leap_step m (subst Other (sym q) other_space) h (fraction_space past cur cur' r.tail (get_or part r.next 0) profiles samples samples' z closes.closes q)));
           }
 
   -- behind it, the loop goes on
-  pub sampling_after : {x : Spaced} {t : Tail} {next : ℕ} → Samples part i false x → x ≡ At t next → (i ≤ next) × (next < length part)
-  sampling_after {x} {t} {next} found e = go (rw e at found)
+  pub sampling_after : {x : Option Spaced} {r : Spaced} → Samples part i false x → x ≡ Some r → (i ≤ r.next) × (r.next < length part)
+  sampling_after {x} {r} found e = go (rw e at found)
     where
-      go : Samples part i false (At t next) → (i ≤ next) × (next < length part)
+      go : Samples part i false (Some r) → (i ≤ r.next) × (r.next < length part)
       go (lasting h q z j) = ((j past cur Bare refl part samples).onward, h)
 
   pub sampling_end : ManyRead part past l from samples₁ (record { l = cur; next = i }) samples
@@ -271,11 +269,11 @@ module _ {gone : ℕ} {state : State} {mark : Mark} {profiles : List ℕ} {sampl
           }
 
 -- the row's id is read with the quotes about it
-pub crossed_row : {part : List ℕ} {from : ℕ} {mark : Mark} {state : State} {x : Head} (past : Past) (n : Number) (id next : ℕ) (l : Listed) → state ≡ Id past n → n ≡ Empty → mark ≡ Bare → Heads part from x
-    → x ≡ HeadAt id next → ListAfter id l → CrossedTo part from mark state (record { state = Whole past l false Empty; mark = Within; next = next })
-crossed_row {part} {from} past n id next l e z m heads q after gone profiles samples = rw (e, z, m) (go (rw q at heads))
+pub crossed_row : {part : List ℕ} {from : ℕ} {mark : Mark} {state : State} {x : Option Head} (past : Past) (n : Number) (head : Head) (l : Listed) → state ≡ Id past n → n ≡ Empty → mark ≡ Bare → Heads part from x
+    → x ≡ Some head → ListAfter head.id l → CrossedTo part from mark state (record { state = Whole past l false Empty; mark = Within; next = head.next })
+crossed_row {part} {from} past n head l e z m heads q after gone profiles samples = rw (e, z, m) (go (rw q at heads))
   where
-    go : Heads part from (HeadAt id next) → TurnedAt gone (Id past Empty) Bare profiles samples part from (Whole past l false Empty) Within next profiles samples
+    go : Heads part from (Some head) → TurnedAt gone (Id past Empty) Bare profiles samples part from (Whole past l false Empty) Within head.next profiles samples
     go (head-there h crosses) =
         let x = crosses past l after in
         record { onward = omega arith; inside = x.inside; stays = λ same. absurd (omega arith); leads = x.crosses gone profiles samples }
@@ -368,83 +366,88 @@ first_holds : (at : ℕ) (profiles : List ℕ) (samples : List ℤ) → Holds pr
 unfolding over
 first_holds at profiles samples = in_id_lem {past = opened at} (omega arith) (none_closed at profiles samples) refl empty_near
 
-module _ (reader : Reader) (part : List ℕ) (h : Headed) (e : h ≡ compared_from profiles_header reader.mark reader.head 0 part) where
-  heading : (profiles samples : ℕ) → reader.head < length profiles_header
-      → Headings (contents profiles samples) (read profiles samples) part reader.mark reader.head reader.next h
-  unfolding read
-  heading profiles samples k = header_law (contents profiles samples) refl part reader.mark reader.head reader.next h k e
+module _ (reader : Reader) (part : List ℕ) where
+  module _ (r : Result Headed Headed) (e : r ≡ compared_from profiles_header reader.mark reader.head 0 part) where
+    heading : (profiles samples : ℕ) → reader.head < length profiles_header
+        → Headings (contents profiles samples) (read profiles samples) part reader.mark reader.head reader.next r
+    unfolding read
+    heading profiles samples k = header_law (contents profiles samples) refl part reader.mark reader.head reader.next r k e
 
-  -- what was compared, where rows came before
-  past : length profiles_header ≤ reader.head → h ≡ headed 0 reader.head reader.mark true
-  past k = e ∙ past_header profiles_header part reader.mark reader.head 0 k
+    -- what was compared, where rows came before
+    past : length profiles_header ≤ reader.head → r ≡ Ok (headed 0 reader.head reader.mark)
+    past k = e ∙ past_header profiles_header part reader.mark reader.head 0 k
 
-  pub rows_live : (profiles : List ℕ) (samples : List ℤ) (first : State) → first ≡ begun_at reader.state reader.head (reader.next + h.next) → Alive reader profiles samples
-      → Live (reader.next + h.next) first profiles samples
-  rows_live profiles samples first b alive = rw b (go (leb (length profiles_header) reader.head) refl)
-    where
-      go : (t : Bool) → leb (length profiles_header) reader.head ≡ t
-          → Live (reader.next + h.next) (cond t reader.state (Id (opened (reader.next + h.next)) Empty)) profiles samples
-      go true q =
-          let k : length profiles_header ≤ reader.head = leb-true (length profiles_header) reader.head q in
-          let z : reader.next + h.next ≡ reader.next = ap (λ (x : Headed). reader.next + x.next) (past k) ∙ add-zero reader.next in
-          subst (λ (x : ℕ). Live x reader.state profiles samples) (sym z) (alive k)
-      go false q = record { profiles₀ = profiles; samples₀ = samples; reached = _; holds = first_holds (reader.next + h.next) profiles samples }
+    -- the header differs
+    pub feeds_wrong : (profiles : List ℕ) (samples : List ℤ) (w : Headed) → r ≡ Err w
+        → Feeds reader profiles samples part (record { next = reader.next + length part; head = length profiles_header; mark = reader.mark; state = Stopped bad_header 0 }) profiles samples
+    feeds_wrong profiles samples w q = record { place = refl; reads = λ profiles₀ samples₀ text held. go profiles₀ samples₀ text held }
+      where
+        go : (profiles₀ : List ℕ) (samples₀ : List ℤ) (text : Read) → Held profiles₀ samples₀ reader.next reader.head reader.mark reader.state profiles samples text
+            → Held profiles₀ samples₀ (reader.next + length part) (length profiles_header) reader.mark (Stopped bad_header 0) profiles samples (reading profiles₀ samples₀ text part)
+        go profiles₀ samples₀ text (in_header_lem t l f p s) =
+            in_rows (omega arith)
+            (record {
+              contents = stopped bad_header 0;
+              holds = at_stop;
+              under = rw t ((heading (length profiles₀ / profile_width) (length samples₀) l).differs w q);
+            })
+        go profiles₀ samples₀ text (in_rows k s) = let z = past k in cc
 
-  -- the header differs
-  pub feeds_wrong : (profiles : List ℕ) (samples : List ℤ) → h.right ≡ false
-      → Feeds reader profiles samples part (record { next = reader.next + length part; head = length profiles_header; mark = reader.mark; state = Stopped bad_header 0 }) profiles samples
-  feeds_wrong profiles samples q = record { place = refl; reads = λ profiles₀ samples₀ text held. go profiles₀ samples₀ text held }
-    where
-      go : (profiles₀ : List ℕ) (samples₀ : List ℤ) (text : Read) → Held profiles₀ samples₀ reader.next reader.head reader.mark reader.state profiles samples text
-          → Held profiles₀ samples₀ (reader.next + length part) (length profiles_header) reader.mark (Stopped bad_header 0) profiles samples (reading profiles₀ samples₀ text part)
-      go profiles₀ samples₀ text (in_header_lem t l f p s) =
-          in_rows (omega arith)
-          (record {
-            contents = stopped bad_header 0;
-            holds = at_stop;
-            under = rw t ((heading (length profiles₀ / profile_width) (length samples₀) l).differs q);
-          })
-      go profiles₀ samples₀ text (in_rows k s) = absurd (false≢true (sym q ∙ ap (λ (x : Headed). x.right) (past k)))
+  module _ (h : Headed) (e : Ok h ≡ compared_from profiles_header reader.mark reader.head 0 part) where
+    past_is : length profiles_header ≤ reader.head → h ≡ headed 0 reader.head reader.mark
+    past_is k = let z = past (Ok h) e k in cc
 
-  -- it goes on
-  pub feeds_heading : (profiles : List ℕ) (samples : List ℤ) → h.right ≡ true → h.head < length profiles_header
-      → Feeds reader profiles samples part (record { next = reader.next + length part; head = h.head; mark = h.mark; state = reader.state }) profiles samples
-  feeds_heading profiles samples q l = record { place = refl; reads = λ profiles₀ samples₀ text held. go profiles₀ samples₀ text held }
-    where
-      go : (profiles₀ : List ℕ) (samples₀ : List ℤ) (text : Read) → Held profiles₀ samples₀ reader.next reader.head reader.mark reader.state profiles samples text
-          → Held profiles₀ samples₀ (reader.next + length part) h.head h.mark reader.state profiles samples (reading profiles₀ samples₀ text part)
-      go profiles₀ samples₀ text (in_header_lem t k f p s) =
-          in_header_lem (rw t ((heading (length profiles₀ / profile_width) (length samples₀) k).goes_on q l)) l f p s
-      go profiles₀ samples₀ text (in_rows k s) =
-          let z : h.head ≡ reader.head = ap (λ (x : Headed). x.head) (past k) in absurd (omega arith)
+    pub rows_live : (profiles : List ℕ) (samples : List ℤ) (first : State) → first ≡ begun_at reader.state reader.head (reader.next + h.next) → Alive reader profiles samples
+        → Live (reader.next + h.next) first profiles samples
+    rows_live profiles samples first b alive = rw b (go (leb (length profiles_header) reader.head) refl)
+      where
+        go : (t : Bool) → leb (length profiles_header) reader.head ≡ t
+            → Live (reader.next + h.next) (cond t reader.state (Id (opened (reader.next + h.next)) Empty)) profiles samples
+        go true q =
+            let k : length profiles_header ≤ reader.head = leb-true (length profiles_header) reader.head q in
+            let z : reader.next + h.next ≡ reader.next = ap (λ (x : Headed). reader.next + x.next) (past_is k) ∙ add-zero reader.next in
+            subst (λ (x : ℕ). Live x reader.state profiles samples) (sym z) (alive k)
+        go false q = record { profiles₀ = profiles; samples₀ = samples; reached = _; holds = first_holds (reader.next + h.next) profiles samples }
 
-  -- rows follow
-  pub feeds_rows : (profiles profiles' : List ℕ) (samples samples' : List ℤ) (first : State) (r : Reader) → h.right ≡ true → length profiles_header ≤ h.head
-      → first ≡ begun_at reader.state reader.head (reader.next + h.next) → Lined reader.next first h.mark profiles samples part h.next r profiles' samples'
-      → Feeds reader profiles samples part r profiles' samples'
-  feeds_rows profiles profiles' samples samples' first r q l b lined = record { place = lined.place; reads = λ profiles₀ samples₀ text held. go profiles₀ samples₀ text held }
-    where
-      go : (profiles₀ : List ℕ) (samples₀ : List ℤ) (text : Read) → Held profiles₀ samples₀ reader.next reader.head reader.mark reader.state profiles samples text
-          → Held profiles₀ samples₀ r.next r.head r.mark r.state profiles' samples' (reading profiles₀ samples₀ text part)
-      go profiles₀ samples₀ text (in_header_lem t k f p s) =
-          let at : ℕ = reader.next + h.next in
-          let opens : first ≡ Id (opened at) Empty = b ∙ sym (begun_first reader.state reader.head at k) in
-          let behind : Read = row_at at at [] (marked h.mark start) in
-          let stands : Stands profiles₀ samples₀ at h.mark first profiles samples behind =
-          rw (opens, p, s) (record { contents = in_row at at [] start; holds = first_holds at profiles₀ samples₀; under = refl }) in
-          let leads : reading profiles₀ samples₀ behind (drop h.next part) ≡ reading profiles₀ samples₀ text part =
-          rw t ((heading (length profiles₀ / profile_width) (length samples₀) k).is_over q l) in
-          in_rows (omega (arith, lined.head_whole))
-          (subst (λ (x : Read). Stands profiles₀ samples₀ r.next r.mark r.state profiles' samples' x) leads (lined.lines profiles₀ samples₀ behind stands))
-      go profiles₀ samples₀ text (in_rows k s) =
-          let z : h ≡ headed 0 reader.head reader.mark true = past k in
-          let opens : first ≡ reader.state = b ∙ sym (begun-past reader.state reader.head (reader.next + h.next) k) in
-          let same : Stands profiles₀ samples₀ (reader.next + h.next) h.mark first profiles samples text =
-          rw (opens, z) (subst (λ (x : ℕ). Stands profiles₀ samples₀ x reader.mark reader.state profiles samples text) (sym (add-zero reader.next)) s) in
-          let leads : reading profiles₀ samples₀ text (drop h.next part) ≡ reading profiles₀ samples₀ text part =
-          ap (λ (x : Headed). reading profiles₀ samples₀ text (drop x.next part)) z in
-          in_rows (omega (arith, lined.head_whole))
-          (subst (λ (x : Read). Stands profiles₀ samples₀ r.next r.mark r.state profiles' samples' x) leads (lined.lines profiles₀ samples₀ text same))
+    -- it goes on
+    pub feeds_heading : (profiles : List ℕ) (samples : List ℤ) → h.head < length profiles_header
+        → Feeds reader profiles samples part (record { next = reader.next + length part; head = h.head; mark = h.mark; state = reader.state }) profiles samples
+    feeds_heading profiles samples l = record { place = refl; reads = λ profiles₀ samples₀ text held. go profiles₀ samples₀ text held }
+      where
+        go : (profiles₀ : List ℕ) (samples₀ : List ℤ) (text : Read) → Held profiles₀ samples₀ reader.next reader.head reader.mark reader.state profiles samples text
+            → Held profiles₀ samples₀ (reader.next + length part) h.head h.mark reader.state profiles samples (reading profiles₀ samples₀ text part)
+        go profiles₀ samples₀ text (in_header_lem t k f p s) =
+            in_header_lem (rw t ((heading (Ok h) e (length profiles₀ / profile_width) (length samples₀) k).goes_on h refl l)) l f p s
+        go profiles₀ samples₀ text (in_rows k s) =
+            let z : h.head ≡ reader.head = ap (λ (x : Headed). x.head) (past_is k) in absurd (omega arith)
+
+    -- rows follow
+    pub feeds_rows : (profiles profiles' : List ℕ) (samples samples' : List ℤ) (first : State) (r : Reader) → length profiles_header ≤ h.head
+        → first ≡ begun_at reader.state reader.head (reader.next + h.next) → Lined reader.next first h.mark profiles samples part h.next r profiles' samples'
+        → Feeds reader profiles samples part r profiles' samples'
+    feeds_rows profiles profiles' samples samples' first r l b lined = record { place = lined.place; reads = λ profiles₀ samples₀ text held. go profiles₀ samples₀ text held }
+      where
+        go : (profiles₀ : List ℕ) (samples₀ : List ℤ) (text : Read) → Held profiles₀ samples₀ reader.next reader.head reader.mark reader.state profiles samples text
+            → Held profiles₀ samples₀ r.next r.head r.mark r.state profiles' samples' (reading profiles₀ samples₀ text part)
+        go profiles₀ samples₀ text (in_header_lem t k f p s) =
+            let at : ℕ = reader.next + h.next in
+            let opens : first ≡ Id (opened at) Empty = b ∙ sym (begun_first reader.state reader.head at k) in
+            let behind : Read = row_at at at [] (marked h.mark start) in
+            let stands : Stands profiles₀ samples₀ at h.mark first profiles samples behind =
+            rw (opens, p, s) (record { contents = in_row at at [] start; holds = first_holds at profiles₀ samples₀; under = refl }) in
+            let leads : reading profiles₀ samples₀ behind (drop h.next part) ≡ reading profiles₀ samples₀ text part =
+            rw t ((heading (Ok h) e (length profiles₀ / profile_width) (length samples₀) k).is_over h refl l) in
+            in_rows (omega (arith, lined.head_whole))
+            (subst (λ (x : Read). Stands profiles₀ samples₀ r.next r.mark r.state profiles' samples' x) leads (lined.lines profiles₀ samples₀ behind stands))
+        go profiles₀ samples₀ text (in_rows k s) =
+            let z : h ≡ headed 0 reader.head reader.mark = past_is k in
+            let opens : first ≡ reader.state = b ∙ sym (begun-past reader.state reader.head (reader.next + h.next) k) in
+            let same : Stands profiles₀ samples₀ (reader.next + h.next) h.mark first profiles samples text =
+            rw (opens, z) (subst (λ (x : ℕ). Stands profiles₀ samples₀ x reader.mark reader.state profiles samples text) (sym (add-zero reader.next)) s) in
+            let leads : reading profiles₀ samples₀ text (drop h.next part) ≡ reading profiles₀ samples₀ text part =
+            ap (λ (x : Headed). reading profiles₀ samples₀ text (drop x.next part)) z in
+            in_rows (omega (arith, lined.head_whole))
+            (subst (λ (x : Read). Stands profiles₀ samples₀ r.next r.mark r.state profiles' samples' x) leads (lined.lines profiles₀ samples₀ text same))
 
 pub ruleset feeding =
     (sampling_none, sampling_count, sampling_next, sampling_after, sampling_end, skip_none, skip_stopped, quick_skip, quick-same, quick_many, quick_count, turned_plain, turned-passed, turned_less, fed_first, fed_next, fed_last, begun-past, begun_first)

@@ -1,4 +1,5 @@
 -- A whole text: what it is read as is what the definitions say. Assumes nothing.
+use Rattle.std.specs.Prelude.{Result, Ok, Err}
 use Prim.Native.Nat.{ℕ, ◌/◌, ◌≤◌, ◌<◌}
 use mathlib.Core.Path.{◌≡◌, refl, sym, ◌∙◌}
 use mathlib.Core.Bool.{Bool, true, false, cond}
@@ -27,7 +28,7 @@ use Rattle.profiles_state.specs.declared.state.State.{State}
 use Rattle.profiles_state.specs.declared.state.State.TheVariants.{Id, Whole, Fraction, Stopped}
 use Rattle.profiles.specs.declared.reader.Reader.{Reader}
 use Rattle.profiles.specs.declared.reader.Rows.{Rows}
-use Rattle.profiles.specs.declared.reader.Rows.TheVariants.{Refused, Read as Counted}
+use Rattle.rules.specs.declared.answers.Refusal.{Refusal}
 use Rattle.profiles_state.specs.Open.{Open, in_id, Reached, Read, contents, machine, read, read_end}
 use Rattle.profiles_row.specs.Row.{profile_table}
 use Rattle.profiles_state.specs.Holds.{Holds, in_id_lem, in_whole, in_fraction, at_stop, Under}
@@ -55,28 +56,28 @@ started profiles samples s h = absurd (omega (arith, s.no_head))
 
 -- ---- finish
 
-abbrev Ended : (next : ℕ) → Mark → State → Rows → Type 0
+abbrev Ended : (next : ℕ) → Mark → State → Result Rows Refusal → Type 0
 Ended next mark state r =
     (profiles₀ profiles : List ℕ) (samples₀ samples : List ℤ) (text : Read) (c : Reached) → Holds profiles₀ samples₀ next state profiles samples c → Under mark c text
     → r ≡ rows_of (read_end (length profiles₀ / profile_width) (length samples₀) text)
 
-module _ {reader : Reader} {r : Rows} where
+module _ {reader : Reader} {r : Result Rows Refusal} where
   -- in the header the state is its fault; past it the text stands for what is read
-  ended : (state : State) → reader.state ≡ state → (state ≡ Stopped bad_header 0 → r ≡ Refused (refusal bad_header profiles_file 0)) → Ended reader.next reader.mark state r
+  ended : (state : State) → reader.state ≡ state → (state ≡ Stopped bad_header 0 → r ≡ Err (refusal bad_header profiles_file 0)) → Ended reader.next reader.mark state r
       → Finishes reader r
   unfolding read_end
   ended state e h f profiles₀ profiles samples₀ samples text (in_header_lem t k q p s) = rw t (h (sym e ∙ q))
   ended state e h f profiles₀ profiles samples₀ samples text (in_rows k s) = f profiles₀ profiles samples₀ samples text s.contents (rw e at s.holds) s.under
 
   -- a row lacks its LF
-  pub finish_id : (past : Past) (n : Number) → reader.state ≡ Id past n → (past.place ≡ reader.next → ⊥) → r ≡ Refused (refusal bad_row profiles_file past.place) → Finishes reader r
+  pub finish_id : (past : Past) (n : Number) → reader.state ≡ Id past n → (past.place ≡ reader.next → ⊥) → r ≡ Err (refusal bad_row profiles_file past.place) → Finishes reader r
   unfolding read_end
   finish_id past n s q e = ended (Id past n) s (λ z. let y : ◌≡◌ {A = ℕ} 0 1 = cc in absurd (omega arith)) go
     where
       go : Ended reader.next reader.mark (Id past n) r
       go profiles₀ profiles samples₀ samples text c (in_id_lem h k w x) u = rw (u, ne_eqb past.place reader.next q) e
 
-  pub finish_whole : (past : Past) (l : Listed) (negative : Bool) (n : Number) → reader.state ≡ Whole past l negative n → r ≡ Refused (refusal bad_row profiles_file past.place)
+  pub finish_whole : (past : Past) (l : Listed) (negative : Bool) (n : Number) → reader.state ≡ Whole past l negative n → r ≡ Err (refusal bad_row profiles_file past.place)
       → Finishes reader r
   unfolding read_end
   finish_whole past listed negative n s e = ended (Whole past listed negative n) s (λ z. let y : ◌≡◌ {A = ℕ} 0 1 = cc in absurd (omega arith)) go
@@ -84,14 +85,14 @@ module _ {reader : Reader} {r : Rows} where
       go : Ended reader.next reader.mark (Whole past listed negative n) r
       go profiles₀ profiles samples₀ samples text c (in_whole k g x) u = rw (u, ne_eqb past.place reader.next (λ q. omega (arith, g.under_way))) e
 
-  pub finish_fraction : (past : Past) (l : Listed) (t : Tail) → reader.state ≡ Fraction past l t → r ≡ Refused (refusal bad_row profiles_file past.place) → Finishes reader r
+  pub finish_fraction : (past : Past) (l : Listed) (t : Tail) → reader.state ≡ Fraction past l t → r ≡ Err (refusal bad_row profiles_file past.place) → Finishes reader r
   unfolding read_end
   finish_fraction past listed t s e = ended (Fraction past listed t) s (λ z. let y : ◌≡◌ {A = ℕ} 0 1 = cc in absurd (omega arith)) go
     where
       go : Ended reader.next reader.mark (Fraction past listed t) r
       go profiles₀ profiles samples₀ samples text c (in_fraction k g d) u = rw (u, ne_eqb past.place reader.next (λ q. omega (arith, g.under_way))) e
 
-  pub finish_stopped : (number place : ℕ) → reader.state ≡ Stopped number place → r ≡ Refused (refusal number profiles_file place) → Finishes reader r
+  pub finish_stopped : (number place : ℕ) → reader.state ≡ Stopped number place → r ≡ Err (refusal number profiles_file place) → Finishes reader r
   unfolding read_end
   finish_stopped number place s e =
       ended (Stopped number place) s (λ z. let a : number ≡ bad_header = cc in let b : place ≡ 0 = cc in e ∙ (rw (a, b))) go
@@ -104,11 +105,11 @@ module _ {reader : Reader} {r : Rows} where
       go profiles₀ profiles samples₀ samples text c at_stop u = faulty (length profiles₀ / profile_width) (length samples₀) text u
 
 -- all is read
-pub finish_all : {reader : Reader} (past : Past) (n : Number) → reader.state ≡ Id past n → past.place ≡ reader.next → Finishes reader (Counted past.profiles past.samples)
+pub finish_all : {reader : Reader} (past : Past) (n : Number) → reader.state ≡ Id past n → past.place ≡ reader.next → Finishes reader (Ok (record { profiles = past.profiles; samples = past.samples }))
 unfolding read_end
 finish_all {reader} past n s q = ended {reader = reader} (Id past n) s (λ z. let y : ◌≡◌ {A = ℕ} 0 1 = cc in absurd (omega arith)) go
   where
-    go : Ended reader.next reader.mark (Id past n) (Counted past.profiles past.samples)
+    go : Ended reader.next reader.mark (Id past n) (Ok (record { profiles = past.profiles; samples = past.samples }))
     go profiles₀ profiles samples₀ samples text c (in_id_lem h k w x) u = rw (u, eq-eqb past.place reader.next q, k.counted, k.summed)
 
 -- ---- the tables
@@ -151,7 +152,7 @@ module _ {profiles₀ profiles : List ℕ} {samples₀ samples : List ℤ} (curv
 
 -- ---- the whole text
 
-pub reads_long : (text profiles : List ℕ) (samples : List ℤ) (r : Rows) → most_text < length text → r ≡ Refused (refusal too_long profiles_file 0) → Reads text profiles samples r profiles samples
+pub reads_long : (text profiles : List ℕ) (samples : List ℤ) (r : Result Rows Refusal) → most_text < length text → r ≡ Err (refusal too_long profiles_file 0) → Reads text profiles samples r profiles samples
 reads_long text profiles samples r h e =
     let long = too_long_lem (length profiles / profile_width) (length samples) text h in
     record {
@@ -160,7 +161,7 @@ reads_long text profiles samples r h e =
       sample_table_lem = λ curves q. (cc);
     }
 
-pub reads_text : {text profiles₀ profiles : List ℕ} {samples₀ samples : List ℤ} {started reader : Reader} {r : Rows} → length text ≤ most_text → Starts started
+pub reads_text : {text profiles₀ profiles : List ℕ} {samples₀ samples : List ℤ} {started reader : Reader} {r : Result Rows Refusal} → length text ≤ most_text → Starts started
     → Feeds started profiles₀ samples₀ text reader profiles samples → Finishes reader r → Reads text profiles₀ samples₀ r profiles samples
 reads_text {text} {profiles₀} {profiles} {samples₀} {samples} {started} {reader} {r} h starts feeds finishes =
     let held = feeds.reads profiles₀ samples₀ (begun (machine (length profiles₀ / profile_width) (length samples₀))) (starts.nothing profiles₀ samples₀) in

@@ -11,7 +11,6 @@ use csv_marks::Mark;
 use profiles_row::number::Number;
 use profiles_row::row::{Listed, Past};
 use profiles_row::{row, sample};
-use profiles_sample::{Headed, Spaced};
 use profiles_state::state::State;
 use profiles_state::{marked, state};
 use rules::answers::{File, Refusal};
@@ -25,18 +24,17 @@ pub struct Many {
 }
 
 // The samples of a list from a place on, as many as stand there whole.
+#[tactic(auto, using(crate::proofs::Feed::feeding))]
 fn samples_run(past: Past, l: Listed, part: &[u8], from: usize, samples: &mut [i32]) -> Many
     requires { (from ≤ length part.now) × (l.count + length part.now ≤ most_text + from) }
     ensures { ManyRead part.now past l from samples.old result samples.new }
 {
     let mut cur = l;
     let mut i = from;
-    while i < part.len() {
-        let Spaced::At(tail, next) = profiles_sample::sample_at(part, i) else {
-            return Many { l: cur, next: i };
-        };
-        cur = sample::close_sample(past, cur, tail, samples);
-        i = next + 1;
+    // Kept (no plainer): a turn goes on behind the sample that it has read, which no range does.
+    while let Some(read) = profiles_sample::sample_at(part, i) {
+        cur = sample::close_sample(past, cur, read.tail, samples);
+        i = read.next + 1;
     }
     Many { l: cur, next: i }
 }
@@ -63,6 +61,7 @@ fn skip(state: State, part: &[u8], from: usize) -> Moved
 }
 
 // At a sample's beginning, whole samples are read at once.
+#[tactic(auto, using(crate::proofs::Feed::feeding))]
 fn quicken(state: State, mark: Mark, part: &[u8], from: usize, samples: &mut [i32]) -> Moved
     requires { (from ≤ length part.now) × (count_in state + length part.now ≤ most_text + from) }
     ensures { Quickens part.now from mark state samples.old result samples.new }
@@ -136,14 +135,14 @@ fn cross(state: State, mark: Mark, part: &[u8], from: usize) -> Crossed
     let Mark::Bare = mark else {
         return cross_byte(state, mark, part, from);
     };
-    let Headed::At(id, next) = profiles_sample::head_at(part, from) else {
+    let Some(head) = profiles_sample::head_at(part, from) else {
         return cross_byte(state, mark, part, from);
     };
-    let l = row::list_of(id);
+    let l = row::list_of(head.id);
     Crossed {
         state: State::Whole(past, l, false, Number::Empty),
         mark: Mark::Within,
-        next,
+        next: head.next,
     }
 }
 
@@ -164,6 +163,7 @@ fn run_rows(
     let mut state = before;
     let mut mark = first;
     let mut i = from;
+    // Kept (no plainer): a turn goes on by what it has read, which no range does.
     while i < part.len() {
         let b = part[i];
         if csv_marks::plain(mark, b) {
@@ -187,6 +187,7 @@ fn run_rows(
 }
 
 // Behind the header the first row opens.
+#[tactic(auto, using(crate::proofs::Feed::feeding))]
 fn begun(state: State, head: usize, at: u32) -> State
     ensures { result ≡ begun_at state head at }
 {
@@ -212,36 +213,35 @@ pub fn feed(reader: Reader, part: &[u8], profiles: &mut [u32], samples: &mut [i3
     let mark = reader.mark;
     let state = reader.state;
     let all = next + (part.len() as u32);
-    let headed = csv_header::profiles_header(part, reader.head, mark);
-    if headed.right {
-        let after = headed.mark;
-        if headed.head < Profile::HEADER_LENGTH {
-            return Reader {
-                next: all,
-                head: headed.head,
-                mark: after,
-                state,
-            };
-        }
-        let from = headed.next;
-        let first = begun(state, reader.head, next + (from as u32));
-        return run_rows(first, after, next, part, from, profiles, samples);
+    let Ok(headed) = csv_header::profiles_header(part, reader.head, mark) else {
+        return Reader {
+            next: all,
+            head: Profile::HEADER_LENGTH,
+            mark,
+            state: State::Stopped(Refusal::HEADER, 0),
+        };
+    };
+    if headed.head < Profile::HEADER_LENGTH {
+        return Reader {
+            next: all,
+            head: headed.head,
+            mark: headed.mark,
+            state,
+        };
     }
-    Reader {
-        next: all,
-        head: Profile::HEADER_LENGTH,
-        mark,
-        state: State::Stopped(Refusal::HEADER, 0),
-    }
+    let from = headed.next;
+    let first = begun(state, reader.head, next + (from as u32));
+    run_rows(first, headed.mark, next, part, from, profiles, samples)
 }
 
-// What a text says: its refusal, or how many profiles and samples it has.
+// How many profiles and samples a text has.
 #[derive(Clone, Copy)]
-pub enum Rows {
-    Refused(Refusal),
-    Read(u32, u32),
+pub struct Rows {
+    pub profiles: u32,
+    pub samples: u32,
 }
 
+#[tactic(auto, using(crate::proofs::Text::texts))]
 pub fn start() -> Reader
     ensures { Starts result }
 {
@@ -253,21 +253,23 @@ pub fn start() -> Reader
     }
 }
 
-fn refused(number: u8, place: u32) -> Rows
-    ensures { result ≡ Rows.Refused (refusal number profiles_file place) }
+fn refused(number: u8, place: u32) -> Result<Rows, Refusal>
+    ensures { result ≡ Err (refusal number profiles_file place) }
 {
-    Rows::Refused(Refusal::new(number, File::PROFILES, place))
+    Err(Refusal::new(number, File::PROFILES, place))
 }
 
 // The text is over.
-pub fn finish(reader: Reader) -> Rows
+pub fn finish(reader: Reader) -> Result<Rows, Refusal>
     ensures { Finishes reader result }
 {
-    let state = reader.state;
-    match state {
+    match reader.state {
         State::Id(past, _) => {
             if past.place == reader.next {
-                return Rows::Read(past.profiles, past.samples);
+                return Ok(Rows {
+                    profiles: past.profiles,
+                    samples: past.samples,
+                });
             }
             refused(Refusal::ROW_FORM, past.place)
         }
@@ -278,7 +280,11 @@ pub fn finish(reader: Reader) -> Rows
 }
 
 // A whole text: its profiles and samples at the front of the lent tables, whose other entries keep their contents.
-pub fn read_profiles(text: &[u8], profiles: &mut [u32], samples: &mut [i32]) -> Rows
+pub fn read_profiles(
+    text: &[u8],
+    profiles: &mut [u32],
+    samples: &mut [i32],
+) -> Result<Rows, Refusal>
     ensures { Reads text.now profiles.old samples.old result profiles.new samples.new }
 {
     if Text::MOST < text.len() {

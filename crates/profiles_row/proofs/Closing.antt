@@ -1,5 +1,5 @@
 -- A sample that is closed: its kW, its place in the table, and what is known of the row with it. Assumes nothing.
-use Prim.Native.Nat.{ℕ, zero, suc, ◌+◌, ◌*◌, ◌^◌, ◌-◌, ◌≤◌, ◌<◌, min}
+use Prim.Native.Nat.{ℕ, zero, suc, ◌+◌, ◌≤◌, ◌<◌, min}
 use mathlib.Core.Path.{◌≡◌, refl, ap, sym, ◌∙◌}
 use mathlib.Core.Bool.{Bool, true, false, not, cond, ◌&&◌}
 use mathlib.Core.List.{List, [], ◌∷◌, ◌++◌, append_assoc}
@@ -7,7 +7,6 @@ use native.Mathlib.Omega.{arith}
 use native.Mathlib.Nat.{not-suc-le-zero}
 use lib.Dec.{leb, ltb}
 use lib.ListN.{length, set, length-append, length-set}
-use lib.Seq.{set_out}
 use lib.IntN.{ℤ, nat_abs}
 use mir.Syntax.{w32}
 use mir.Val.{to_z, of_z, SFits}
@@ -24,28 +23,12 @@ use Rattle.profiles_row.specs.declared.row.Past.{Past}
 use Rattle.profiles_row.specs.declared.row.Listed.{Listed}
 use Rattle.profiles_row.specs.declared.sample.Tail.{Tail}
 use Rattle.profiles_row.specs.Near.{cap}
-use Rattle.profiles_row.specs.Sample.{most_digits, kw_a_mw, kw_a_tenth, kw_of}
+use Rattle.profiles_row.specs.Sample.{most_digits, kw_of}
 use Rattle.profiles_row.specs.Row.{in_range, Digits, Closes, ClosesTo}
 use Rattle.rules.proofs.Lists.{every_more, over-more}
 use Rattle.profiles_row.proofs.Tables.{samples_length}
 
 -- ---- kW
-
-pub scaled_one : (digits value : ℕ) → digits ≡ 1 → 1 ≤ digits → digits ≤ most_digits → value * kw_a_tenth ≡ value * 10 ^ (most_digits - digits)
-scaled_one digits value e a b = rw e
-
-pub scaled_two : (digits value : ℕ) → digits ≡ 2 → 1 ≤ digits → digits ≤ most_digits → value * 10 ≡ value * 10 ^ (most_digits - digits)
-scaled_two digits value e a b = rw e
-
-pub scaled_three : (digits value : ℕ) → (digits ≡ 1 → ⊥) → (digits ≡ 2 → ⊥) → 1 ≤ digits → digits ≤ most_digits → value ≡ value * 10 ^ (most_digits - digits)
-scaled_three digits value x y a b = let q : digits ≡ 3 = omega arith in rw q (omega arith)
-
-module _ (whole digits value thousandths : ℕ) (e : 1 ≤ digits → digits ≤ most_digits → thousandths ≡ value * 10 ^ (most_digits - digits)) where
-  pub kw_above : most_kw < whole * kw_a_mw + thousandths → 1 ≤ digits → digits ≤ most_digits → suc most_kw ≡ min (kw_of whole digits value) (suc most_kw)
-  kw_above h a b = rw (← e a b) (omega arith)
-
-  pub kw_within : whole * kw_a_mw + thousandths ≤ most_kw → 1 ≤ digits → digits ≤ most_digits → whole * kw_a_mw + thousandths ≡ min (kw_of whole digits value) (suc most_kw)
-  kw_within h a b = rw (← e a b) (omega arith)
 
 -- what is told apart up to the cap is told apart up to the limit
 kw_near : (n count value n' value' : ℕ) → n' ≡ min n cap → value' ≡ min value cap → 1 ≤ count → count ≤ most_digits
@@ -164,4 +147,4 @@ module _ (past : Past) (l : Listed) (t : Tail) (samples : List ℤ) (k : ℕ) (m
       → ClosesTo past l t samples (record { id = l.id; count = l.count + 1; wide = l.wide }) samples'
   sample_in s samples' e q = record { counted = refl; closes = closes_in s samples' e q }
 
-pub ruleset closing = (kw_above, kw_within, scaled_one, scaled_two, scaled_three, set_out, sample_in, sample_out)
+pub ruleset closing = (sample_in, sample_out)

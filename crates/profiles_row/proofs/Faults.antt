@@ -1,63 +1,26 @@
 -- A row that ends: its ids in the table, and the number of its first fault. Assumes nothing.
-use Prim.Native.Nat.{ℕ, ◌+◌, ◌*◌, ◌-◌, ◌/◌, ◌≤◌, ◌<◌}
+use Prim.Native.Nat.{ℕ, ◌+◌, ◌*◌, ◌/◌, ◌≤◌}
 use mathlib.Core.Path.{◌≡◌, refl, ap, sym, ◌∙◌}
 use mathlib.Core.Bool.{Bool, true, false, not, cond, ◌&&◌}
-use mathlib.Core.List.{List, [], ◌∷◌, ◌++◌}
+use mathlib.Core.List.{List}
 use native.Mathlib.Omega.{arith}
 use native.Mathlib.Nat.{div-mul-le_self}
 use lib.Dec.{leb, ltb, eqb}
-use lib.ListN.{length, take, drop, length-append, length-map}
-use lib.Seq.{take-append-le, take_all, get_or-append_seam}
+use lib.ListN.{length, take, drop, length-map}
 use lib.IntN.{ℤ, nat_abs}
-use borrow.Author.Tests.{lt-ltb, le-ltb, le-leb, lt-leb, leb-true, not-true, not-false}
+use borrow.Author.Tests.{leb-true, not-true, not-false}
 use Rattle.rules.specs.Limits.{most_kw, most_id, most_profiles, most_sampled, most_samples, profile_width}
 use Rattle.rules.specs.Lists.{any, every, over}
 use Rattle.rules.specs.Answers.{Judged, wrong, right, out_of_range, too_many, already_seen, no_room}
 use Rattle.rules.specs.Profiles.{Curve, sampled}
-use Rattle.tables_ids.specs.Column.{column, curve_ids_of, is_new, Ascending, Last, Rising}
+use Rattle.tables_ids.specs.Column.{column, curve_ids_of, is_new, Last, Rising}
 use Rattle.tables_ids.proofs.Written.{new_among}
 use Rattle.tables_ids.proofs.Curves.{curves-column}
-use Rattle.tables_ids.proofs.Halves.{ascending_more}
 use Rattle.profiles_row.specs.declared.row.Past.{Past}
 use Rattle.profiles_row.specs.declared.row.Listed.{Listed}
-use Rattle.profiles_row.specs.Row.{curve, profile_table, in_range, Climbs, Closed, Going, Ending, fault_or, Faults}
+use Rattle.profiles_row.specs.Row.{curve, profile_table, in_range, Closed, Going, Ending, fault_or, Faults}
 use Rattle.rules.proofs.Lists.{over-length}
 use Rattle.profiles_row.proofs.Tables.{table-length}
-
--- ---- one id more
-
-take_front : {A : Type 0} (n : ℕ) (xs : List A) (x : A) → n ≤ length xs → take n (xs ++ x ∷ []) ≡ take n xs
-take_front n xs x h = take-append-le n xs (x ∷ []) h
-
-module _ (past : Past) (id : ℕ) where
-  pub climb_still : Climbs past id (record { rising = past.rising; last = past.last })
-  climb_still ids e c =
-      let q : take past.rising (ids ++ id ∷ []) ≡ take past.rising ids = take_front past.rising ids id c.within in
-      record {
-        within = rw (length-append ids (id ∷ [])) (omega (arith, c.within));
-        ascending = rw q c.ascending;
-        top = rw q c.top;
-      }
-
-  climb_up : past.rising ≡ past.profiles → (0 < past.rising → past.last < id) → Climbs past id (record { rising = past.rising + 1; last = id })
-  climb_up e above ids long c =
-      let all : length ids ≡ past.rising = long ∙ sym e in
-      let same : take past.rising ids ≡ ids = take_all past.rising ids (omega arith) in
-      let len : length (ids ++ id ∷ []) ≡ past.rising + 1 = length-append ids (id ∷ []) ∙ ap (λ n. n + 1) all in
-      let q : take (past.rising + 1) (ids ++ id ∷ []) ≡ ids ++ id ∷ [] = take_all (past.rising + 1) (ids ++ id ∷ []) (omega arith) in
-      let up : Ascending ids = rw same at c.ascending in
-      let top : Last ids past.last = rw same at c.top in
-      record {
-        within = omega arith;
-        ascending = rw q (ascending_more ids past.last id up top (λ h. above (omega arith)));
-        top = rw q (λ h. let n : length (ids ++ id ∷ []) - 1 ≡ length ids = omega arith in rw n (get_or-append_seam ids id [] 0));
-      }
-
-  pub climb_first : past.rising ≡ past.profiles → past.rising ≡ 0 → Climbs past id (record { rising = past.rising + 1; last = id })
-  climb_first e h = climb_up e (λ z. absurd (omega arith))
-
-  pub climb_above : past.rising ≡ past.profiles → past.last < id → Climbs past id (record { rising = past.rising + 1; last = id })
-  climb_above e h = climb_up e (λ z. h)
 
 -- ---- the ids in the table
 
@@ -154,33 +117,4 @@ module _ (past : Past) (l : Listed) (profiles : List ℕ) (room : ℕ) where
             go true = refl
             go false = refl
 
--- ---- leaves
-
-pub id_wide : (v : ℕ) → most_id < v → true ≡ ltb most_id v
-id_wide v h = sym (lt-ltb most_id v h)
-
-pub id_fits : (v : ℕ) → v ≤ most_id → false ≡ ltb most_id v
-id_fits v h = sym (le-ltb most_id v h)
-
-pub counts-profiles : (past : Past) (l : Listed) → most_profiles ≤ past.profiles → false ≡ counts_fit past l
-counts-profiles past l h = rw (le-ltb past.profiles most_profiles h)
-
-pub counts-row : (past : Past) (l : Listed) → past.profiles < most_profiles → most_sampled < l.count → false ≡ counts_fit past l
-counts-row past l h k = rw (lt-ltb past.profiles most_profiles h, lt-leb l.count most_sampled k)
-
-pub counts_all : (past : Past) (l : Listed) → past.profiles < most_profiles → l.count ≤ most_sampled → leb (past.samples + l.count) most_samples ≡ counts_fit past l
-counts_all past l h k = rw (lt-ltb past.profiles most_profiles h, le-leb l.count most_sampled k)
-
-pub room_profiles : (past : Past) (l : Listed) (profiles samples : ℕ) → profiles / profile_width ≤ past.profiles → no_room ≡ cond (takes_row past l profiles samples) 0 no_room
-room_profiles past l profiles samples h = rw (le-ltb past.profiles (profiles / profile_width) h)
-
-pub room_samples : (past : Past) (l : Listed) (profiles samples : ℕ) → past.profiles < profiles / profile_width → samples < past.samples + l.count
-    → no_room ≡ cond (takes_row past l profiles samples) 0 no_room
-room_samples past l profiles samples h k = rw (lt-ltb past.profiles (profiles / profile_width) h, lt-leb (past.samples + l.count) samples k)
-
-pub room_all : (past : Past) (l : Listed) (profiles samples : ℕ) → past.profiles < profiles / profile_width → past.samples + l.count ≤ samples
-    → 0 ≡ cond (takes_row past l profiles samples) 0 no_room
-room_all past l profiles samples h k = rw (lt-ltb past.profiles (profiles / profile_width) h, le-leb (past.samples + l.count) samples k)
-
-pub ruleset faults =
-    (id_wide, id_fits, climb_still, climb_first, climb_above, counts-profiles, counts-row, counts_all, room_profiles, room_samples, room_all, fault_wide, fault_count, fault_seen, fault_room, ending_rising, ending_top)
+pub ruleset faults = (fault_wide, fault_count, fault_seen, fault_room, ending_rising, ending_top)

@@ -1,14 +1,10 @@
 -- The code's number is the machine's, told apart up to a cap that is above every limit.
-use Rattle.std.specs.Prelude.{ℕ, ◌+◌, min, ◌≡◌}
+use Rattle.std.specs.Prelude.{ℕ, ◌+◌, min, ◌≡◌, Option as Answer, Some, None}
 use Rattle.std.proofs.Math.Option.{Option, none, some}
 use Rattle.rules.specs.Limits.{most_id}
 use Rattle.csv_machine.specs.Number.{Number as Whole, empty, zero, digits, number_step, number_end}
 use Rattle.profiles_row.specs.declared.number.Number.{Number}
 use Rattle.profiles_row.specs.declared.number.Number.TheVariants.{Empty, Zero, Digits}
-use Rattle.profiles_row.specs.declared.number.Pushed.{Pushed}
-use Rattle.profiles_row.specs.declared.number.Pushed.TheVariants.{To, Broken}
-use Rattle.profiles_row.specs.declared.number.Ended.{Ended}
-use Rattle.profiles_row.specs.declared.number.Ended.TheVariants.{Value, Broken as Unfit}
 
 abbrev pub cap : ℕ
 cap = most_id + 1
@@ -19,17 +15,17 @@ pub data Near : Number → Whole → Type 0 where
   digits_near : {v n : ℕ} → v ≡ min n cap → Near (Digits v) (digits n)
 
 -- after one digit more
-pub data NearNext : Pushed → Option Whole → Type 0 where
-  next_near : {n : Number} {m : Whole} → Near n m → NearNext (To n) (some m)
-  next_broken : NearNext Broken none
+pub data NearNext : Answer Number → Option Whole → Type 0 where
+  next_near : {n : Number} {m : Whole} → Near n m → NearNext (Some n) (some m)
+  next_broken : NearNext None none
 
-abbrev pub Pushes : Number → ℕ → Pushed → Type 0
+abbrev pub Pushes : Number → ℕ → Answer Number → Type 0
 Pushes n b r = (m : Whole) → Near n m → NearNext r (number_step m b)
 
 -- at the end
-pub data NearEnd : Ended → Option ℕ → Type 0 where
-  end_near : {v n : ℕ} → v ≡ min n cap → NearEnd (Value v) (some n)
-  end-broken : NearEnd Unfit none
+pub data NearEnd : Answer ℕ → Option ℕ → Type 0 where
+  end_near : {v n : ℕ} → v ≡ min n cap → NearEnd (Some v) (some n)
+  end-broken : NearEnd None none
 
-abbrev pub Ends : Number → Ended → Type 0
+abbrev pub Ends : Number → Answer ℕ → Type 0
 Ends n r = (m : Whole) → Near n m → NearEnd r (number_end m)

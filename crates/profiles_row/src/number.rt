@@ -16,56 +16,40 @@ impl Number {
     pub const CAP: u32 = Id::MOST + 1;
 }
 
-// A digit more, or a needless leading zero.
-#[derive(Clone, Copy)]
-pub enum Pushed {
-    To(Number),
-    Broken,
-}
-
-// What the number says, where it has a digit.
-#[derive(Clone, Copy)]
-pub enum Ended {
-    Value(u32),
-    Broken,
-}
-
 // The value with one digit more.
 pub fn push(value: u32, b: u8) -> u32
     requires { (digit_zero ≤ b) × (b ≤ digit_nine) }
     ensures { result ≡ min (value * 10 + (b - digit_zero)) cap }
 {
-    let wide = (value as u64) * 10 + ((b - b'0') as u64);
-    if (Number::CAP as u64) < wide {
-        Number::CAP
-    } else {
-        wide as u32
-    }
+    let wide = u64::from(value) * 10 + u64::from(b - b'0');
+    wide.min(u64::from(Number::CAP)) as u32
 }
 
-pub fn number_step(n: Number, b: u8) -> Pushed
+// With one digit more; none where its leading zero is needless.
+pub fn number_step(n: Number, b: u8) -> Option<Number>
     requires { (digit_zero ≤ b) × (b ≤ digit_nine) }
     ensures { Pushes n b result }
 {
     match n {
         Number::Empty => {
             if b == b'0' {
-                Pushed::To(Number::Zero)
+                Some(Number::Zero)
             } else {
-                Pushed::To(Number::Digits((b - b'0') as u32))
+                Some(Number::Digits(u32::from(b - b'0')))
             }
         }
-        Number::Zero => Pushed::Broken,
-        Number::Digits(value) => Pushed::To(Number::Digits(push(value, b))),
+        Number::Zero => None,
+        Number::Digits(value) => Some(Number::Digits(push(value, b))),
     }
 }
 
-pub fn number_end(n: Number) -> Ended
+// What it says, where it has a digit.
+pub fn number_end(n: Number) -> Option<u32>
     ensures { Ends n result }
 {
     match n {
-        Number::Empty => Ended::Broken,
-        Number::Zero => Ended::Value(0),
-        Number::Digits(value) => Ended::Value(value),
+        Number::Empty => None,
+        Number::Zero => Some(0),
+        Number::Digits(value) => Some(value),
     }
 }

@@ -11,6 +11,7 @@ use rules::sizes::{Id, Profile, ProfileMade, Sample};
 
 // The rows that are closed: how many, how many samples they have, how many ids rise from the first on and the last of these;
 // and where the open row starts.
+// Kept (no plainer): each number holds at every row; before the first id none rise and the last is 0.
 #[derive(Clone, Copy)]
 pub struct Past {
     pub place: u32,
@@ -21,6 +22,7 @@ pub struct Past {
 }
 
 // The open row past its id: how many samples are closed, and whether a number is out of range.
+// Kept (no plainer): after a number out of range the samples are counted on, so the flag takes nothing away.
 #[derive(Clone, Copy)]
 pub struct Listed {
     pub id: u32,
@@ -32,21 +34,15 @@ pub struct Listed {
 pub fn list_of(id: u32) -> Listed
     ensures { (result.id ≡ id) × ((result.count ≡ 0) × (result.wide ≡ ltb most_id id)) }
 {
-    if Id::MOST < id {
-        return Listed {
-            id,
-            count: 0,
-            wide: true,
-        };
-    }
     Listed {
         id,
         count: 0,
-        wide: false,
+        wide: Id::MOST < id,
     }
 }
 
 // How many ids rise from the first on, and the last of these.
+// Kept (no plainer): both numbers hold after every row, as in `Past`.
 #[derive(Clone, Copy)]
 pub struct Rise {
     pub rising: u32,
@@ -57,19 +53,11 @@ pub fn climb(past: Past, id: u32) -> Rise
     requires { past.profiles < most_profiles }
     ensures { Climbs past id result }
 {
-    if past.rising == past.profiles {
-        if past.last < id {
-            return Rise {
-                rising: past.rising + 1,
-                last: id,
-            };
-        }
-        if past.rising == 0 {
-            return Rise {
-                rising: past.rising + 1,
-                last: id,
-            };
-        }
+    if past.rising == past.profiles && (past.last < id || past.rising == 0) {
+        return Rise {
+            rising: past.rising + 1,
+            last: id,
+        };
     }
     Rise {
         rising: past.rising,
@@ -81,29 +69,25 @@ pub fn climb(past: Past, id: u32) -> Rise
 fn counts_fit(past: Past, l: Listed) -> bool
     ensures { result ≡ (ltb past.profiles most_profiles && (leb l.count most_sampled && leb (past.samples + l.count) most_samples)) }
 {
-    if Profile::MOST <= (past.profiles as usize) {
-        return false;
-    }
-    if Profile::MOST_SAMPLES < l.count {
-        return false;
-    }
-    (past.samples as usize) + (l.count as usize) <= Sample::MOST
+    (past.profiles as usize) < Profile::MOST
+        && l.count <= Profile::MOST_SAMPLES
+        && (past.samples as usize) + (l.count as usize) <= Sample::MOST
 }
 
 // Whether the lent room takes this row: its number, or 0.
 fn room_fault(past: Past, l: Listed, profiles: usize, samples: usize) -> u8
     ensures { result ≡ cond (ltb past.profiles (profiles / profile_width) && leb (past.samples + l.count) samples) 0 no_room }
 {
-    if profiles / Profile::WIDTH <= (past.profiles as usize) {
-        return Refusal::ROOM;
+    if (past.profiles as usize) < profiles / Profile::WIDTH
+        && (past.samples as usize) + (l.count as usize) <= samples
+    {
+        return 0;
     }
-    if samples < (past.samples as usize) + (l.count as usize) {
-        return Refusal::ROOM;
-    }
-    0
+    Refusal::ROOM
 }
 
 // The number of the row's first fault, or 0.
+// Kept (law fault_or): the first fault is a number there, and 0 is none.
 pub fn row_fault(past: Past, l: Listed, profiles: &[u32], room: usize) -> u8
     requires { Ending past l profiles.now room }
     ensures { Faults past l profiles.now room result }
@@ -111,15 +95,15 @@ pub fn row_fault(past: Past, l: Listed, profiles: &[u32], room: usize) -> u8
     if l.wide {
         return Refusal::RANGE;
     }
-    if counts_fit(past, l) {
-        let n = past.profiles as usize;
-        let rising = past.rising as usize;
-        if tables_ids::is_new(profiles, Profile::WIDTH, n, rising, past.last, l.id) {
-            return room_fault(past, l, profiles.len(), room);
-        }
+    if !counts_fit(past, l) {
+        return Refusal::COUNT;
+    }
+    let n = past.profiles as usize;
+    let rising = past.rising as usize;
+    if !tables_ids::is_new(profiles, Profile::WIDTH, n, rising, past.last, l.id) {
         return Refusal::SEEN;
     }
-    Refusal::COUNT
+    room_fault(past, l, profiles.len(), room)
 }
 
 // The entry of a profile.

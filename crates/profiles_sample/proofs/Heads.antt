@@ -1,4 +1,5 @@
 -- A whole id in quotes: its bytes one after the other, under the marks that they set. Assumes nothing.
+use Rattle.std.specs.Prelude.{Option, Some}
 use Prim.Native.Nat.{ℕ, suc, ◌+◌, ◌-◌, ◌/◌, ◌≤◌, ◌<◌}
 use mathlib.Core.Path.{◌≡◌, refl, ap, sym, subst, ◌∙◌}
 use mathlib.Core.Bool.{true, false}
@@ -14,8 +15,6 @@ use Rattle.csv_marks.specs.declared.Mark.TheVariants.{Bare, Within, Behind}
 use Rattle.csv_marks.specs.declared.Act.TheVariants.{To as Moves, Content}
 use Rattle.csv_marks.specs.Turns.{takes, plain_under, turned}
 use Rattle.profiles_row.specs.declared.number.Number.TheVariants.{Empty, Digits}
-use Rattle.profiles_row.specs.declared.number.Pushed.TheVariants.{To}
-use Rattle.profiles_row.specs.declared.number.Ended.TheVariants.{Value}
 use Rattle.profiles_row.specs.declared.row.Past.{Past}
 use Rattle.profiles_row.specs.declared.row.Listed.{Listed}
 use Rattle.profiles_row.proofs.Near.{pushes_first, ends_digits}
@@ -98,7 +97,7 @@ module _ {part : List ℕ} {i : ℕ} (h : i < length part) where
           let n : suc (base + i) ≡ base + (i + 1) = omega arith in
           let x = left (base + i) profiles samples profiles₀ samples₀ text s in
           let steps : Steps (base + i) (Id past (Digits id)) profiles samples (get_or part i 0) (Whole past l false Empty) profiles samples =
-          id_whole past (Digits id) (get_or part i 0) e (Value id) (ends_digits id refl) id refl l after (base + i) profiles samples in
+          id_whole past (Digits id) (get_or part i 0) e (Some id) (ends_digits id refl) id refl l after (base + i) profiles samples in
           record {
             midway = read (length profiles₀ / profile_width) (length samples₀) x.other (get_or part i 0);
             stands =
@@ -127,19 +126,19 @@ crosses_join {part} {from} past id l after h shut parted opened =
     crosses_then first (crosses_then second third)
 
 -- a quote, a first digit, more of them, and what is behind them
-pub heads-at : (part : List ℕ) (from : ℕ) (run : Run) (r : Headed) → from + 2 ≤ length part → get_or part from 0 ≡ quote → digit_zero < get_or part (from + 1) 0 → get_or part (from + 1) 0 ≤ digit_nine
+pub heads-at : (part : List ℕ) (from : ℕ) (run : Run) (r : Option Headed) → from + 2 ≤ length part → get_or part from 0 ≡ quote → digit_zero < get_or part (from + 1) 0 → get_or part (from + 1) 0 ≤ digit_nine
     → Runs part (from + 2) (get_or part (from + 1) 0 - digit_zero) run → Joins part run.next run.value r → Heads part from r
 heads-at part from run r h opened low high runs apart = unheaded
 heads-at part from run r h opened low high runs (joined k shut parted again) =
     let forward : from + 2 ≤ run.next = (runs.of_an_id (record { place = 0; profiles = 0; samples = 0; rising = 0; last = 0 }) Within refl [] []).onward in
-    headed {next = run.next + 3} (omega arith)
+    headed {h = record { id = run.value; next = run.next + 3 }} (omega arith)
     (λ (past : Past) (l : Listed) (after : ListAfter run.value l).
     let two : from + 1 + 1 ≡ from + 2 = omega arith in
     let first : Crosses part from Bare (Id past Empty) (from + 1) Within (Id past Empty) = crosses_to (omega arith) (Id past Empty) Bare Within quote opened refl in
     let digit : Jump part (from + 1) (Id past Empty) (from + 2) (Id past (Digits (get_or part (from + 1) 0 - digit_zero))) =
     subst (λ (j : ℕ). Jump part (from + 1) (Id past Empty) j (Id past (Digits (get_or part (from + 1) 0 - digit_zero)))) two
     (jump_step (get_or part (from + 1) 0) (other_digit (omega arith) high) (omega arith) refl
-    (id_digits_lem past Empty (get_or part (from + 1) 0) (omega arith) high (To (Digits (get_or part (from + 1) 0 - digit_zero)))
+    (id_digits_lem past Empty (get_or part (from + 1) 0) (omega arith) high (Some (Digits (get_or part (from + 1) 0 - digit_zero)))
     (pushes_first (get_or part (from + 1) 0) refl (omega arith) high (λ z. omega arith)) (Digits (get_or part (from + 1) 0 - digit_zero)) refl)) in
     crosses_then first (crosses_then (crosses_jump Within refl digit) (crosses_then (crosses_jump Within refl (runs.of_an_id past)) (crosses_join past run.value l after k shut parted again))))
 

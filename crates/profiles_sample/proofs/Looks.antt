@@ -1,4 +1,5 @@
 -- A whole sample at once: its bytes one after the other, up to the space behind it. Assumes nothing.
+use Rattle.std.specs.Prelude.{Option, Some}
 use Prim.Native.Nat.{ℕ, ◌+◌, ◌*◌, ◌-◌, ◌≤◌, ◌<◌, min}
 use mathlib.Core.Path.{◌≡◌, refl, sym}
 use mathlib.Core.Bool.{Bool, true, false}
@@ -8,12 +9,8 @@ use lib.ListN.{length, get_or}
 use Rattle.rules.specs.Bytes.{digit_zero, digit_nine, point, minus}
 use Rattle.profiles_row.specs.declared.number.Number.{Number}
 use Rattle.profiles_row.specs.declared.number.Number.TheVariants.{Empty, Zero, Digits}
-use Rattle.profiles_row.specs.declared.number.Pushed.TheVariants.{To}
-use Rattle.profiles_row.specs.declared.number.Ended.{Ended}
-use Rattle.profiles_row.specs.declared.number.Ended.TheVariants.{Value}
 use Rattle.profiles_sample.specs.declared.Run.{Run}
 use Rattle.profiles_sample.specs.declared.Pointed.{Pointed}
-use Rattle.profiles_sample.specs.declared.Pointed.TheVariants.{At}
 use Rattle.profiles_sample.specs.declared.Sign.{Sign}
 use Rattle.profiles_sample.specs.declared.Spaced.{Spaced}
 use Rattle.profiles_row.specs.declared.row.Past.{Past}
@@ -49,12 +46,12 @@ module _ {part : List ℕ} {from value v i : ℕ} (r : Running part from value v
         ids =
             λ past mark t profiles samples. leap_then (r.ids past mark t profiles samples)
             (jump_step (get_or part i 0) (other_digit low high) h refl
-            (id_digits_lem past (Digits v) (get_or part i 0) low high (To (Digits w)) (pushes_next (get_or part i 0) v w refl low high e) (Digits w) refl)
+            (id_digits_lem past (Digits v) (get_or part i 0) low high (Some (Digits w)) (pushes_next (get_or part i 0) v w refl low high e) (Digits w) refl)
             mark t profiles samples);
         jumps =
             λ past l negative mark t profiles samples. leap_then (r.jumps past l negative mark t profiles samples)
             (jump_step (get_or part i 0) (other_digit low high) h refl
-            (whole_digits past l negative (Digits v) (get_or part i 0) low high (To (Digits w)) (pushes_next (get_or part i 0) v w refl low high e) (Digits w) refl)
+            (whole_digits past l negative (Digits v) (get_or part i 0) low high (Some (Digits w)) (pushes_next (get_or part i 0) v w refl low high e) (Digits w) refl)
             mark t profiles samples);
       }
 
@@ -63,21 +60,21 @@ module _ {part : List ℕ} {from value v i : ℕ} (r : Running part from value v
 
 -- ---- the point
 
-pub points_at : {part : List ℕ} {from v : ℕ} {n : Number} {x : Ended} → from < length part → get_or part from 0 ≡ point → Ends n x → x ≡ Value v → Points part from n (At v (from + 1))
+pub points_at : {part : List ℕ} {from v : ℕ} {n : Number} {x : Option ℕ} → from < length part → get_or part from 0 ≡ point → Ends n x → x ≡ Some v → Points part from n (Some (record { whole = v; next = from + 1 }))
 points_at {part} {from} {v} {n} {x} h e ends q =
-    pointed {next = from + 1} (omega arith) (λ past l negative. jump_step point other_point h (sym e) (point_value past l negative n x ends v q))
+    pointed {p = record { whole = v; next = from + 1 }} (omega arith) (λ past l negative. jump_step point other_point h (sym e) (point_value past l negative n x ends v q))
 
 -- a first digit, and what stands behind it
 module _ {part : List ℕ} {from : ℕ} (h : from < length part) (low : digit_zero ≤ get_or part from 0) (high : get_or part from 0 ≤ digit_nine) where
-  pub points_zero : {r : Pointed} → get_or part from 0 ≡ digit_zero → Points part (from + 1) Zero r → Points part from Empty r
+  pub points_zero : {r : Option Pointed} → get_or part from 0 ≡ digit_zero → Points part (from + 1) Zero r → Points part from Empty r
   points_zero z missed = missed
   points_zero z (pointed k f) =
       pointed k
       (λ past l negative mark t profiles samples. leap_then
-      (jump_step (get_or part from 0) (other_digit low high) h refl (whole_digits past l negative Empty (get_or part from 0) low high (To Zero) (pushes_zero (get_or part from 0) refl low high z) Zero refl) mark t profiles samples)
+      (jump_step (get_or part from 0) (other_digit low high) h refl (whole_digits past l negative Empty (get_or part from 0) low high (Some Zero) (pushes_zero (get_or part from 0) refl low high z) Zero refl) mark t profiles samples)
       (f past l negative mark t profiles samples))
 
-  pub points_digits : {run : Run} {r : Pointed} → (get_or part from 0 ≡ digit_zero → ⊥) → Runs part (from + 1) (get_or part from 0 - digit_zero) run
+  pub points_digits : {run : Run} {r : Option Pointed} → (get_or part from 0 ≡ digit_zero → ⊥) → Runs part (from + 1) (get_or part from 0 - digit_zero) run
       → Points part run.next (Digits run.value) r → Points part from Empty r
   points_digits z runs missed = missed
   points_digits z runs (pointed k f) =
@@ -85,7 +82,7 @@ module _ {part : List ℕ} {from : ℕ} (h : from < length part) (low : digit_ze
       (λ past l negative mark t profiles samples. leap_then
       (leap_then
       (jump_step (get_or part from 0) (other_digit low high) h refl
-      (whole_digits past l negative Empty (get_or part from 0) low high (To (Digits (get_or part from 0 - digit_zero))) (pushes_first (get_or part from 0) refl low high z) (Digits (get_or part from 0 - digit_zero)) refl)
+      (whole_digits past l negative Empty (get_or part from 0) low high (Some (Digits (get_or part from 0 - digit_zero))) (pushes_first (get_or part from 0) refl low high z) (Digits (get_or part from 0 - digit_zero)) refl)
       mark t profiles samples)
       (runs.of_a_sample past l negative mark t profiles samples))
       (f past l negative mark t profiles samples))
@@ -110,32 +107,32 @@ module _ {part : List ℕ} {from : ℕ} {negative : Bool} {whole digits value i 
             (jump_step (get_or part i 0) (other_digit low high) h refl (fraction_digits past l (tail negative whole digits value) (get_or part i 0) w low high few e) mark t profiles samples);
       }
 
-  pub fractioning_end : {x : Spaced} → i < length part → Spaces (get_or part i 0) i negative whole digits value x → Fractions part from negative whole x
+  pub fractioning_end : {x : Option Spaced} → i < length part → Spaces (get_or part i 0) i negative whole digits value x → Fractions part from negative whole x
   fractioning_end h unspaced = unlasting
-  fractioning_end h (spaced e z) = lasting h e z r.jumps
+  fractioning_end h (spaced e z) = lasting {s = record { tail = tail negative whole digits value; next = i }} h e z r.jumps
 
 -- ---- the sample
 
-pub points_inside : {part : List ℕ} {from w next : ℕ} {n : Number} {x : Pointed} → Points part from n x → x ≡ At w next → next ≤ length part
-points_inside {part} {from} {w} {next} {n} p e = go (rw e at p)
+pub points_inside : {part : List ℕ} {from : ℕ} {n : Number} {x : Option Pointed} {p : Pointed} → Points part from n x → x ≡ Some p → p.next ≤ length part
+points_inside {part} {from} {n} {p = p} points e = go (rw e at points)
   where
-    go : Points part from n (At w next) → next ≤ length part
+    go : Points part from n (Some p) → p.next ≤ length part
     go (pointed h f) = h
 
-pub samples_at : {part : List ℕ} {from w next : ℕ} {negative : Bool} {x : Pointed} {r : Spaced} → Points part from Empty x → x ≡ At w next → Fractions part next negative w r
+pub samples_at : {part : List ℕ} {from : ℕ} {negative : Bool} {x : Option Pointed} {p : Pointed} {r : Option Spaced} → Points part from Empty x → x ≡ Some p → Fractions part p.next negative p.whole r
     → Samples part from negative r
-samples_at {part} {from} {w} {next} {negative} p e f = go (rw e at p) f
+samples_at {part} {from} {negative} {p = p} points e f = go (rw e at points) f
   where
-    go : {r : Spaced} → Points part from Empty (At w next) → Fractions part next negative w r → Samples part from negative r
+    go : {r : Option Spaced} → Points part from Empty (Some p) → Fractions part p.next negative p.whole r → Samples part from negative r
     go (pointed h g) unlasting = unlasting
     go (pointed h g) (lasting k e z j) = lasting k e z (λ past l mark t profiles samples. leap_then (g past l negative mark t profiles samples) (j past l mark t profiles samples))
 
-samples_minus : {part : List ℕ} {from : ℕ} {r : Spaced} → from < length part → get_or part from 0 ≡ minus → Samples part (from + 1) true r → Samples part from false r
+samples_minus : {part : List ℕ} {from : ℕ} {r : Option Spaced} → from < length part → get_or part from 0 ≡ minus → Samples part (from + 1) true r → Samples part from false r
 samples_minus h e unlasting = unlasting
 samples_minus h e (lasting k s z j) =
     lasting k s z (λ past l mark t profiles samples. leap_then (jump_step minus other_minus h (sym e) (minus-first past l false Empty refl refl) mark t profiles samples) (j past l mark t profiles samples))
 
-pub samples_signed : {part : List ℕ} {from : ℕ} {s : Sign} {r : Spaced} → from < length part → Signs part from s → Samples part s.next s.negative r → Samples part from false r
+pub samples_signed : {part : List ℕ} {from : ℕ} {s : Sign} {r : Option Spaced} → from < length part → Signs part from s → Samples part s.next s.negative r → Samples part from false r
 samples_signed h (signed e) x = samples_minus h e x
 samples_signed h unsigned x = x
 

@@ -6,7 +6,7 @@ ghost use Rattle.profiles_sample.specs.Quick.{Runs, Points, Spaces, Fractions, S
 ghost use Rattle.profiles_sample.specs.Heads.{Joins, Heads};
 
 use profiles_row::number;
-use profiles_row::number::{Ended, Number};
+use profiles_row::number::Number;
 use profiles_row::sample::Tail;
 
 // Digits after others: the number that they make, and the place behind them.
@@ -16,137 +16,133 @@ pub struct Run {
     pub next: usize,
 }
 
+#[tactic(auto, using(crate::proofs::Looks::quick))]
 fn digit_run(part: &[u8], from: usize, value: u32) -> Run
     requires { from ≤ length part.now }
     ensures { Runs part.now from value result }
 {
     let mut v = value;
-    let mut i = from;
-    while i < part.len() {
+    for i in from..part.len() {
         let b = part[i];
-        if b < b'0' {
-            return Run { value: v, next: i };
-        }
-        if b'9' < b {
+        if b < b'0' || b'9' < b {
             return Run { value: v, next: i };
         }
         v = number::push(v, b);
-        i += 1;
     }
-    Run { value: v, next: i }
+    Run {
+        value: v,
+        next: part.len(),
+    }
 }
 
 // A whole number and its point: the number, and the place behind the point.
 #[derive(Clone, Copy)]
-pub enum Pointed {
-    At(u32, usize),
-    Miss,
+pub struct Pointed {
+    pub whole: u32,
+    pub next: usize,
 }
 
-fn point_at(part: &[u8], from: usize, n: Number) -> Pointed
+#[tactic(auto, using(crate::proofs::Looks::quick))]
+fn point_at(part: &[u8], from: usize, n: Number) -> Option<Pointed>
     ensures { Points part.now from n result }
 {
-    if part.len() <= from {
-        return Pointed::Miss;
+    if *part.get(from)? != b'.' {
+        return None;
     }
-    if part[from] != b'.' {
-        return Pointed::Miss;
-    }
-    match number::number_end(n) {
-        Ended::Value(whole) => Pointed::At(whole, from + 1),
-        Ended::Broken => Pointed::Miss,
-    }
+    let whole = number::number_end(n)?;
+    Some(Pointed {
+        whole,
+        next: from + 1,
+    })
 }
 
-fn whole_at(part: &[u8], from: usize) -> Pointed
+#[tactic(auto, using(crate::proofs::Looks::quick))]
+fn whole_at(part: &[u8], from: usize) -> Option<Pointed>
     ensures { Points part.now from Number.Empty result }
 {
-    if part.len() <= from {
-        return Pointed::Miss;
-    }
-    let b = part[from];
-    if b < b'0' {
-        return Pointed::Miss;
-    }
-    if b'9' < b {
-        return Pointed::Miss;
+    let b = *part.get(from)?;
+    if b < b'0' || b'9' < b {
+        return None;
     }
     if b == b'0' {
         return point_at(part, from + 1, Number::Zero);
     }
-    let run = digit_run(part, from + 1, (b - b'0') as u32);
+    let run = digit_run(part, from + 1, u32::from(b - b'0'));
     point_at(part, run.next, Number::Digits(run.value))
 }
 
 // A sample up to the space behind it, and the space's place.
 #[derive(Clone, Copy)]
-pub enum Spaced {
-    At(Tail, usize),
-    Miss,
+pub struct Spaced {
+    pub tail: Tail,
+    pub next: usize,
 }
 
-fn space_at(b: u8, next: usize, negative: bool, whole: u32, digits: u32, value: u32) -> Spaced
+#[tactic(auto, using(crate::proofs::Looks::quick))]
+fn space_at(
+    b: u8,
+    next: usize,
+    negative: bool,
+    whole: u32,
+    digits: u32,
+    value: u32,
+) -> Option<Spaced>
     ensures { Spaces b next negative whole digits value result }
 {
     if b != b' ' {
-        return Spaced::Miss;
+        return None;
     }
     if digits == 0 {
-        return Spaced::Miss;
+        return None;
     }
-    Spaced::At(
-        Tail {
-            negative,
-            whole,
-            digits,
-            value,
-        },
-        next,
-    )
+    let tail = Tail {
+        negative,
+        whole,
+        digits,
+        value,
+    };
+    Some(Spaced { tail, next })
 }
 
 // The digits past a point, three at most, and a space.
-fn fraction_at(part: &[u8], from: usize, negative: bool, whole: u32) -> Spaced
+#[tactic(auto, using(crate::proofs::Looks::quick))]
+fn fraction_at(part: &[u8], from: usize, negative: bool, whole: u32) -> Option<Spaced>
     requires { from ≤ length part.now }
     ensures { Fractions part.now from negative whole result }
 {
     let mut digits: u32 = 0;
     let mut value: u32 = 0;
-    let mut i = from;
-    while i < part.len() {
+    for i in from..part.len() {
         let b = part[i];
         if b < b'0' {
             return space_at(b, i, negative, whole, digits, value);
         }
-        if b'9' < b {
-            return Spaced::Miss;
-        }
-        if Tail::MOST_DIGITS <= digits {
-            return Spaced::Miss;
+        if b'9' < b || Tail::MOST_DIGITS <= digits {
+            return None;
         }
         value = number::push(value, b);
         digits += 1;
-        i += 1;
     }
-    Spaced::Miss
+    None
 }
 
-fn unsigned_at(part: &[u8], from: usize, negative: bool) -> Spaced
+#[tactic(auto, using(crate::proofs::Looks::quick))]
+fn unsigned_at(part: &[u8], from: usize, negative: bool) -> Option<Spaced>
     ensures { Samples part.now from negative result }
 {
-    match whole_at(part, from) {
-        Pointed::At(whole, next) => fraction_at(part, next, negative, whole),
-        Pointed::Miss => Spaced::Miss,
-    }
+    let pointed = whole_at(part, from)?;
+    fraction_at(part, pointed.next, negative, pointed.whole)
 }
 
 // Whether a sample begins with a minus, and the place of its first digit.
+// Kept (no plainer): the place is told with a minus and without.
 #[derive(Clone, Copy)]
 pub struct Sign {
     pub negative: bool,
     pub next: usize,
 }
 
+#[tactic(auto, using(crate::proofs::Looks::quick))]
 fn sign_at(part: &[u8], from: usize) -> Sign
     requires { from < length part.now }
     ensures { Signs part.now from result }
@@ -163,11 +159,12 @@ fn sign_at(part: &[u8], from: usize) -> Sign
     }
 }
 
-pub fn sample_at(part: &[u8], from: usize) -> Spaced
+#[tactic(auto, using(crate::proofs::Looks::quick))]
+pub fn sample_at(part: &[u8], from: usize) -> Option<Spaced>
     ensures { Samples part.now from false result }
 {
     if part.len() <= from {
-        return Spaced::Miss;
+        return None;
     }
     let sign = sign_at(part, from);
     unsigned_at(part, sign.next, sign.negative)
@@ -175,9 +172,9 @@ pub fn sample_at(part: &[u8], from: usize) -> Spaced
 
 // An id in quotes, its comma and the quote that opens the list: the id, and the place behind that quote.
 #[derive(Clone, Copy)]
-pub enum Headed {
-    At(u32, usize),
-    Miss,
+pub struct Headed {
+    pub id: u32,
+    pub next: usize,
 }
 
 impl Headed {
@@ -190,46 +187,49 @@ impl Headed {
 
 // What stands behind the digits of an id in quotes.
 #[tactic(auto, using(crate::proofs::Heads::heading))]
-fn join_at(part: &[u8], from: usize, id: u32) -> Headed
+fn join_at(part: &[u8], from: usize, id: u32) -> Option<Headed>
     ensures { Joins part.now from id result }
 {
     if part.len() < Headed::BEHIND {
-        return Headed::Miss;
+        return None;
     }
     if part.len() - Headed::BEHIND < from {
-        return Headed::Miss;
+        return None;
     }
     if part[from] != b'"' {
-        return Headed::Miss;
+        return None;
     }
     if part[from + 1] != b',' {
-        return Headed::Miss;
+        return None;
     }
     if part[from + 2] != b'"' {
-        return Headed::Miss;
+        return None;
     }
-    Headed::At(id, from + Headed::BEHIND)
+    Some(Headed {
+        id,
+        next: from + Headed::BEHIND,
+    })
 }
 
-pub fn head_at(part: &[u8], from: usize) -> Headed
+pub fn head_at(part: &[u8], from: usize) -> Option<Headed>
     ensures { Heads part.now from result }
 {
     if part.len() < Headed::BEFORE {
-        return Headed::Miss;
+        return None;
     }
     if part.len() - Headed::BEFORE < from {
-        return Headed::Miss;
+        return None;
     }
     if part[from] != b'"' {
-        return Headed::Miss;
+        return None;
     }
     let b = part[from + 1];
     if b <= b'0' {
-        return Headed::Miss;
+        return None;
     }
     if b'9' < b {
-        return Headed::Miss;
+        return None;
     }
-    let run = digit_run(part, from + Headed::BEFORE, (b - b'0') as u32);
+    let run = digit_run(part, from + Headed::BEFORE, u32::from(b - b'0'));
     join_at(part, run.next, run.value)
 }

@@ -8,7 +8,7 @@ use native.Mathlib.Omega.{arith}
 use lib.Dec.{eqb}
 use lib.ListN.{length}
 use lib.IntN.{ℤ}
-use borrow.Author.Tests.{eq-eqb, ne_eqb}
+use borrow.Author.Tests.{ne_eqb}
 use Rattle.rules.specs.Limits.{profile_width}
 use Rattle.rules.specs.Answers.{bad_row, Judged, wrong, right}
 use Rattle.rules.specs.Bytes.{line_feed, carriage_return, quote, comma, space, point, minus, digit_zero, digit_nine}
@@ -25,13 +25,9 @@ use Rattle.csv_marks.proofs.Follow.{plain_turn, plain_other}
 use Rattle.csv_marks.proofs.Moves.{left}
 use Rattle.csv_marks.proofs.Rows.{RowLeads, row_leads as leads}
 use Rattle.profiles_row.specs.declared.number.Number.{Number}
-use Rattle.profiles_row.specs.declared.row.Past.{Past}
-use Rattle.profiles_row.specs.declared.row.Listed.{Listed}
-use Rattle.profiles_row.specs.declared.sample.Tail.{Tail}
 use Rattle.profiles_row.specs.Near.{Near, empty_near, zero_near, digits_near}
 use Rattle.profiles_row.specs.Sample.{Sample, whole, fraction}
 use Rattle.profiles_state.specs.declared.state.State.{State}
-use Rattle.profiles_state.specs.declared.state.State.TheVariants.{Id, Whole as InWhole, Fraction, Stopped}
 use Rattle.profiles_state.specs.Open.{Open, in_list, open_step, open_end, no_digit, is_fresh, open_begins, Reached, in_row, stopped, on_byte, on_line, reach, Read, contents, machine, read}
 use Rattle.profiles_state.specs.Holds.{Holds, in_id_lem, in_whole, in_fraction, at_stop, Steps, Under, is_empty, list_begins, begins, broken_at, Turns, Passes, passed, leaves}
 use Rattle.profiles_state.proofs.Steps.{onward}
@@ -141,32 +137,6 @@ module _ (profiles samples : ℕ) where
   under_left mark m b (stopped k place) r t u e = (r, e, refl)
 
 -- ---- where a field begins
-
-pub list_some : (count : ℕ) (negative : Bool) (n : Number) → (count ≡ 0 → ⊥) → false ≡ list_begins count negative n
-list_some count negative n h = rw (ne_eqb count 0 h)
-
-pub list_negative : (count : ℕ) (negative : Bool) (n : Number) → count ≡ 0 → negative ≡ true → false ≡ list_begins count negative n
-list_negative count negative n h e = rw (eq-eqb count 0 h, e)
-
-pub list-none : (count : ℕ) (negative : Bool) (n : Number) (x : Bool) → count ≡ 0 → negative ≡ false → x ≡ is_empty n → x ≡ list_begins count negative n
-list-none count negative n x h e q = rw (eq-eqb count 0 h, e) q
-
-pub begins-list : (state : State) (past : Past) (l : Listed) (negative : Bool) (n : Number) (x : Bool) → state ≡ InWhole past l negative n → x ≡ list_begins l.count negative n → x ≡ begins state
-begins-list state past l negative n x e q = rw e q
-
--- the open row is none
-
-pub broken_id : (state : State) (past : Past) (n : Number) → state ≡ Id past n → Stopped bad_row past.place ≡ broken_at state
-broken_id state past n e = rw e
-
-pub broken_whole : (state : State) (past : Past) (l : Listed) (negative : Bool) (n : Number) → state ≡ InWhole past l negative n → Stopped bad_row past.place ≡ broken_at state
-broken_whole state past l negative n e = rw e
-
-pub broken_fraction : (state : State) (past : Past) (l : Listed) (t : Tail) → state ≡ Fraction past l t → Stopped bad_row past.place ≡ broken_at state
-broken_fraction state past l t e = rw e
-
-pub broken_stopped : (state : State) (number place : ℕ) → state ≡ Stopped number place → Stopped number place ≡ broken_at state
-broken_stopped state number place e = rw e
 
 near_empty : {n : Number} {m : Whole} → Near n m → is_empty n ≡ no_digit m
 near_empty empty_near = refl
@@ -284,4 +254,4 @@ pub turn_other : {at : ℕ} {state next : State} {mark : Mark} {b : ℕ} {profil
 turn_other {state = state} {mark = mark} {b = b} t o steps =
     turn_plain {state = state} {mark = mark} b (plain_other mark b t o.no_quote o.no_return o.no_end o.no_comma) steps
 
-pub ruleset marking = (list_some, list_negative, list-none, begins-list, broken_id, broken_whole, broken_fraction, broken_stopped, pass_to, pass_left, pass_broken)
+pub ruleset marking = (pass_to, pass_left, pass_broken)

@@ -1,4 +1,5 @@
 -- An id and the whole part of a sample: each byte takes the code's state where it takes the reading. Assumes nothing.
+use Rattle.std.specs.Prelude.{Option as Answer, Some, None}
 use Prim.Native.Nat.{ℕ, suc, ◌/◌, ◌≤◌, ◌<◌, min}
 use mathlib.Core.Path.{◌≡◌, refl, ap, ◌∙◌}
 use mathlib.Core.Bool.{Bool, true, false, not, cond, ◌&&◌}
@@ -17,10 +18,6 @@ use Rattle.rules.specs.Profiles.{Curve, judge_form, sample_table}
 use Rattle.csv_machine.specs.Number.{Number as Whole, empty, zero, digits, number_step, number_end}
 use Rattle.profiles_row.specs.declared.number.Number.{Number}
 use Rattle.profiles_row.specs.declared.number.Number.TheVariants.{Empty, Zero, Digits}
-use Rattle.profiles_row.specs.declared.number.Pushed.{Pushed}
-use Rattle.profiles_row.specs.declared.number.Pushed.TheVariants.{To, Broken}
-use Rattle.profiles_row.specs.declared.number.Ended.{Ended}
-use Rattle.profiles_row.specs.declared.number.Ended.TheVariants.{Value, Broken as Unfit}
 use Rattle.profiles_row.specs.declared.row.Past.{Past}
 use Rattle.profiles_row.specs.declared.row.Listed.{Listed}
 use Rattle.profiles_row.specs.declared.sample.Tail.{Tail}
@@ -77,24 +74,24 @@ module _ (past : Past) (n : Number) (b : ℕ) where
   id_stop e at profiles samples profiles₀ samples₀ reached (in_id_lem {before = before} {m = m} h c s k) =
       rw (reach_stop (length profiles₀ / profile_width) (length samples₀) past.place at before (in_id m) b (e m k) refl) at_stop
 
-  module _ (l : digit_zero ≤ b) (h : b ≤ digit_nine) (r : Pushed) (pushes : Pushes n b r) where
+  module _ (l : digit_zero ≤ b) (h : b ≤ digit_nine) (r : Answer Number) (pushes : Pushes n b r) where
     id_byte : (m : Whole) → open_step (in_id m) b ≡ (number_step m b >>= (λ next. some (in_id next)))
     unfolding open_step
     id_byte m = rw (ne_eqb b comma (λ q. omega arith))
 
-    pub id_broken : r ≡ Broken → (at : ℕ) → Free at (Id past n) b (Stopped bad_row past.place)
+    pub id_broken : r ≡ None → (at : ℕ) → Free at (Id past n) b (Stopped bad_row past.place)
     id_broken e = id_stop (λ m k. id_byte m ∙ go (number_step m b) (rw e at (pushes m k)))
       where
-        go : (o : Option Whole) → NearNext Broken o → o >>= (λ next. some (in_id next)) ≡ none
+        go : (o : Option Whole) → NearNext None o → o >>= (λ next. some (in_id next)) ≡ none
         go none next_broken = refl
         go (some _) x = elim x [ ]
 
-    pub id_digits_lem : (w : Number) → r ≡ To w → (at : ℕ) → Free at (Id past n) b (Id past w)
+    pub id_digits_lem : (w : Number) → r ≡ Some w → (at : ℕ) → Free at (Id past n) b (Id past w)
     id_digits_lem w e at profiles samples profiles₀ samples₀ reached (in_id_lem {before = before} {m = m} q c s k) =
         rw (reach-byte (length profiles₀ / profile_width) (length samples₀) past.place at before (in_id m) b (λ z. omega arith), id_byte m)
         (go (number_step m b) (rw e at (pushes m k)))
       where
-        go : (o : Option Whole) → NearNext (To w) o
+        go : (o : Option Whole) → NearNext (Some w) o
             → Holds profiles₀ samples₀ (suc at) (Id past w) profiles samples
             (taken (length profiles₀ / profile_width) (length samples₀) past.place at before (o >>= (λ next. some (in_id next))))
         go (some m') (next_near k') = in_id_lem {past = past} (omega arith) c s k'
@@ -109,16 +106,16 @@ module _ (past : Past) (n : Number) (b : ℕ) where
   unfolding open_step
   id_high z h = id_stop (λ m k. rw (ne_eqb b comma z, no_step m b (digit_above b h)))
 
-  module _ (z : b ≡ comma) (r : Ended) (ends : NumberEnds n r) where
-    pub id_unfit : r ≡ Unfit → (at : ℕ) → Free at (Id past n) b (Stopped bad_row past.place)
+  module _ (z : b ≡ comma) (r : Answer ℕ) (ends : NumberEnds n r) where
+    pub id_unfit : r ≡ None → (at : ℕ) → Free at (Id past n) b (Stopped bad_row past.place)
     unfolding open_step
     id_unfit e = id_stop (λ m k. rw (eq-eqb b comma z) (go (number_end m) (rw e at (ends m k))))
       where
-        go : (o : Option ℕ) → NearEnd Unfit o → o >>= (λ id. some (in_list id [] (whole false empty))) ≡ none
+        go : (o : Option ℕ) → NearEnd None o → o >>= (λ id. some (in_list id [] (whole false empty))) ≡ none
         go none end-broken = refl
         go (some _) x = elim x [ ]
 
-    module _ (v : ℕ) (e : r ≡ Value v) (l : Listed) (f : (l.id ≡ v) × ((l.count ≡ 0) × (l.wide ≡ ltb most_id v))) where
+    module _ (v : ℕ) (e : r ≡ Some v) (l : Listed) (f : (l.id ≡ v) × ((l.count ≡ 0) × (l.wide ≡ ltb most_id v))) where
       wide_id : (id : ℕ) → v ≡ min id cap → l.wide ≡ not (leb id most_id && true)
       wide_id id q = f.1.1 ∙ go (leb id most_id) refl
         where
@@ -132,7 +129,7 @@ module _ (past : Past) (n : Number) (b : ℕ) where
           rw (reach-byte (length profiles₀ / profile_width) (length samples₀) past.place at before (in_id m) b (λ y. omega arith), eq-eqb b comma z)
           (go (number_end m) (rw e at (ends m k)))
         where
-          go : (o : Option ℕ) → NearEnd (Value v) o
+          go : (o : Option ℕ) → NearEnd (Some v) o
               → Holds profiles₀ samples₀ (suc at) (InWhole past l false Empty) profiles samples
               (taken (length profiles₀ / profile_width) (length samples₀) past.place at before (o >>= (λ id. some (in_list id [] (whole false empty)))))
           go (some id) (end_near w) =
@@ -200,22 +197,22 @@ module _ (past : Past) (l : Listed) (negative : Bool) (n : Number) (b : ℕ) whe
       rw (reach-byte (length profiles₀ / profile_width) (length samples₀) past.place at before (in_list id done (whole negative m)) b not-Line, ne_eqb b space not-space)
       (f m k profiles₀ samples₀ at profiles samples before id done c (onward g))
 
-  module _ (low : digit_zero ≤ b) (high : b ≤ digit_nine) (r : Pushed) (pushes : Pushes n b r) where
+  module _ (low : digit_zero ≤ b) (high : b ≤ digit_nine) (r : Answer Number) (pushes : Pushes n b r) where
     at_digit : (m : Whole) → whole_step negative m b ≡ (number_step m b >>= (λ next. some (whole negative next)))
     at_digit m = rw (digit_in b low high)
 
-    pub whole_broken : r ≡ Broken → (at : ℕ) → Free at inside b (Stopped bad_row past.place)
+    pub whole_broken : r ≡ None → (at : ℕ) → Free at inside b (Stopped bad_row past.place)
     whole_broken e = whole_stop (λ m k. at_digit m ∙ go (number_step m b) (rw e at (pushes m k)))
       where
-        go : (o : Option Whole) → NearNext Broken o → o >>= (λ next. some (whole negative next)) ≡ none
+        go : (o : Option Whole) → NearNext None o → o >>= (λ next. some (whole negative next)) ≡ none
         go none next_broken = refl
         go (some _) x = elim x [ ]
 
-    pub whole_digits : (w : Number) → r ≡ To w → (at : ℕ) → Free at inside b (InWhole past l negative w)
+    pub whole_digits : (w : Number) → r ≡ Some w → (at : ℕ) → Free at inside b (InWhole past l negative w)
     whole_digits w e =
         whole_on (λ q. omega arith) (λ q. omega arith) (InWhole past l negative w) (λ m k. rw (at_digit m) (go (number_step m b) (rw e at (pushes m k))))
       where
-        go : (o : Option Whole) → NearNext (To w) o → Lands past l (InWhole past l negative w) (o >>= (λ next. some (whole negative next)))
+        go : (o : Option Whole) → NearNext (Some w) o → Lands past l (InWhole past l negative w) (o >>= (λ next. some (whole negative next)))
         go (some m) (next_near k) profiles₀ samples₀ at profiles samples before id done c g = in_whole {past = past} {l = l} c g k
         go none x profiles₀ samples₀ at profiles samples before id done c g = elim x [ ]
 
@@ -228,22 +225,22 @@ module _ (past : Past) (l : Listed) (negative : Bool) (n : Number) (b : ℕ) whe
 -- ---- a point, and a minus
 
 module _ (past : Past) (l : Listed) (negative : Bool) (n : Number) where
-  module _ (r : Ended) (ends : NumberEnds n r) where
-    pub point_unfit : r ≡ Unfit → (at : ℕ) → Free at (InWhole past l negative n) point (Stopped bad_row past.place)
+  module _ (r : Answer ℕ) (ends : NumberEnds n r) where
+    pub point_unfit : r ≡ None → (at : ℕ) → Free at (InWhole past l negative n) point (Stopped bad_row past.place)
     point_unfit e = whole_stop past l negative n point (λ m k. go (number_end m) (rw e at (ends m k)))
       where
-        go : (o : Option ℕ) → NearEnd Unfit o → o >>= (λ w. some (fraction negative w 0 0)) ≡ none
+        go : (o : Option ℕ) → NearEnd None o → o >>= (λ w. some (fraction negative w 0 0)) ≡ none
         go none end-broken = refl
         go (some _) x = elim x [ ]
 
     abbrev begun : ℕ → Tail
     begun v = record { negative = negative; whole = v; digits = 0; value = 0 }
 
-    pub point_value : (v : ℕ) → r ≡ Value v → (at : ℕ) → Free at (InWhole past l negative n) point (Fraction past l (begun v))
+    pub point_value : (v : ℕ) → r ≡ Some v → (at : ℕ) → Free at (InWhole past l negative n) point (Fraction past l (begun v))
     point_value v e =
         whole_on past l negative n point (λ q. omega arith) (λ q. omega arith) (Fraction past l (begun v)) (λ m k. go (number_end m) (rw e at (ends m k)))
       where
-        go : (o : Option ℕ) → NearEnd (Value v) o → Lands past l (Fraction past l (begun v)) (o >>= (λ w. some (fraction negative w 0 0)))
+        go : (o : Option ℕ) → NearEnd (Some v) o → Lands past l (Fraction past l (begun v)) (o >>= (λ w. some (fraction negative w 0 0)))
         go (some w) (end_near q) profiles₀ samples₀ at profiles samples before id done c g =
             in_fraction {past = past} {l = l} {t = begun v} c g (record { same_whole = q; counted = refl; same_value = refl; few = omega arith })
         go none x profiles₀ samples₀ at profiles samples before id done c g = elim x [ ]

@@ -10,24 +10,14 @@ use rules::answers::Refusal;
 fn is_empty(n: Number) -> bool
     ensures { result ≡ is_empty n }
 {
-    match n {
-        Number::Empty => true,
-        Number::Zero => false,
-        Number::Digits(_) => false,
-    }
+    matches!(n, Number::Empty)
 }
 
 // Nothing of the open list is read.
 fn list_begins(count: u32, negative: bool, n: Number) -> bool
     ensures { result ≡ list_begins count negative n }
 {
-    if count != 0 {
-        return false;
-    }
-    if negative {
-        return false;
-    }
-    is_empty(n)
+    count == 0 && !negative && is_empty(n)
 }
 
 // Nothing of the open field is read.
@@ -37,8 +27,7 @@ fn begins(state: State) -> bool
     match state {
         State::Id(_, n) => is_empty(n),
         State::Whole(_, l, negative, n) => list_begins(l.count, negative, n),
-        State::Fraction(_, _, _) => false,
-        State::Stopped(_, _) => false,
+        State::Fraction(_, _, _) | State::Stopped(_, _) => false,
     }
 }
 
@@ -47,14 +36,15 @@ fn broken(state: State) -> State
     ensures { result ≡ broken_at state }
 {
     match state {
-        State::Id(past, _) => State::Stopped(Refusal::ROW_FORM, past.place),
-        State::Whole(past, _, _, _) => State::Stopped(Refusal::ROW_FORM, past.place),
-        State::Fraction(past, _, _) => State::Stopped(Refusal::ROW_FORM, past.place),
-        State::Stopped(number, place) => State::Stopped(number, place),
+        State::Id(past, _) | State::Whole(past, _, _, _) | State::Fraction(past, _, _) => {
+            State::Stopped(Refusal::ROW_FORM, past.place)
+        }
+        State::Stopped(_, _) => state,
     }
 }
 
 // After a byte that is not plain, and how many bytes it took: one that goes to the contents is left for them.
+// Kept (no plainer): the state and the mark are told either way, and the step is a number of bytes.
 #[derive(Clone, Copy)]
 pub struct Passed {
     pub state: State,

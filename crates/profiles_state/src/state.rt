@@ -5,7 +5,7 @@ ghost use Rattle.rules.specs.Bytes.{digit_zero, digit_nine, minus, point};
 ghost use Rattle.profiles_row.specs.Row.{Ending};
 ghost use Rattle.profiles_state.specs.Holds.{Live, Steps, Free, Ends};
 
-use profiles_row::number::{Ended, Number, Pushed};
+use profiles_row::number::Number;
 use profiles_row::row::{Listed, Past};
 use profiles_row::sample::Tail;
 use profiles_row::{number, row, sample};
@@ -13,6 +13,7 @@ use rules::answers::Refusal;
 use rules::sizes::Profile;
 
 // Where the next byte falls: into an id, the whole part of a sample, its digits past the point; or after the first fault.
+// Kept (no plainer): each is a state of its own, and the last holds what it will be refused by.
 #[derive(Clone, Copy)]
 pub enum State {
     Id(Past, Number),
@@ -26,8 +27,8 @@ fn id_digit(past: Past, n: Number, b: u8) -> State
     ensures { (at : ℕ) → Free at (State.Id past n) b result }
 {
     match number::number_step(n, b) {
-        Pushed::To(m) => State::Id(past, m),
-        Pushed::Broken => State::Stopped(Refusal::ROW_FORM, past.place),
+        Some(m) => State::Id(past, m),
+        None => State::Stopped(Refusal::ROW_FORM, past.place),
     }
 }
 
@@ -37,8 +38,8 @@ fn id_step(past: Past, n: Number, b: u8) -> State
     let place = past.place;
     if b == b',' {
         return match number::number_end(n) {
-            Ended::Value(id) => State::Whole(past, row::list_of(id), false, Number::Empty),
-            Ended::Broken => State::Stopped(Refusal::ROW_FORM, place),
+            Some(id) => State::Whole(past, row::list_of(id), false, Number::Empty),
+            None => State::Stopped(Refusal::ROW_FORM, place),
         };
     }
     if b < b'0' {
@@ -55,8 +56,8 @@ fn whole_digit(past: Past, l: Listed, negative: bool, n: Number, b: u8) -> State
     ensures { (at : ℕ) → Free at (State.Whole past l negative n) b result }
 {
     match number::number_step(n, b) {
-        Pushed::To(m) => State::Whole(past, l, negative, m),
-        Pushed::Broken => State::Stopped(Refusal::ROW_FORM, past.place),
+        Some(m) => State::Whole(past, l, negative, m),
+        None => State::Stopped(Refusal::ROW_FORM, past.place),
     }
 }
 
@@ -64,7 +65,7 @@ fn whole_end(past: Past, l: Listed, negative: bool, n: Number) -> State
     ensures { (at : ℕ) → Free at (State.Whole past l negative n) point result }
 {
     match number::number_end(n) {
-        Ended::Value(whole) => State::Fraction(
+        Some(whole) => State::Fraction(
             past,
             l,
             Tail {
@@ -74,7 +75,7 @@ fn whole_end(past: Past, l: Listed, negative: bool, n: Number) -> State
                 value: 0,
             },
         ),
-        Ended::Broken => State::Stopped(Refusal::ROW_FORM, past.place),
+        None => State::Stopped(Refusal::ROW_FORM, past.place),
     }
 }
 
@@ -207,6 +208,6 @@ pub fn step(state: State, at: u32, b: u8, profiles: &mut [u32], samples: &mut [i
         State::Id(past, n) => id_step(past, n, b),
         State::Whole(past, l, negative, n) => whole_step(past, l, negative, n, b),
         State::Fraction(past, l, t) => fraction_step(past, l, t, at, b, profiles, samples),
-        State::Stopped(number, place) => State::Stopped(number, place),
+        State::Stopped(_, _) => state,
     }
 }

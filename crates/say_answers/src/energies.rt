@@ -30,8 +30,7 @@ fn totals(rt: &impl Print, g: Figures) {
 
 // H says when a last, shorter quarter ends.
 pub fn tell(rt: &impl Print, h: u32, g: Figures) {
-    let peaks = g.peaks;
     totals(rt, g);
-    peak(rt, b"peak quarter before recuperation: ", h, peaks.before);
-    peak(rt, b"peak quarter drawn: ", h, peaks.drawn);
+    peak(rt, b"peak quarter before recuperation: ", h, g.peaks.before);
+    peak(rt, b"peak quarter drawn: ", h, g.peaks.drawn);
 }

@@ -3,7 +3,7 @@ use crate::say;
 use rules::answers::Refusal;
 
 fn show_row(rt: &impl Print, row: &[u8]) {
-    if row.len() == 0 {
+    if row.is_empty() {
         return;
     }
     say::text(rt, b"row: ");

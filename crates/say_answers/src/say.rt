@@ -87,8 +87,7 @@ fn counted(rt: &impl Print, letter: u8, n: u64) {
 // A sentence with a mark and a letter for each number.
 pub fn sentence(rt: &impl Print, s: &[u8], numbers: &[u64]) {
     let mut start = 0;
-    let mut k = 0;
-    while k < numbers.len() {
+    for &number in numbers {
         let mark = pieces::find(s, MARK, start);
         if s.len() <= mark {
             return;
@@ -98,9 +97,8 @@ pub fn sentence(rt: &impl Print, s: &[u8], numbers: &[u64]) {
         if s.len() <= start {
             return;
         }
-        counted(rt, s[start], numbers[k]);
+        counted(rt, s[start], number);
         start += 1;
-        k += 1;
     }
     text(rt, &s[start..]);
 }
@@ -125,10 +123,8 @@ pub fn tests(rt: &impl Print, kind: u8, count: u32) {
 
 // Bytes of a file, or of a word that a person gave.
 pub fn bytes(rt: &impl Print, s: &[u8]) {
-    let mut i = 0;
-    while i < s.len() {
-        word(rt, Letter::BYTE, s[i] as u64);
-        i += 1;
+    for &b in s {
+        word(rt, Letter::BYTE, b as u64);
     }
 }
 

@@ -12,13 +12,11 @@ fn add(rt: &impl Print, first: bool, kind: u8, count: u32) {
 
 fn counts(rt: &impl Print, kinds: [u32; Tally::KINDS]) {
     let mut first = true;
-    let mut kind = 0;
-    while kind < Tally::KINDS {
-        if 0 < kinds[kind] {
-            add(rt, first, kind as u8, kinds[kind]);
+    for (kind, &count) in kinds.iter().enumerate() {
+        if 0 < count {
+            add(rt, first, kind as u8, count);
             first = false;
         }
-        kind += 1;
     }
 }
 
@@ -27,8 +25,7 @@ pub fn tell(rt: &impl Print, tally: Tally) {
         say::text(rt, b"tested: nothing\n");
         return;
     }
-    let kinds = tally.kinds;
     say::sentence(rt, b"tested: %n (", &[tally.total as u64]);
-    counts(rt, kinds);
+    counts(rt, tally.kinds);
     say::text(rt, b")\n");
 }

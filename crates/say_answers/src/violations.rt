@@ -40,28 +40,25 @@ fn not_offered(rt: &impl Print, v: Violation, legs: &[u32], choices: &[u32]) {
 
 // What was needed of the second leg. No inequality asks for an earlier arrival.
 fn asked(rt: &impl Print, id: u32, bound: Bound, short: u32) {
-    let numbers = [id as u64, bound.seconds, short as u64];
-    if bound.arrival {
-        say::sentence(
+    let id = id as u64;
+    let short = short as u64;
+    match bound {
+        Bound::ArrivesFrom(second) => say::sentence(
             rt,
             b"needed: leg %n arrives at %t or later; it falls short by %n s\n",
-            &numbers,
-        );
-        return;
-    }
-    if bound.latest {
-        say::sentence(
+            &[id, second, short],
+        ),
+        Bound::DepartsBy(second) => say::sentence(
             rt,
             b"needed: leg %n departs at %t or earlier; it falls short by %n s\n",
-            &numbers,
-        );
-        return;
+            &[id, second, short],
+        ),
+        Bound::DepartsFrom(second) => say::sentence(
+            rt,
+            b"needed: leg %n departs at %t or later; it falls short by %n s\n",
+            &[id, second, short],
+        ),
     }
-    say::sentence(
-        rt,
-        b"needed: leg %n departs at %t or later; it falls short by %n s\n",
-        &numbers,
-    );
 }
 
 // The inequality, and the solution that does not keep it.

@@ -11,13 +11,12 @@ use borrow.Author.Tests.{ne_eqb, lt-ltb, le-ltb}
 use Rattle.rules.specs.Limits.{constraint_width, unsigned_fill}
 use Rattle.rules.specs.Lists.{flat, over}
 use Rattle.rules.specs.declared.sizes.Constraint.{Constraint}
-use Rattle.rules.specs.declared.sizes.Profile.{Profile}
 use Rattle.rules.proofs.Lists.{lead_within, tabulate-length, flat-length}
 use Rattle.rules_theorems.specs.Demands.{Unfilled}
 use Rattle.text_read.specs.Places.{is_other, up_to}
-use Rattle.tables_views.specs.View.{profile_at, constraint_at, constraints_in}
+use Rattle.tables_views.specs.View.{constraint_at, constraints_in}
 use Rattle.tables_views.proofs.Tabulated.{tabulate_from, tabulate-past}
-use Rattle.say_counts.specs.Counts.{samples_in, kinds_below, record_at}
+use Rattle.say_counts.specs.Counts.{kinds_below, record_at}
 
 -- ---- tables that were lent filled
 
@@ -63,13 +62,6 @@ module _ (kind m : ℕ) (t : List ℕ) where
   below_end i e h =
       let none : below_from i ≡ 0 = rw (tabulate-past m (constraint_at t) i h) in
       omega arith
-
--- ---- samples
-
--- where the last of n profiles ends
-pub samples_last : (n : ℕ) (t : List ℕ) {p : Profile} → (n ≡ 0 → ⊥) → p ≡ profile_at t (n - 1) → p.first + p.count ≡ samples_in n t
-samples_last zero t h e = absurd (h refl)
-samples_last (suc n) t h e = let k : suc n - 1 ≡ n = omega arith in rw (e, k)
 
 -- ---- the record at a position
 

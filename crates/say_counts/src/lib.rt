@@ -12,14 +12,12 @@ use rules::sizes::{Constraint, Fill};
 fn numbers(t: &[u32]) -> usize
     ensures { result ≡ up_to unsigned_fill t.now }
 {
-    let mut at = 0;
-    while at < t.len() {
-        if t[at] == Fill::UNSIGNED {
+    for (at, &n) in t.iter().enumerate() {
+        if n == Fill::UNSIGNED {
             return at;
         }
-        at += 1;
     }
-    at
+    t.len()
 }
 
 // The entries of a table, of `width` numbers each.
@@ -45,15 +43,13 @@ pub fn samples(profiles: &[u32], n: usize) -> u64
 pub fn before_kind(constraints: &[u32], m: usize, kind: u32) -> usize
     ensures { result ≡ length (kinds_below kind (constraints_in m constraints.now)) }
 {
-    let mut i = 0;
-    while i < m {
+    for i in 0..m {
         let c = tables_views::constraint_at(constraints, i);
         if kind <= c.kind {
             return i;
         }
-        i += 1;
     }
-    i
+    m
 }
 
 // The record at a position within its kind's list.

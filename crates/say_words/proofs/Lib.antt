@@ -3,4 +3,3 @@ pub mod Texts
 pub mod Decimals
 pub mod Needing
 pub mod Lines
-pub mod Showing

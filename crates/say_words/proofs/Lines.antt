@@ -1,6 +1,7 @@
 -- The lines of a text, found one after the other: what is left from a line's start on has the lines that are left. Assumes nothing.
 use Prim.Native.Nat.{ℕ, zero, suc, ◌+◌, ◌-◌, ◌≤◌, ◌<◌}
 use native.Mathlib.Omega.{arith}
+use native.Mathlib.Nat.{sub-zero}
 use mathlib.Core.Path.{◌≡◌, refl, ap, sym, ◌∙◌}
 use mathlib.Core.Bool.{Bool, true, false}
 use mathlib.Core.List.{List, [], ◌∷◌}
@@ -13,13 +14,13 @@ use Rattle.text_read.specs.Places.{is_other, up_to}
 use Rattle.rules.proofs.Lists.{lead_within}
 use Rattle.text_read.proofs.Laws.{split_more, split_last}
 
--- line `left` from a place on is line k of the whole
-pub record Left (sep : ℕ) (s : List ℕ) (k start left : ℕ) : Type 0 where
+-- where i lines are passed, line k - i from a place on is line k of the whole
+pub record Left (sep : ℕ) (s : List ℕ) (k start i : ℕ) : Type 0 where
   pub within : start ≤ length s
-  pub is : get_or (split_on sep (drop start s)) left [] ≡ get_or (split_on sep s) k []
+  pub is : get_or (split_on sep (drop start s)) (k - i) [] ≡ get_or (split_on sep s) k []
 
-pub left_all : (sep : ℕ) (s : List ℕ) (k : ℕ) → Left sep s k 0 k
-left_all sep s k = record { within = omega arith; is = refl }
+pub left_all : (sep : ℕ) (s : List ℕ) (k : ℕ) → Left sep s k 0 0
+left_all sep s k = record { within = omega arith; is = ap (λ (n : ℕ). get_or (split_on sep s) n []) (sub-zero k) }
 
 -- the first line
 first-line : (sep : ℕ) (s : List ℕ) → take (up_to sep s) s ≡ get_or (split_on sep s) 0 []
@@ -36,37 +37,42 @@ behind_first : (p : List ℕ) (ps : List (List ℕ)) (left : ℕ) → 0 < left �
 behind_first p ps zero h = absurd (omega arith)
 behind_first p ps (suc left) h = let e : suc left - 1 ≡ left = omega arith in rw e
 
-module _ {sep : ℕ} {s : List ℕ} {k start left end : ℕ} (inv : Left sep s k start left) (found : end ≡ start + up_to sep (drop start s)) where
+module _ {sep : ℕ} {s : List ℕ} {k start i end : ℕ} (inv : Left sep s k start i) (found : end ≡ start + up_to sep (drop start s)) where
   abbrev rest : List ℕ
   rest = drop start s
+
+  abbrev left : ℕ
+  left = k - i
 
   pub left_end : end ≤ length s
   left_end = omega (arith, lead_within (is_other sep) rest, length-drop start s, inv.within)
 
   -- past a separator one line fewer is left
-  pub left_next : end < length s → 0 < left → Left sep s k (end + 1) (left - 1)
+  pub left_next : end < length s → i < k → Left sep s k (end + 1) (i + 1)
   left_next h l =
+      let one : k - (i + 1) ≡ left - 1 = omega arith in
       let short : up_to sep rest < length rest = rw (length-drop start s) (omega arith) in
       let next : start + (up_to sep rest + 1) ≡ end + 1 = omega arith in
       let e : drop (up_to sep rest + 1) rest ≡ drop (end + 1) s = drop-drop (up_to sep rest + 1) start s ∙ ap (λ (n : ℕ). drop n s) next in
       record {
         within = omega arith;
         is =
-            sym
+            ap (λ (n : ℕ). get_or (split_on sep (drop (end + 1) s)) n []) one
+            ∙ sym
             (ap (λ (ps : List (List ℕ)). get_or ps left []) (split_more sep rest short)
-            ∙ behind_first (take (up_to sep rest) rest) (split_on sep (drop (up_to sep rest + 1) rest)) left l
+            ∙ behind_first (take (up_to sep rest) rest) (split_on sep (drop (up_to sep rest + 1) rest)) left (omega arith)
             ∙ ap (λ (r : List ℕ). get_or (split_on sep r) (left - 1) []) e)
             ∙ inv.is;
       }
 
   -- no separator: no line is left
-  pub left-none : length s ≤ end → 0 < left → [] ≡ get_or (split_on sep s) k []
+  pub left-none : length s ≤ end → i < k → [] ≡ get_or (split_on sep s) k []
   left-none h l =
       let long : length rest ≤ up_to sep rest = rw (length-drop start s) (omega arith) in
-      sym (ap (λ (ps : List (List ℕ)). get_or ps left []) (split_last sep rest long) ∙ behind_first rest [] left l) ∙ inv.is
+      sym (ap (λ (ps : List (List ℕ)). get_or ps left []) (split_last sep rest long) ∙ behind_first rest [] left (omega arith)) ∙ inv.is
 
   -- none is left before it: it stands up to the next separator
-  pub left_here : left ≤ 0 → take (end - start) rest ≡ get_or (split_on sep s) k []
+  pub left_here : k ≤ i → take (end - start) rest ≡ get_or (split_on sep s) k []
   left_here l =
       let z : left ≡ 0 = omega arith in
       let e : end - start ≡ up_to sep rest = omega arith in

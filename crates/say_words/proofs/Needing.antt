@@ -3,35 +3,40 @@ use Prim.Native.Nat.{ℕ, zero, suc, ◌+◌, ◌-◌, ◌≤◌, ◌<◌}
 use native.Mathlib.Omega.{arith}
 use mathlib.Core.Path.{◌≡◌, refl}
 use mathlib.Core.Logic.{◌⊎◌, inl, inr}
-use mathlib.Core.Bool.{true, false, cond}
 use lib.ListN.{get_or}
 use borrow.Author.Tests.{eq-eqb, ne_eqb}
 use Rattle.rules.specs.Kinds.{Inequality, ◌≤?◌, headway, connection, by_arrival, by_departure, departure, arrival, anchored, about, rule_of}
 use Rattle.rules.specs.declared.kinds.Time.{Time}
 use Rattle.rules.specs.declared.kinds.Time.TheVariants.{At}
 use Rattle.rules.specs.declared.sizes.Configuration.{Configuration}
-use Rattle.say_words.specs.Needs.{asks, needed_of}
+use Rattle.say_words.specs.Needs.{needed_of}
 use Rattle.say_words.specs.declared.needs.Bound.{Bound}
+use Rattle.say_words.specs.declared.needs.Bound.TheVariants.{DepartsFrom, ArrivesFrom, DepartsBy}
 
 module _ (kind i short : ℕ) (two : Configuration) where
-  pub departs_later : (i ≡ 2 → ⊥) → asks false false (two.departure + short) ≡ needed_of kind i short two
+  pub departs_later : (i ≡ 2 → ⊥) → DepartsFrom (two.departure + short) ≡ needed_of kind i short two
   unfolding needed_of
   departs_later h = rw (ne_eqb i 2 h)
 
-  pub arrives_later : i ≡ 2 → kind ≡ headway → asks true false (two.departure + two.travel + short) ≡ needed_of kind i short two
+  pub arrives_later : i ≡ 2 → kind ≡ headway → ArrivesFrom (two.departure + two.travel + short) ≡ needed_of kind i short two
   unfolding needed_of
   arrives_later h k = rw (eq-eqb i 2 h, eq-eqb kind headway k)
 
-  pub departs_earlier : i ≡ 2 → (kind ≡ headway → ⊥) → {seconds : ℕ} → seconds ≡ two.departure - short → asks false true seconds ≡ needed_of kind i short two
+  pub departs_earlier : i ≡ 2 → (kind ≡ headway → ⊥) → {seconds : ℕ} → seconds ≡ two.departure - short → DepartsBy seconds ≡ needed_of kind i short two
   unfolding needed_of
   departs_earlier h k e = rw (e, eq-eqb i 2 h, ne_eqb kind headway k)
 
 -- ---- it is the rule's own inequality
 
 -- one side is the second leg's own time, and the other is what was needed
-pub record Asked (q : Inequality) (two : Configuration) (b : Bound) : Type 0 where
-  pub own : cond b.arrival (arrival two) (departure two) ≡ cond b.latest q.left q.right
-  pub needed : b.seconds ≡ cond b.latest q.right q.left
+pub record Sides (time second asked side : ℕ) : Type 0 where
+  pub own : time ≡ side
+  pub needed : second ≡ asked
+
+abbrev pub Asked : Inequality → Configuration → Bound → Type 0
+Asked q two (DepartsFrom second) = Sides (departure two) second q.left q.right
+Asked q two (ArrivesFrom second) = Sides (arrival two) second q.left q.right
+Asked q two (DepartsBy second) = Sides (departure two) second q.right q.left
 
 module _ (low high type : ℕ) (one two : Configuration) where
   -- the inequality after j others; one that holds where there is none

@@ -59,12 +59,6 @@ pub written_as_lem : {t : List ℕ} {at : ℕ} {w v t' : List ℕ} {after : ℕ}
 written_as_lem {t} {at} {t' = t'} {after = after} a e = subst (λ (x : List ℕ). Written t at x t' after) e a
 
 module _ {n : ℕ} {t : List ℕ} {at : ℕ} {t₁ : List ℕ} {at₁ : ℕ} where
-  pub digit_written : n < 10 → Written t at ((digit_zero + n) ∷ []) t₁ at₁ → Written t at (spelled n) t₁ at₁
-  digit_written h a = written_as_lem a (sym (spelled_digit n n [] h))
-
-  pub two_written : 10 ≤ n → Written t at (spelled n) t₁ at₁ → Written t at (two_digits n) t₁ at₁
-  two_written h a = rw (le-ltb n 10 h) a
-
   pub three-written : 100 ≤ n → Written t at (spelled n) t₁ at₁ → Written t at (three_digits n) t₁ at₁
   three-written h a = rw (le-ltb n 100 h) a
 
@@ -72,9 +66,6 @@ module _ {n : ℕ} {t : List ℕ} {at : ℕ} {t₁ : List ℕ} {at₁ : ℕ} whe
     pub digits_written : 10 ≤ n → Written t at (spelled (n / 10)) t₁ at₁ → Written t₁ at₁ ((digit_zero + n % 10) ∷ []) t₂ at₂ → length t ≤ last_place
         → Written t at (spelled n) t₂ at₂
     digits_written h a b k = written_as_lem (written_then a b k) (last_digit n h)
-
-    pub zero_two_written : n < 10 → Written t at (digit_zero ∷ []) t₁ at₁ → Written t₁ at₁ (spelled n) t₂ at₂ → length t ≤ last_place → Written t at (two_digits n) t₂ at₂
-    zero_two_written h a b k = rw (lt-ltb n 10 h) (written_then a b k)
 
     pub zero_three-written : n < 100 → Written t at (digit_zero ∷ []) t₁ at₁ → Written t₁ at₁ (two_digits n) t₂ at₂ → length t ≤ last_place
         → Written t at (three_digits n) t₂ at₂

@@ -11,20 +11,14 @@ const TEN: u8 = 10;
 fn is_plain(b: u8) -> bool
     ensures { result ≡ is_plain b }
 {
-    if b < b' ' {
-        return false;
-    }
-    b <= b'~'
+    matches!(b, b' '..=b'~')
 }
 
 fn hex_digit(n: u8) -> u8
     requires { n < sixteen }
     ensures { result ≡ hex_digit n }
 {
-    if n < TEN {
-        return b'0' + n;
-    }
-    b'a' + (n - TEN)
+    if n < TEN { b'0' + n } else { b'a' + (n - TEN) }
 }
 
 // A byte that is not plain by its number.

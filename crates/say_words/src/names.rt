@@ -16,14 +16,12 @@ pub fn line<'a>(s: &'a [u8], k: usize) -> &'a [u8]
     ensures { result.now ≡ get_or (split_on line_feed s.now) k [] }
 {
     let mut start = 0;
-    let mut left = k;
-    while 0 < left {
+    for i in 0..k {
         let end = pieces::find(s, LINE_FEED, start);
         if s.len() <= end {
             return &s[0..0];
         }
         start = end + 1;
-        left -= 1;
     }
     let end = pieces::find(s, LINE_FEED, start);
     &s[start..end]

@@ -7,13 +7,12 @@ use rules::kinds::Kind;
 use rules::sizes::Configuration;
 use verdict::records;
 
+// Until when, or from when on.
 #[derive(Clone, Copy)]
-pub struct Bound {
-    // The arrival, and not the departure.
-    pub arrival: bool,
-    // Or earlier, and not or later.
-    pub latest: bool,
-    pub seconds: u64,
+pub enum Bound {
+    DepartsFrom(u64),
+    ArrivesFrom(u64),
+    DepartsBy(u64),
 }
 
 // The second inequality of a kind that has two.
@@ -25,22 +24,10 @@ pub fn needed(v: Violation, two: Configuration) -> Bound
     let short = v.shortfall as u64;
     let departure = two.departure as u64;
     if v.inequality != SECOND {
-        return Bound {
-            arrival: false,
-            latest: false,
-            seconds: departure + short,
-        };
+        return Bound::DepartsFrom(departure + short);
     }
     if v.kind == Kind::HEADWAY {
-        return Bound {
-            arrival: true,
-            latest: false,
-            seconds: departure + two.travel as u64 + short,
-        };
+        return Bound::ArrivesFrom(departure + two.travel as u64 + short);
     }
-    Bound {
-        arrival: false,
-        latest: true,
-        seconds: records::beyond(departure, short),
-    }
+    Bound::DepartsBy(records::beyond(departure, short))
 }

@@ -37,7 +37,7 @@ fn quarter_end(h: u32, quarter: u32) -> u64
 {
     let horizon = h as u64;
     let whole = Horizon::QUARTER as u64 * quarter as u64 + Horizon::QUARTER as u64;
-    if horizon < whole { horizon } else { whole }
+    horizon.min(whole)
 }
 
 // From when to when a quarter hour within H lasts, counted from 0: `07:15:00 to 07:30:00`.

@@ -63,9 +63,9 @@ fn answer_group(rt: &(impl Files + Env + Print), at: usize, left: usize) -> usiz
 {
     say::label(rt);
     match groups::entry_at(rt, at) {
-        Entry::OfSolution(asked) => solution_group(rt, at, left, asked),
-        Entry::OfTwo(direction) => merge_group(rt, at, left, direction),
-        Entry::Unknown => {
+        Some(Entry::OfSolution(asked)) => solution_group(rt, at, left, asked),
+        Some(Entry::OfTwo(direction)) => merge_group(rt, at, left, direction),
+        None => {
             say::no_answer(
                 rt,
                 b"the word is not known: check, energy, merge-earlier or merge-later",
@@ -86,6 +86,7 @@ fn main(rt: HostRuntime) {
         return;
     }
     let mut at = 1;
+    // Kept (no plainer): a turn goes on by the words that its group took, which no range does.
     while at < count {
         let left = count - at;
         let taken = answer_group(&rt, at, left);

@@ -10,13 +10,6 @@ use text_read::numbers::Whole;
 // No word or number that means something is longer.
 const WORD: usize = 32;
 
-// H or the edition, as it was given. A number past every id is neither an H nor an edition for the checker, too.
-#[derive(Clone, Copy)]
-pub enum Given {
-    Number(u32),
-    NoNumber,
-}
-
 // How many arguments there are, the program's own name among them.
 pub fn count(rt: &impl Env) -> usize {
     for at in 0..usize::MAX {
@@ -31,10 +24,7 @@ pub fn count(rt: &impl Env) -> usize {
 pub fn read(rt: &impl Env, at: usize, room: &mut [u8]) -> usize
     ensures { IsPrefixLen result room.new }
 {
-    match rt.arg(at, room) {
-        Ok(length) => length,
-        Err(_) => 0,
-    }
+    rt.arg(at, room).unwrap_or(0)
 }
 
 pub fn is_word(rt: &impl Env, at: usize, name: &[u8]) -> bool {
@@ -43,12 +33,13 @@ pub fn is_word(rt: &impl Env, at: usize, name: &[u8]) -> bool {
     text_read::words::spells(&word[..length], name)
 }
 
-pub fn number(rt: &impl Env, at: usize) -> Given {
+// H or the edition, where it is a whole number. One past every id is neither an H nor an edition for the checker, too.
+pub fn number(rt: &impl Env, at: usize) -> Option<u32> {
     let mut word = [0u8; WORD];
     let length = read(rt, at, &mut word);
     match numbers::read_whole(&word[..length]) {
-        Whole::Number(n) => Given::Number(n),
-        Whole::Beyond => Given::Number(Id::MOST + 1),
-        Whole::Malformed => Given::NoNumber,
+        Whole::Number(n) => Some(n),
+        Whole::Beyond => Some(Id::MOST + 1),
+        Whole::Malformed => None,
     }
 }

@@ -1,42 +1,28 @@
 // Files, read whole or not at all, and written.
-ghost use Rattle.std.specs.Prelude.{◌≡◌};
+ghost use Rattle.std.specs.Prelude.{◌≤◌, length};
+ghost use Rattle.std.specs.Option.{IfSome};
+ghost use Rattle.std.specs.Result.{IfOk};
 ghost use Rattle.input.specs.Counts.{IsPrefixLen};
 
 use crate::rooms::Room;
 use crate::{arguments, rooms};
-use input::{End, Taken};
+use input::Unread;
 use say_answers::say;
 use std::fs::{File, OpenFile, OpenOptions};
 use std::io::Write;
 use std::rt::{Env, Files};
 
-// The bytes at the front of a room, and whether they are the whole file.
-#[derive(Clone, Copy)]
-pub struct Loaded {
-    pub whole: bool,
-    pub length: usize,
-}
-
 // A file that cannot be opened is one that cannot be read; nor is one whose name is no UTF-8, which has no path.
-fn read_named(rt: &impl Files, path: &[u8], room: &mut [u8]) -> Taken
-    ensures { IsPrefixLen result.length room.new }
+fn read_named(rt: &impl Files, path: &[u8], room: &mut [u8]) -> Result<usize, Unread>
+    ensures { IfOk result (λ n. IsPrefixLen n room.new) }
 {
     let Ok(name) = str::from_utf8(path) else {
-        return nothing_taken();
+        return Err(Unread::Broken);
     };
     let Ok(mut file) = File::open(rt, name) else {
-        return nothing_taken();
+        return Err(Unread::Broken);
     };
     input::read_all(&mut file, room)
-}
-
-fn nothing_taken() -> Taken
-    ensures { result.length ≡ 0 }
-{
-    Taken {
-        end: End::Broken,
-        length: 0,
-    }
 }
 
 fn say_name(rt: &impl Print, file: u8, path: &[u8]) {
@@ -52,34 +38,32 @@ fn too_long(rt: &impl Print) {
     );
 }
 
-// Whether a file can be judged; says what is wrong with one that cannot. A room is one byte greater than a text may be.
-fn is_whole(rt: &impl Print, end: End, file: u8, path: &[u8]) -> bool {
-    match end {
-        End::Ended => true,
-        End::Broken => {
-            say_name(rt, file, path);
-            say::text(rt, b" could not be read\n");
-            false
-        }
-        End::Full => {
-            say_name(rt, file, path);
-            too_long(rt);
-            false
-        }
+// What is wrong with a file that cannot be judged. A room is one byte greater than a text may be.
+fn say_unread(rt: &impl Print, why: Unread, file: u8, path: &[u8]) {
+    say_name(rt, file, path);
+    match why {
+        Unread::Broken => say::text(rt, b" could not be read\n"),
+        Unread::TooLong => too_long(rt),
     }
 }
 
-// The file that argument `at` names.
-pub fn load(rt: &(impl Files + Env + Print), at: usize, file: u8, room: &mut [u8]) -> Loaded
-    ensures { IsPrefixLen result.length room.new }
+// The file that argument `at` names, read into a room; where it cannot be judged, it is said why.
+pub fn load<'a>(
+    rt: &(impl Files + Env + Print),
+    at: usize,
+    file: u8,
+    room: &'a mut [u8],
+) -> Option<&'a [u8]>
+    ensures { IfSome result (λ s. length s.now ≤ length room.old) }
 {
     let mut path = rooms::path();
     let length = arguments::read(rt, at, &mut path);
-    let taken = read_named(rt, &path[..length], room);
-    let end = taken.end;
-    Loaded {
-        whole: is_whole(rt, end, file, &path[..length]),
-        length: taken.length,
+    match read_named(rt, &path[..length], room) {
+        Ok(n) => Some(&room[..n]),
+        Err(why) => {
+            say_unread(rt, why, file, &path[..length]);
+            None
+        }
     }
 }
 

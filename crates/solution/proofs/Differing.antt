@@ -10,6 +10,8 @@ use lib.Dec.{ltb, eqb}
 use lib.ListN.{length, get_or, take, drop, length-drop, take-append-drop}
 use lib.Seq.{drop-cons, drop-drop}
 use borrow.Author.Tests.{lt-ltb, le-ltb, ltb-true, eqb-true}
+use Rattle.std.specs.Prelude.{Option as Maybe, Some, None, Result, Ok, Err}
+use Rattle.std.specs.Option.{is_some}
 use Rattle.rules.specs.Limits.{leg_width}
 use Rattle.rules.specs.Lists.{flat, over}
 use Rattle.rules.specs.Answers.{differs, good, ◌>>=◌}
@@ -21,22 +23,24 @@ use Rattle.tables_ids.specs.Column.{column}
 use Rattle.tables_ids.proofs.Column.{column-more}
 use Rattle.timetable_row.specs.Slots.{held_ids}
 use Rattle.timetable.proofs.Words.{length_snoc}
-use Rattle.solution_row.specs.declared.draft.Compared.{Compared}
-use Rattle.solution_row.specs.declared.draft.Choices.{Choices}
-use Rattle.solution_row.specs.declared.draft.Choices.TheVariants.{Fault, Read}
+use Rattle.timetable_row.specs.declared.fault.Fault.{Fault}
+use Rattle.timetable_row.specs.Faults.{fault_at}
 use Rattle.solution_row.specs.Against.{same_at, differs_at, compared_with, compared_answer}
 use Rattle.solution.specs.Promise.{HoldsRows, choices_answer}
 use Rattle.solution.specs.Whole.{choices_after}
 
 -- ---- the answer: no more rows than were read
 
-pub read_all : (c : Compared) (rows n end m : ℕ) (answer : Choices) → answer ≡ compared_answer c rows n end → answer ≡ Read m → m ≡ rows
-read_all c rows n end m answer e f = go c.differs (ltb rows n) (sym e ∙ f)
+pub read_all : (c : Maybe ℕ) (rows n end m : ℕ) (answer : Result ℕ Fault) → answer ≡ compared_answer c rows n end → answer ≡ Ok m → m ≡ rows
+read_all c rows n end m answer e f = go c (sym e ∙ f)
   where
-    go : (t u : Bool) → cond t (Fault differs c.place) (cond u (Fault differs end) (Read rows)) ≡ Read m → m ≡ rows
-    go true u q = let z : ◌≡◌ {A = ℕ} 0 1 = cc in absurd (omega arith)
-    go false true q = let z : ◌≡◌ {A = ℕ} 0 1 = cc in absurd (omega arith)
-    go false false q = cc
+    none_found : (u : Bool) → cond u (Err (fault_at differs end)) (Ok rows) ≡ Ok m → m ≡ rows
+    none_found true q = cc
+    none_found false q = cc
+
+    go : (x : Maybe ℕ) → compared_answer x rows n end ≡ Ok m → m ≡ rows
+    go (Some place) q = cc
+    go None q = none_found (ltb rows n) q
 
 -- ---- the draft's rows in the leg table
 
@@ -68,9 +72,13 @@ choices-length (r ∷ rows) = ap suc (choices-length rows)
 -- ---- what is left to compare
 
 -- the comparison of all rows, whatever follows those before: what is found, or the comparison of those that follow
-abbrev pub Compares : (text : List ℕ) (draft before : List Row) → Compared → Type 0
+abbrev pub found_or : Maybe ℕ → Option ℕ → Option ℕ
+found_or (Some place) o = some place
+found_or None o = o
+
+abbrev pub Compares : (text : List ℕ) (draft before : List Row) → Maybe ℕ → Type 0
 Compares text draft before c =
-    (rest : List Row) → differs_from 0 text draft (before ++ rest) ≡ cond c.differs (some c.place) (differs_from (length before) text (drop (length before) draft) rest)
+    (rest : List Row) → differs_from 0 text draft (before ++ rest) ≡ found_or c (differs_from (length before) text (drop (length before) draft) rest)
 
 module _ {legs : List ℕ} {n : ℕ} {draft : List Row} (holds : HoldsRows legs n draft) (text : List ℕ) where
   drop_next : (k : ℕ) (a : Row) (more : List Row) → drop k draft ≡ a ∷ more → drop (suc k) draft ≡ more
@@ -82,54 +90,57 @@ module _ {legs : List ℕ} {n : ℕ} {draft : List Row} (holds : HoldsRows legs 
   inside : (k : ℕ) (a : Row) (more : List Row) → drop k draft ≡ a ∷ more → k < n
   inside k a more e = omega (arith, length-drop k draft, ap length e, holds.many)
 
-  pub compares_on : (before : List Row) (c : Compared) (r : Row) (numbers : List ℕ) (place : ℕ) → Compares text draft before c → held_ids numbers ≡ ids_of r → place_of_row text (length before) ≡ place
+  pub compares_on : (before : List Row) (c : Maybe ℕ) (r : Row) (numbers : List ℕ) (place : ℕ) → Compares text draft before c → held_ids numbers ≡ ids_of r → place_of_row text (length before) ≡ place
       → Compares text draft (before ++ r ∷ []) (compared_with c numbers legs n (length before) place)
   compares_on before c r numbers place h ids at rest =
-      rw (append_assoc before (r ∷ []) rest, length_snoc before r) (h (r ∷ rest) ∙ go c.differs refl)
+      rw (append_assoc before (r ∷ []) rest, length_snoc before r) (h (r ∷ rest) ∙ go c)
     where
       k : ℕ
       k = length before
 
-      onward : Compared → Option ℕ
-      onward x = cond x.differs (some x.place) (differs_from (suc k) text (drop (suc k) draft) rest)
+      onward : Maybe ℕ → Option ℕ
+      onward x = found_or x (differs_from (suc k) text (drop (suc k) draft) rest)
 
-      among : (rows : List Row) → drop k draft ≡ rows → c.differs ≡ false
-          → differs_from k text rows (r ∷ rest) ≡ onward (cond (ltb k n && same_at numbers legs k) c (differs_at place))
-      among [] e f = rw (le-ltb k n (past k e)) (ap some at)
-      among (a ∷ more) e f = rw (lt-ltb k n (inside k a more e), same-leg holds k a more r numbers e ids) (by_row (same_leg a r))
+      among : (rows : List Row) → drop k draft ≡ rows → differs_from k text rows (r ∷ rest) ≡ onward (cond (ltb k n && same_at numbers legs k) None (differs_at place))
+      among [] e = rw (le-ltb k n (past k e)) (ap some at)
+      among (a ∷ more) e = rw (lt-ltb k n (inside k a more e), same-leg holds k a more r numbers e ids) (by_row (same_leg a r))
         where
-          by_row : (t : Bool) → cond t (differs_from (suc k) text more rest) (some (place_of_row text k)) ≡ onward (cond t c (differs_at place))
-          by_row true = rw (f, drop_next k a more e)
+          by_row : (t : Bool) → cond t (differs_from (suc k) text more rest) (some (place_of_row text k)) ≡ onward (cond t None (differs_at place))
+          by_row true = rw (drop_next k a more e)
           by_row false = ap some at
 
-      go : (t : Bool) → c.differs ≡ t → cond t (some c.place) (differs_from k text (drop k draft) (r ∷ rest)) ≡ onward (cond t c (cond (ltb k n && same_at numbers legs k) c (differs_at place)))
-      go true e = rw e
-      go false e = among (drop k draft) refl e
+      go : (x : Maybe ℕ) → found_or x (differs_from k text (drop k draft) (r ∷ rest)) ≡ onward (compared_with x numbers legs n k place)
+      go (Some found) = refl
+      go None = among (drop k draft) refl
 
   -- nothing is left
-  pub compares_end : (rows : List Row) (c : Compared) → Compares text draft rows c
-      → differs_from 0 text draft rows ≡ cond c.differs (some c.place) (cond (ltb (length rows) n) (some (length text)) none)
-  compares_end rows c h = ap (differs_from 0 text draft) (sym (append-nil rows)) ∙ h [] ∙ ap (cond c.differs (some c.place)) (go (drop (length rows) draft) refl)
+  pub compares_end : (rows : List Row) (c : Maybe ℕ) → Compares text draft rows c
+      → differs_from 0 text draft rows ≡ found_or c (cond (ltb (length rows) n) (some (length text)) none)
+  compares_end rows c h = ap (differs_from 0 text draft) (sym (append-nil rows)) ∙ h [] ∙ ap (found_or c) (go (drop (length rows) draft) refl)
     where
       go : (left : List Row) → drop (length rows) draft ≡ left → differs_from (length rows) text left [] ≡ cond (ltb (length rows) n) (some (length text)) none
       go [] e = rw (le-ltb (length rows) n (past (length rows) e))
       go (a ∷ more) e = rw (lt-ltb (length rows) n (inside (length rows) a more e))
 
   -- the answer is the definition's
-  pub compared_right : (file : ℕ) (rows : List Row) (c : Compared) → Compares text draft rows c
+  pub compared_right : (file : ℕ) (rows : List Row) (c : Maybe ℕ) → Compares text draft rows c
       → compared_answer c (length rows) n (length text) ≡ choices_answer (choices_after file draft text (good rows))
-  compared_right file rows c h = rw (compares_end rows c h) (go c.differs (ltb (length rows) n))
+  compared_right file rows c h = rw (compares_end rows c h) (go c)
     where
-      go : (t u : Bool) → cond t (Fault differs c.place) (cond u (Fault differs (length text)) (Read (length rows)))
-          ≡ choices_answer (matched file (cond t (some c.place) (cond u (some (length text)) none)) rows >>= (λ same. good (choices_of rows)))
-      go true u = refl
-      go false true = refl
-      go false false = ap Read (sym (choices-length rows))
+      none_found : (u : Bool) → cond u (Err (fault_at differs (length text))) (Ok (length rows))
+          ≡ choices_answer (matched file (cond u (some (length text)) none) rows >>= (λ same. good (choices_of rows)))
+      none_found true = refl
+      none_found false = rw (choices-length rows)
+
+      go : (x : Maybe ℕ) → compared_answer x (length rows) n (length text)
+          ≡ choices_answer (matched file (found_or x (cond (ltb (length rows) n) (some (length text)) none)) rows >>= (λ same. good (choices_of rows)))
+      go (Some place) = refl
+      go None = none_found (ltb (length rows) n)
 
 -- ---- the ids: while no row differs, those of the rows before are the draft's first
 
-abbrev pub Follows : (legs : List ℕ) → List Row → Compared → Type 0
-Follows legs before c = c.differs ≡ false → column leg_width (length before) legs ≡ map (λ r. r.leg) before
+abbrev pub Follows : (legs : List ℕ) → List Row → Maybe ℕ → Type 0
+Follows legs before c = c ≡ None → column leg_width (length before) legs ≡ map (λ r. r.leg) before
 
 module _ (legs : List ℕ) (n : ℕ) (whole : n * leg_width ≤ length legs) where
   -- a row whose ids are the table's has its leg's id
@@ -139,19 +150,19 @@ module _ (legs : List ℕ) (n : ℕ) (whole : n * leg_width ≤ length legs) whe
       let all = rw (ids, drop-cons legs (k * leg_width) 0 inside) at same in
       eqb-true (get_or legs (k * leg_width) 0) r.leg (and_first (eqb (get_or legs (k * leg_width) 0) r.leg) _ all)
 
-  pub follows_on : (before : List Row) (c : Compared) (r : Row) (numbers : List ℕ) (place : ℕ) → Follows legs before c → held_ids numbers ≡ ids_of r
+  pub follows_on : (before : List Row) (c : Maybe ℕ) (r : Row) (numbers : List ℕ) (place : ℕ) → Follows legs before c → held_ids numbers ≡ ids_of r
       → Follows legs (before ++ r ∷ []) (compared_with c numbers legs n (length before) place)
-  follows_on before c r numbers place h ids = go c.differs (ltb (length before) n) (same_at numbers legs (length before)) refl refl refl
+  follows_on before c r numbers place h ids = go c (ltb (length before) n) (same_at numbers legs (length before)) refl refl refl
     where
       k : ℕ
       k = length before
 
-      go : (t u v : Bool) → c.differs ≡ t → ltb k n ≡ u → same_at numbers legs k ≡ v → (cond t c (cond (u && v) c (differs_at place))).differs ≡ false
+      go : (x : Maybe ℕ) (u v : Bool) → c ≡ x → ltb k n ≡ u → same_at numbers legs k ≡ v → cond (is_some x) x (cond (u && v) x (differs_at place)) ≡ None
           → column leg_width (length (before ++ r ∷ [])) legs ≡ map (λ r. r.leg) (before ++ r ∷ [])
-      go true u v e l s q = let z : ◌≡◌ {A = Bool} true false = cc in let y : ◌≡◌ {A = ℕ} 0 1 = cc in absurd (omega arith)
-      go false false v e l s q = let z : ◌≡◌ {A = ℕ} 0 1 = cc in absurd (omega arith)
-      go false true false e l s q = let z : ◌≡◌ {A = ℕ} 0 1 = cc in absurd (omega arith)
-      go false true true e l s q =
+      go (Some found) u v e l s q = cc
+      go None false v e l s q = cc
+      go None true false e l s q = cc
+      go None true true e l s q =
           rw (length_snoc before r, map-append (λ (r : Row). r.leg) before (r ∷ []))
           (column-more leg_width k legs
           ∙ ap₂ (λ (ids : List ℕ) (id : ℕ). ids ++ id ∷ []) (h e) (leg_there k r numbers (ltb-true k n l) ids s))

@@ -8,6 +8,8 @@ use lib.Dec.{ltb}
 use lib.ListN.{length, get_or, take, drop, drop_of_length-le, length-drop, length-take}
 use lib.Seq.{drop-cons}
 use borrow.Author.Tests.{ltb-true, eqb-true}
+use Rattle.std.specs.Prelude.{Option as Maybe, Some, None, Result, Err}
+use Rattle.std.specs.Option.{is_some}
 use Rattle.rules.specs.Limits.{leg_width, configuration_width}
 use Rattle.rules.specs.Lists.{flat, over}
 use Rattle.rules.specs.Answers.{refusal, bad_row, Reading, refused, good, Judged, wrong, right}
@@ -23,11 +25,8 @@ use Rattle.text_read.proofs.Laws.{pieces_next, pieces-last}
 use Rattle.timetable_row.specs.declared.line.Line.{Line}
 use Rattle.timetable.specs.Text.{first_line}
 use Rattle.timetable.proofs.Words.{length_snoc}
-use Rattle.solution_row.specs.declared.draft.Compared.{Compared}
-use Rattle.solution_row.specs.declared.draft.Choices.{Choices}
-use Rattle.solution_row.specs.declared.draft.Choices.TheVariants.{Fault}
-use Rattle.solution_row.specs.declared.draft.Fresh.{Fresh}
-use Rattle.solution_row.specs.declared.draft.Fresh.TheVariants.{Id, Unknown}
+use Rattle.timetable_row.specs.declared.fault.Fault.{Fault}
+use Rattle.timetable_row.specs.Faults.{fault_at}
 use Rattle.solution_row.specs.Tests.{Earlier}
 use Rattle.solution_row.specs.Against.{none_differs, next_id, is_known, compared_with, compared_answer}
 use Rattle.solution.specs.Said.{Alone}
@@ -49,7 +48,7 @@ abbrev judge_of : (H : ℕ) (lent : List ℕ) → List Row → List ℕ → Judg
 judge_of H lent = row_of H (solution_fits (length lent / configuration_width))
 
 -- the rows before; what is left of the text gives the rest of the reading, of the places and of the comparison
-pub record Going (H : ℕ) (text legs : List ℕ) (n from : ℕ) (lent : List ℕ) (line : Line) (compared : Compared) (choices : List ℕ) (i : ℕ) : Type 0 where
+pub record Going (H : ℕ) (text legs : List ℕ) (n from : ℕ) (lent : List ℕ) (line : Line) (compared : Maybe ℕ) (choices : List ℕ) (i : ℕ) : Type 0 where
   pub headed : Headed H text legs n from
   pub within : i ≤ length text
   pub long : length choices ≡ length lent
@@ -76,7 +75,7 @@ none-counted H lent =
       choices_are = refl;
     }
 
-pub going_first : (H : ℕ) (text legs : List ℕ) (n from : ℕ) (lent : List ℕ) (line : Line) (compared : Compared) → Headed H text legs n from → line ≡ first_line → compared ≡ none_differs
+pub going_first : (H : ℕ) (text legs : List ℕ) (n from : ℕ) (lent : List ℕ) (line : Line) (compared : Maybe ℕ) → Headed H text legs n from → line ≡ first_line → compared ≡ none_differs
     → Going H text legs n from lent line compared lent from
 unfolding column
 going_first H text legs n from lent line compared h e d =
@@ -96,32 +95,32 @@ going_first H text legs n from lent line compared h e d =
       follows = λ e. refl;
     }
 
-module _ {H : ℕ} {text legs : List ℕ} {n from : ℕ} {lent : List ℕ} {line : Line} {compared : Compared} {choices : List ℕ} {i : ℕ}
+module _ {H : ℕ} {text legs : List ℕ} {n from : ℕ} {lent : List ℕ} {line : Line} {compared : Maybe ℕ} {choices : List ℕ} {i : ℕ}
     (g : Going H text legs n from lent line compared choices i) where
   pub whole : n * leg_width ≤ length legs
   whole = g.headed.able.legs_there.records.whole
 
   -- the draft's next id is not among those of the rows before
-  pub earlier : {fresh : Fresh} → fresh ≡ next_id compared legs n line.rows → Earlier line.rows fresh choices
+  pub earlier : {fresh : Maybe ℕ} → fresh ≡ next_id compared legs n line.rows → Earlier line.rows fresh choices
   earlier {fresh} f =
       record {
         held = omega (arith, g.counted.rows_are, g.counted.fits, g.long);
-        lacks = λ id q. go id compared.differs (ltb line.rows n) refl refl (sym (ap (λ (x : Fresh). is_known x id) f) ∙ q);
+        lacks = λ id q. go id compared (ltb line.rows n) refl refl (sym (ap (λ (x : Maybe ℕ). is_known x id) f) ∙ q);
       }
     where
-      ids_are : compared.differs ≡ false → column configuration_width line.rows choices ≡ column leg_width line.rows legs
+      ids_are : compared ≡ None → column configuration_width line.rows choices ≡ column leg_width line.rows legs
       ids_are e = rw g.counted.rows_are (ids-written g.counted ∙ sym (g.follows e))
 
-      go : (id : ℕ) (t u : Bool) → compared.differs ≡ t → ltb line.rows n ≡ u → is_known (cond t Unknown (cond u (Id (get_or legs (line.rows * leg_width) 0)) Unknown)) id ≡ true
+      go : (id : ℕ) (x : Maybe ℕ) (u : Bool) → compared ≡ x → ltb line.rows n ≡ u → is_known (cond (is_some x) None (cond u (Some (get_or legs (line.rows * leg_width) 0)) None)) id ≡ true
           → is_new id (column configuration_width line.rows choices) ≡ true
-      go id true u e l q = let z : ◌≡◌ {A = ℕ} 0 1 = cc in absurd (omega arith)
-      go id false false e l q = let z : ◌≡◌ {A = ℕ} 0 1 = cc in absurd (omega arith)
-      go id false true e l q =
+      go id (Some p) u e l q = let z : ◌≡◌ {A = ℕ} 0 1 = cc in absurd (omega arith)
+      go id None false e l q = let z : ◌≡◌ {A = ℕ} 0 1 = cc in absurd (omega arith)
+      go id None true e l q =
           let same : id ≡ get_or legs (line.rows * leg_width) 0 = sym (eqb-true (get_or legs (line.rows * leg_width) 0) id q) in
           rw (ids_are e, same) (lone_new leg_width n legs g.headed.able.legs_there line.rows (ltb-true line.rows n l))
 
   -- the text is over
-  pub gone_over : (answer : Choices) → length text ≤ i → answer ≡ compared_answer compared line.rows n (length text) → RowsRead H text legs n from lent answer choices
+  pub gone_over : (answer : Result ℕ Fault) → length text ≤ i → answer ≡ compared_answer compared line.rows n (length text) → RowsRead H text legs n from lent answer choices
   gone_over answer o e =
       record {
         answers = λ draft file holds.
@@ -137,7 +136,7 @@ module _ {H : ℕ} {text legs : List ℕ} {n from : ℕ} {lent : List ℕ} {line
       all_read file = rw (drop_of_length-le text o) at (g.left file)
 
   -- what is refused
-  refused_rows : (k : ℕ) (now : List ℕ) → ((file : ℕ) → refused (refusal k file i) ≡ rows_after H file from lent text) → RowsRead H text legs n from lent (Fault k i) now
+  refused_rows : (k : ℕ) (now : List ℕ) → ((file : ℕ) → refused (refusal k file i) ≡ rows_after H file from lent text) → RowsRead H text legs n from lent (Err (fault_at k i)) now
   refused_rows k now r =
       record {
         answers = λ draft file holds. rw (← r file);
@@ -147,7 +146,7 @@ module _ {H : ℕ} {text legs : List ℕ} {n from : ℕ} {lent : List ℕ} {line
 
   module _ (e : ℕ) (found : e ≡ i + up_to line_feed (drop i text)) where
     -- a row that lacks its LF
-    pub gone_short : i < length text → length text ≤ e → RowsRead H text legs n from lent (Fault bad_row i) choices
+    pub gone_short : i < length text → length text ≤ e → RowsRead H text legs n from lent (Err (fault_at bad_row i)) choices
     gone_short a b = refused_rows bad_row choices (λ file. rw (pieces-last text line_feed i e found b, drop-cons text i 0 a) at (g.left file))
 
     abbrev bytes : List ℕ
@@ -192,13 +191,13 @@ module _ {H : ℕ} {text legs : List ℕ} {n from : ℕ} {lent : List ℕ} {line
         judged : AfterRow H lent line' choices' g.before (judge_of H lent g.before (less_return bytes))
         judged = turned.turns lent g.before g.counted
 
-        pub goes_on : (compared' : Compared) → line'.fault ≡ 0 → compared' ≡ compared_with compared line'.numbers legs n line.rows i
+        pub goes_on : (compared' : Maybe ℕ) → line'.fault ≡ None → compared' ≡ compared_with compared line'.numbers legs n line.rows i
             → Going H text legs n from lent line' compared' choices' (e + 1)
         goes_on compared' f d = go (judge_of H lent g.before (less_return bytes)) judged next_line_lem
           where
             go : (j : Judged Row) → AfterRow H lent line' choices' g.before j → ((file : ℕ) → on_row file (judge_of H lent) i j (onward file) ≡ rows_after H file from lent text)
                 → Going H text legs n from lent line' compared' choices' (e + 1)
-            go (wrong k) a r = absurd (omega (arith, a.0, a.1, f))
+            go (wrong k) a r = cc (a.0, f)
             go (right r) a l =
                 record {
                   headed = g.headed;
@@ -216,10 +215,10 @@ module _ {H : ℕ} {text legs : List ℕ} {n from : ℕ} {lent : List ℕ} {line
                 }
 
         -- the first fault
-        pub gone_fault : (line'.fault ≡ 0 → ⊥) → RowsRead H text legs n from lent (Fault line'.fault i) choices'
-        gone_fault f = go (judge_of H lent g.before (less_return bytes)) judged next_line_lem
+        pub gone_fault : (j : ℕ) → line'.fault ≡ Some j → RowsRead H text legs n from lent (Err (fault_at j i)) choices'
+        gone_fault j f = go (judge_of H lent g.before (less_return bytes)) judged next_line_lem
           where
-            go : (j : Judged Row) → AfterRow H lent line' choices' g.before j → ((file : ℕ) → on_row file (judge_of H lent) i j (onward file) ≡ rows_after H file from lent text)
-                → RowsRead H text legs n from lent (Fault line'.fault i) choices'
-            go (wrong k) a l = rw a.0 (refused_rows k choices' l)
-            go (right r) a l = absurd (f a.0.going)
+            go : (x : Judged Row) → AfterRow H lent line' choices' g.before x → ((file : ℕ) → on_row file (judge_of H lent) i x (onward file) ≡ rows_after H file from lent text)
+                → RowsRead H text legs n from lent (Err (fault_at j i)) choices'
+            go (wrong k) a l = let same : j ≡ k = cc (a.0, f) in rw same (refused_rows k choices' l)
+            go (right r) a l = cc (f, a.0.going)

@@ -1,6 +1,6 @@
 -- A line after the rows before is judged as the definition judges it, and where it is right the table holds its id and its choice.
 -- Assumes nothing.
-use Prim.Native.Nat.{ℕ, zero, suc, ◌+◌, ◌*◌, ◌/◌, ◌≤◌, ◌<◌}
+use Prim.Native.Nat.{ℕ, suc, ◌+◌, ◌*◌, ◌/◌, ◌≤◌, ◌<◌}
 use mathlib.Core.Path.{◌≡◌, refl, ap, sym, ◌∙◌}
 use mathlib.Core.Bool.{Bool, true, false, not, cond, ◌&&◌}
 use mathlib.Core.List.{List, [], ◌∷◌, ◌++◌, map}
@@ -12,6 +12,7 @@ use lib.Seq.{sets}
 use mir.Syntax.{w32}
 use mir.Val.{Fits}
 use borrow.Author.Tests.{leb-true, leb-false, lt-leb, ltb-true}
+use Rattle.std.specs.Prelude.{Option as Maybe, Some, None}
 use Rattle.rules.specs.Limits.{most_id, least_travel, most_travel, most_legs, most_listed, most_configurations, configuration_width}
 use Rattle.rules.specs.Lists.{every, any, flat, over}
 use Rattle.rules.specs.Answers.{judge}
@@ -26,9 +27,8 @@ use Rattle.timetable_row.specs.declared.line.Line.{Line}
 use Rattle.timetable_row.specs.RowOver.{stopped_with, stored_at, range_holds, counts_hold, lowest, Bounded, next_line}
 use Rattle.timetable_row.specs.Slots.{nominal_of, held_ids}
 use Rattle.timetable.proofs.Words.{length_snoc, stored_fits}
-use Rattle.timetable.proofs.Judge.{outcome, judge-lowest, lowest_zero, any_below}
+use Rattle.timetable.proofs.Judge.{outcome, judge-lowest, lowest_none, lowest_positive, any_below}
 use Rattle.timetable.proofs.Accept.{listed_more, above_grows}
-use Rattle.solution_row.specs.declared.draft.Fresh.{Fresh}
 use Rattle.solution_row.specs.Tests.{new_after, choice_tests, Earlier}
 use Rattle.solution.specs.Said.{Alone, range_of, Said, SaidOf}
 use Rattle.solution.specs.Before.{travels, packed, packed_row, counted_as, Counted, AfterRow, Turned}
@@ -49,10 +49,10 @@ said-counted H r line before s =
       nominal_is = s.nominal_is;
     }
 
-pub counted-earlier : (alone before line : Line) (fresh : Fresh) (choices : List ℕ) → line ≡ counted_as alone before → Earlier before.rows fresh choices → Earlier line.rows fresh choices
+pub counted-earlier : (alone before line : Line) (fresh : Maybe ℕ) (choices : List ℕ) → line ≡ counted_as alone before → Earlier before.rows fresh choices → Earlier line.rows fresh choices
 counted-earlier alone before line fresh choices e h = rw e h
 
-counted-line : (H : ℕ) (lent : List ℕ) (line before : Line) (choices : List ℕ) (rows : List Row) → line.fault ≡ 0 → Counted H lent before choices rows → Counted H lent (counted_as line before) choices rows
+counted-line : (H : ℕ) (lent : List ℕ) (line before : Line) (choices : List ℕ) (rows : List Row) → line.fault ≡ None → Counted H lent before choices rows → Counted H lent (counted_as line before) choices rows
 counted-line H lent line before choices rows f c =
     record {
       going = f;
@@ -125,11 +125,11 @@ module _ (H : ℕ) (lent : List ℕ) (line : Line) (choices : List ℕ) (before 
 
   -- ---- the row is right
 
-  module _ (none-fails : lowest (choice_tests H line choices) ≡ 0) where
+  module _ (none-fails : lowest (choice_tests H line choices) ≡ None) where
     holds : (range_holds H line ≡ true) × (counts_hold line ≡ true) × (new_after line.rows line.above (get_or line.numbers 0 0) choices ≡ true)
         × (ltb line.nominal line.entries ≡ true) × (ltb line.rows (length choices / configuration_width) ≡ true)
     holds =
-        lowest_zero (range_holds H line) (counts_hold line) (new_after line.rows line.above (get_or line.numbers 0 0) choices) (ltb line.nominal line.entries) (ltb line.rows (length choices / configuration_width)) none-fails
+        lowest_none (range_holds H line) (counts_hold line) (new_after line.rows line.above (get_or line.numbers 0 0) choices) (ltb line.nominal line.entries) (ltb line.rows (length choices / configuration_width)) none-fails
 
     ranged : range_of H r ≡ true
     ranged = sym s.range_is ∙ holds.0
@@ -196,7 +196,7 @@ module _ (H : ℕ) (bytes : List ℕ) (before alone line' : Line) (choices choic
   by_form h = record { turns = λ lent rows c. h lent rows c (form_of (less_return bytes)) said }
 
   -- it breaks a row's form
-  broken : (alone.fault ≡ 0 → ⊥) → line' ≡ alone → choices' ≡ choices → Turned H bytes before choices line' choices'
+  broken : (alone.fault ≡ None → ⊥) → line' ≡ alone → choices' ≡ choices → Turned H bytes before choices line' choices'
   broken f l e = by_form go
     where
       go : (lent : List ℕ) (rows : List Row) → Counted H lent before choices rows → (o : Option Row) → SaidOf H o alone
@@ -204,7 +204,7 @@ module _ (H : ℕ) (bytes : List ℕ) (before alone line' : Line) (choices choic
       go lent rows c none s = (ap (λ (x : Line). x.fault) l ∙ s, omega arith)
       go lent rows c (some r) s = absurd (f s.going)
 
-  module _ (line : Line) (k : ℕ) (right-form : alone.fault ≡ 0) (line-is : line ≡ counted_as alone before) (lowest_is : k ≡ lowest (choice_tests H line choices)) where
+  module _ (line : Line) (k : Maybe ℕ) (right-form : alone.fault ≡ None) (line-is : line ≡ counted_as alone before) (lowest_is : k ≡ lowest (choice_tests H line choices)) where
     -- what is to be shown of the row
     by_judging : ((lent : List ℕ) (rows : List Row) (r : Row) → Said H r line → Counted H lent line choices rows → AfterRow H lent line' choices' rows (outcome k r))
         → Turned H bytes before choices line' choices'
@@ -212,20 +212,21 @@ module _ (H : ℕ) (bytes : List ℕ) (before alone line' : Line) (choices choic
       where
         go : (lent : List ℕ) (rows : List Row) → Counted H lent before choices rows → (o : Option Row) → SaidOf H o alone
             → AfterRow H lent line' choices' rows (judge_form H (solution_fits (length lent / configuration_width)) rows o)
-        go lent rows c none s = absurd (omega (arith, s, right-form))
+        go lent rows c none s = cc (s, right-form)
         go lent rows c (some r) s =
             let s' : Said H r line = rw line-is (said-counted H r alone before s) in
             let c' : Counted H lent line choices rows = rw line-is (counted-line H lent alone before choices rows right-form c) in
             rw (judged H lent line choices rows r s' c', ← lowest_is) (h lent rows r s' c')
 
-    faulty : (k ≡ 0 → ⊥) → line' ≡ stopped_with line k → choices' ≡ choices → Turned H bytes before choices line' choices'
-    faulty z l e = by_judging (λ lent rows r s c. go k z l lent rows r)
+    faulty : (j : ℕ) → k ≡ Some j → line' ≡ stopped_with line j → choices' ≡ choices → Turned H bytes before choices line' choices'
+    faulty j z l e = by_judging (λ lent rows r s c. rw z (ap (λ (x : Line). x.fault) l, positive))
       where
-        go : (j : ℕ) → (j ≡ 0 → ⊥) → line' ≡ stopped_with line j → (lent : List ℕ) (rows : List Row) (r : Row) → AfterRow H lent line' choices' rows (outcome j r)
-        go zero z l lent rows r = absurd (z refl)
-        go (suc j) z l lent rows r = (ap (λ (x : Line). x.fault) l, omega arith)
+        positive : 0 < j
+        positive =
+            lowest_positive (range_holds H line) (counts_hold line) (new_after line.rows line.above (get_or line.numbers 0 0) choices) (ltb line.nominal line.entries)
+            (ltb line.rows (length choices / configuration_width)) j (sym z ∙ lowest_is)
 
-    pub turned_right : k ≡ 0 → choices' ≡ stored_at configuration_width line.rows (packed (get_or line.numbers 0 0) (nominal_of line.numbers)) choices → line' ≡ next_line line 0
+    pub turned_right : k ≡ None → choices' ≡ stored_at configuration_width line.rows (packed (get_or line.numbers 0 0) (nominal_of line.numbers)) choices → line' ≡ next_line line 0
         → Turned H bytes before choices line' choices'
     turned_right z e l =
         by_judging
@@ -234,20 +235,20 @@ module _ (H : ℕ) (bytes : List ℕ) (before alone line' : Line) (choices choic
         (accepted H lent line choices rows r s c (sym lowest_is ∙ z) choices' 0 e, s.ids_are (ranged H lent line choices rows r s c (sym lowest_is ∙ z))))
 
 -- a row at fault leaves the table as it was
-pub turned-broken : (H : ℕ) (bytes : List ℕ) (before alone : Line) (choices : List ℕ) → SaidOf H (form_of (less_return bytes)) alone → (alone.fault ≡ 0 → ⊥) → Turned H bytes before choices alone choices
+pub turned-broken : (H : ℕ) (bytes : List ℕ) (before alone : Line) (choices : List ℕ) → SaidOf H (form_of (less_return bytes)) alone → (alone.fault ≡ None → ⊥) → Turned H bytes before choices alone choices
 turned-broken H bytes before alone choices said f = broken H bytes before alone alone choices choices said f refl refl
 
-pub turned_fault : (H : ℕ) (bytes : List ℕ) (before alone line line' : Line) (k : ℕ) (choices : List ℕ) → SaidOf H (form_of (less_return bytes)) alone → alone.fault ≡ 0 → line ≡ counted_as alone before
-    → k ≡ lowest (choice_tests H line choices) → (k ≡ 0 → ⊥) → line' ≡ stopped_with line k → Turned H bytes before choices line' choices
-turned_fault H bytes before alone line line' k choices said f e l z s = faulty H bytes before alone line' choices choices said line k f e l z s refl
+pub turned_fault : (H : ℕ) (bytes : List ℕ) (before alone line line' : Line) (k : Maybe ℕ) (j : ℕ) (choices : List ℕ) → SaidOf H (form_of (less_return bytes)) alone → alone.fault ≡ None → line ≡ counted_as alone before
+    → k ≡ lowest (choice_tests H line choices) → k ≡ Some j → line' ≡ stopped_with line j → Turned H bytes before choices line' choices
+turned_fault H bytes before alone line line' k j choices said f e l z s = faulty H bytes before alone line' choices choices said line k f e l j z s refl
 
 -- ---- what the code knows of a row with no fault
 
-module _ (H : ℕ) (line : Line) (choices : List ℕ) (k : ℕ) (lowest_is : k ≡ lowest (choice_tests H line choices)) (z : k ≡ 0) where
+module _ (H : ℕ) (line : Line) (choices : List ℕ) (k : Maybe ℕ) (lowest_is : k ≡ lowest (choice_tests H line choices)) (z : k ≡ None) where
   passes : (range_holds H line ≡ true) × (counts_hold line ≡ true) × (new_after line.rows line.above (get_or line.numbers 0 0) choices ≡ true)
       × (ltb line.nominal line.entries ≡ true) × (ltb line.rows (length choices / configuration_width) ≡ true)
   passes =
-      lowest_zero (range_holds H line) (counts_hold line) (new_after line.rows line.above (get_or line.numbers 0 0) choices) (ltb line.nominal line.entries) (ltb line.rows (length choices / configuration_width)) (sym lowest_is ∙ z)
+      lowest_none (range_holds H line) (counts_hold line) (new_after line.rows line.above (get_or line.numbers 0 0) choices) (ltb line.nominal line.entries) (ltb line.rows (length choices / configuration_width)) (sym lowest_is ∙ z)
 
   ids_low : every (λ id. leb id most_id) (held_ids line.numbers) ≡ true
   ids_low = and_first (every (λ id. leb id most_id) (held_ids line.numbers)) (in_range H (nominal_of line.numbers) && not line.wide) passes.0

@@ -10,6 +10,7 @@ use lib.Dec.{leb}
 use lib.ListN.{length, get_or, drop}
 use lib.Seq.{drop-length}
 use borrow.Author.Tests.{leb-true}
+use Rattle.std.specs.Prelude.{None}
 use Rattle.rules.specs.Limits.{most_id}
 use Rattle.rules.specs.Lists.{◌>>=◌}
 use Rattle.rules.specs.Answers.{bad_row, timetable_file}
@@ -199,20 +200,20 @@ module _ (H : ℕ) (line : List ℕ) (begun : Line) (reader : Reader) (legs entr
   by_end line' h = subst (λ (f : Option Row). SaidOf H f line') (sym (form_run_lem line)) (h at_end at-end)
 
   -- it has stopped
-  pub said_stopped : (reader.line.fault ≡ 0 → ⊥) → SaidOf H (form_of (less_return line)) reader.line
+  pub said_stopped : (reader.line.fault ≡ None → ⊥) → SaidOf H (form_of (less_return line)) reader.line
   said_stopped fault = by_end reader.line go
     where
       go : (m : Option (Marked Open)) → HeldAt m → SaidOf H (m >>= close_at) reader.line
       go none h = h.0
       go (some m) h = absurd (fault h.4.going)
 
-  module _ (line' : Line) (t : Bool) (f : reader.line.fault ≡ 0) (ends : t ≡ may_end reader.mark) where
+  module _ (line' : Line) (t : Bool) (f : reader.line.fault ≡ None) (ends : t ≡ may_end reader.mark) where
     -- a quote is open
     pub said_open : t ≡ false → line' ≡ stopped_with reader.line bad_row → SaidOf H (form_of (less_return line)) line'
     said_open u l = by_end line' go
       where
         go : (m : Option (Marked Open)) → HeldAt m → SaidOf H (m >>= close_at) line'
-        go none h = absurd (omega (arith, h.0, h.2, f))
+        go none h = cc
         go (some m) h =
             subst (λ (x : Option Row). SaidOf H x line') (sym (ap close_at h.2 ∙ mark_open reader.mark h.0 (sym ends ∙ u))) (ap (λ (x : Line). x.fault) l)
 
@@ -221,6 +222,6 @@ module _ (H : ℕ) (line : List ℕ) (begun : Line) (reader : Reader) (legs entr
     said_closed u closed = by_end line' go
       where
         go : (m : Option (Marked Open)) → HeldAt m → SaidOf H (m >>= close_at) line'
-        go none h = absurd (omega (arith, h.0, h.2, f))
+        go none h = cc
         go (some m) h =
             subst (λ (x : Option Row). SaidOf H x line') (sym (ap close_at h.2 ∙ mark_ends reader.mark h.0 (sym ends ∙ u))) (closed.closes lent legs' 0 h.0 h.4 h.3)

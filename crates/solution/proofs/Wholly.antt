@@ -6,6 +6,7 @@ use mathlib.Core.Option.{Option, none, some}
 use native.Mathlib.Omega.{arith}
 use lib.ListN.{length, drop}
 use borrow.Author.Tests.{le-leb, lt-leb}
+use Rattle.std.specs.Prelude.{Result, Ok, Err}
 use Rattle.rules.specs.Limits.{most_text, configuration_width}
 use Rattle.rules.specs.Lists.{flat, over}
 use Rattle.rules.specs.Answers.{refusal, too_long, bad_header, Reading, refused, good, ◌>>=◌, Judged}
@@ -16,8 +17,8 @@ use Rattle.rules.specs.Timetable.{Row, row_of, solution_fits, solution_of, timet
 use Rattle.rules.specs.Reading.{Files, differs_from, matched, choices_read}
 use Rattle.rules.specs.declared.sizes.Configuration.{Configuration}
 use Rattle.csv_header.proofs.Below as Below
-use Rattle.solution_row.specs.declared.draft.Choices.{Choices}
-use Rattle.solution_row.specs.declared.draft.Choices.TheVariants.{Fault, Read}
+use Rattle.timetable_row.specs.declared.fault.Fault.{Fault}
+use Rattle.timetable_row.specs.Faults.{fault_at}
 use Rattle.solution.specs.Promise.{Able, HoldsRows, choices_answer, ChoicesRead}
 use Rattle.solution.specs.Whole.{head_end, Headed, rows_after, choices_after, RowsRead, unpacked}
 use Rattle.solution.proofs.Differing.{choices-length}
@@ -40,7 +41,7 @@ module _ (H : ℕ) (text legs : List ℕ) (n : ℕ) (lent now : List ℕ) where
   in_order files file = refl
 
   -- a fault of the whole text
-  refused_whole : (k : ℕ) → ((file : ℕ) → solution_of H file (length lent / configuration_width) text ≡ refused (refusal k file 0)) → ChoicesRead H text legs n lent (Fault k 0) now
+  refused_whole : (k : ℕ) → ((file : ℕ) → solution_of H file (length lent / configuration_width) text ≡ refused (refusal k file 0)) → ChoicesRead H text legs n lent (Err (fault_at k 0)) now
   refused_whole k r =
       record {
         answers = λ files file holds. rw (in_order files file, r file);
@@ -48,17 +49,17 @@ module _ (H : ℕ) (text legs : List ℕ) (n : ℕ) (lent now : List ℕ) where
       }
 
   -- 2: the text is too long
-  pub read_long : most_text < length text → ChoicesRead H text legs n lent (Fault too_long 0) now
+  pub read_long : most_text < length text → ChoicesRead H text legs n lent (Err (fault_at too_long 0)) now
   unfolding solution_of csv_of
   read_long h = refused_whole too_long (λ file. rw (lt-leb (length text) most_text h))
 
   module _ (short : length text ≤ most_text) (from : ℕ) (ends : from ≡ head_end (split_on line_feed text)) where
     -- 3: the header differs
-    pub read_headless : from ≡ 0 → ChoicesRead H text legs n lent (Fault bad_header 0) now
+    pub read_headless : from ≡ 0 → ChoicesRead H text legs n lent (Err (fault_at bad_header 0)) now
     unfolding solution_of csv_of
     read_headless u = refused_whole bad_header (λ file. rw (le-leb (length text) most_text short) (Below.headless timetable_names text from ends file (row_of H (solution_fits (length lent / configuration_width))) u))
 
-    module _ (u : from ≡ 0 → ⊥) (answer : Choices) (choices : List ℕ) (rows : RowsRead H text legs n from lent answer choices) where
+    module _ (u : from ≡ 0 → ⊥) (answer : Result ℕ Fault) (choices : List ℕ) (rows : RowsRead H text legs n from lent answer choices) where
       rows_are : (files : Files) (file : ℕ) → choices_read H files file (length lent) text ≡ choices_after file files.rows text (rows_after H file from lent text)
       unfolding choices_read solution_of csv_of
       rows_are files file =
@@ -69,8 +70,8 @@ module _ (H : ℕ) (text legs : List ℕ) (n : ℕ) (lent now : List ℕ) where
       answered files file holds = rw (rows_are files file) (rows.answers files.rows file holds)
 
       -- a row is at fault
-      faulty : (k place : ℕ) → answer ≡ Fault k place → ChoicesRead H text legs n lent answer now
-      faulty k place f =
+      faulty : (e : Fault) → answer ≡ Err e → ChoicesRead H text legs n lent answer now
+      faulty e f =
           record {
             answers = answered;
             chooses = λ files file holds cs q.
@@ -79,7 +80,7 @@ module _ (H : ℕ) (text legs : List ℕ) (n : ℕ) (lent now : List ℕ) where
           }
 
       -- nothing is refused, and the choices are unpacked
-      pub read_right : (m : ℕ) → answer ≡ Read m → now ≡ unpacked m choices → ChoicesRead H text legs n lent (Read m) now
+      pub read_right : (m : ℕ) → answer ≡ Ok m → now ≡ unpacked m choices → ChoicesRead H text legs n lent (Ok m) now
       read_right m f e =
           record {
             answers = λ files file holds. sym f ∙ answered files file holds;
@@ -106,11 +107,11 @@ module _ (H : ℕ) (text legs : List ℕ) (n : ℕ) (lent now : List ℕ) where
               ∙ ap (λ (x : List Configuration). over (flat configuration_numbers x) lent) same
 
 -- a row at fault leaves the table as the rows left it
-pub read_fault : (H : ℕ) (text legs : List ℕ) (n : ℕ) (lent now : List ℕ) → length text ≤ most_text → (from : ℕ) → from ≡ head_end (split_on line_feed text) → (from ≡ 0 → ⊥) → (answer : Choices)
-    → RowsRead H text legs n from lent answer now → (k place : ℕ) → answer ≡ Fault k place → ChoicesRead H text legs n lent answer now
-read_fault H text legs n lent now short from ends u answer rows k place f = faulty H text legs n lent now short from ends u answer now rows k place f
+pub read_fault : (H : ℕ) (text legs : List ℕ) (n : ℕ) (lent now : List ℕ) → length text ≤ most_text → (from : ℕ) → from ≡ head_end (split_on line_feed text) → (from ≡ 0 → ⊥) → (answer : Result ℕ Fault)
+    → RowsRead H text legs n from lent answer now → (e : Fault) → answer ≡ Err e → ChoicesRead H text legs n lent (Err e) now
+read_fault H text legs n lent now short from ends u answer rows e f = rw f at (faulty H text legs n lent now short from ends u answer now rows e f)
 
 -- the choices have room for what is unpacked
-pub unpack_room : {H : ℕ} {text legs : List ℕ} {n from : ℕ} {lent choices : List ℕ} {answer : Choices} (m : ℕ) → RowsRead H text legs n from lent answer choices → answer ≡ Read m
+pub unpack_room : {H : ℕ} {text legs : List ℕ} {n from : ℕ} {lent choices : List ℕ} {answer : Result ℕ Fault} (m : ℕ) → RowsRead H text legs n from lent answer choices → answer ≡ Ok m
     → m * configuration_width ≤ length choices
 unpack_room m rows f = rows.fits m f

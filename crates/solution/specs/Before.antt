@@ -1,6 +1,6 @@
 -- The rows before: what is held of them. While a solution is read, an entry of its choices holds the row's id beside the choice, so that a
 -- repeated id is seen without a table of ids.
-use Rattle.std.specs.Prelude.{ℕ, suc, ◌+◌, ◌*◌, ◌/◌, ◌≤◌, ◌<◌, ◌≡◌, true, List, [], ◌∷◌, ◌++◌, length}
+use Rattle.std.specs.Prelude.{Some, None, ℕ, suc, ◌+◌, ◌*◌, ◌/◌, ◌≤◌, ◌<◌, ◌≡◌, true, List, [], ◌∷◌, ◌++◌, length}
 use Rattle.rules.specs.Limits.{most_legs, most_configurations, most_travel, configuration_width}
 use Rattle.rules.specs.Lists.{flat, over}
 use Rattle.rules.specs.Answers.{Judged, wrong, right}
@@ -47,7 +47,7 @@ counted_as line before =
 
 -- the counts of the rows before, and the table that holds them
 pub record Counted (H : ℕ) (lent : List ℕ) (line : Line) (choices : List ℕ) (before : List Row) : Type 0 where
-  pub going : line.fault ≡ 0
+  pub going : line.fault ≡ None
   pub rows_are : line.rows ≡ length before
   pub configurations_are_lem : line.configurations ≡ listed before
   pub below : All (λ r. r.leg < line.above) before
@@ -59,7 +59,7 @@ pub record Counted (H : ℕ) (lent : List ℕ) (line : Line) (choices : List ℕ
 
 -- what a row that is judged must give: its ids are at hand too
 abbrev pub AfterRow : (H : ℕ) (lent : List ℕ) (line : Line) (choices : List ℕ) → List Row → Judged Row → Type 0
-AfterRow H lent line choices before (wrong k) = (line.fault ≡ k) × (0 < k)
+AfterRow H lent line choices before (wrong k) = (line.fault ≡ Some k) × (0 < k)
 AfterRow H lent line choices before (right r) = Counted H lent line choices (before ++ r ∷ []) × (held_ids line.numbers ≡ ids_of r)
 
 pub record Turned (H : ℕ) (bytes : List ℕ) (line : Line) (choices : List ℕ) (line' : Line) (choices' : List ℕ) : Type 0 where

@@ -1,5 +1,5 @@
 -- What a line says, read by itself: that it breaks a row's form, or the row's numbers as they are held and what the tests of a row need.
-use Rattle.std.specs.Prelude.{ℕ, suc, ◌≤◌, min, ◌≡◌, Bool, true, ◌&&◌, List, [], leb, ltb, length}
+use Rattle.std.specs.Prelude.{Some, None, ℕ, suc, ◌≤◌, min, ◌≡◌, Bool, true, ◌&&◌, List, [], leb, ltb, length}
 use Rattle.std.proofs.Math.Option.{Option, none, some}
 use Rattle.rules.specs.Limits.{most_horizon, most_text, most_id, most_listed}
 use Rattle.rules.specs.Lists.{every}
@@ -24,7 +24,7 @@ abbrev pub range_of : (H : ℕ) → Row → Bool
 range_of H r = every (λ id. leb id most_id) (ids_of r) && (in_range H r.nominal && every (in_range H) r.list)
 
 pub record Said (H : ℕ) (r : Row) (line : Line) : Type 0 where
-  pub going : line.fault ≡ 0
+  pub going : line.fault ≡ None
   pub range_is : range_holds H line ≡ range_of H r
   pub entries_are : line.entries ≡ min (length r.list) (suc most_listed)
   pub listed_is : range_of H r ≡ true → length r.list ≤ most_listed → ltb line.nominal line.entries ≡ offers r.list r.nominal
@@ -32,7 +32,7 @@ pub record Said (H : ℕ) (r : Row) (line : Line) : Type 0 where
   pub nominal_is : range_of H r ≡ true → nominal_of line.numbers ≡ r.nominal
 
 abbrev pub SaidOf : (H : ℕ) → Option Row → Line → Type 0
-SaidOf H none line = line.fault ≡ bad_row
+SaidOf H none line = line.fault ≡ Some bad_row
 SaidOf H (some r) line = Said H r line
 
 -- what the end of a line must give, from what is held of an open row

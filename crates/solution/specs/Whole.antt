@@ -1,5 +1,5 @@
 -- The two passes over a solution: the rows after the header, each id and choice in one entry; then the choices alone.
-use Rattle.std.specs.Prelude.{ℕ, ◌+◌, ◌*◌, ◌/◌, ◌%◌, ◌≤◌, ◌≡◌, true, List, [], ◌∷◌, length, get_or, drop}
+use Rattle.std.specs.Prelude.{Result, Ok, ℕ, ◌+◌, ◌*◌, ◌/◌, ◌%◌, ◌≤◌, ◌≡◌, true, List, [], ◌∷◌, length, get_or, drop}
 use Rattle.rules.specs.Limits.{most_text, configuration_width}
 use Rattle.rules.specs.Lists.{flat, over}
 use Rattle.rules.specs.Answers.{Reading, good, ◌>>=◌}
@@ -11,8 +11,7 @@ use Rattle.rules.specs.Energy.{tabulate}
 use Rattle.rules.specs.Verdict.{All}
 use Rattle.rules.specs.declared.sizes.Configuration.{Configuration}
 use Rattle.csv_header.specs.Heading.{end_in}
-use Rattle.solution_row.specs.declared.draft.Choices.{Choices}
-use Rattle.solution_row.specs.declared.draft.Choices.TheVariants.{Read}
+use Rattle.timetable_row.specs.declared.fault.Fault.{Fault}
 use Rattle.solution.specs.Before.{travels, times_at, profile_at, packed_row}
 use Rattle.solution.specs.Promise.{Able, HoldsRows, choices_answer}
 
@@ -47,10 +46,10 @@ pub record Packed (H : ℕ) (lent : List ℕ) (rows : List Row) (choices : List 
   pub packed_are : choices ≡ over (flat packed_row rows) lent
   pub in_range_lem : All (λ r. in_range H r.nominal ≡ true) rows
 
-pub record RowsRead (H : ℕ) (text legs : List ℕ) (n from : ℕ) (lent : List ℕ) (answer : Choices) (choices : List ℕ) : Type 0 where
+pub record RowsRead (H : ℕ) (text legs : List ℕ) (n from : ℕ) (lent : List ℕ) (answer : Result ℕ Fault) (choices : List ℕ) : Type 0 where
   pub answers : (draft : List Row) (file : ℕ) → HoldsRows legs n draft → answer ≡ choices_answer (choices_after file draft text (rows_after H file from lent text))
   pub packs : (file : ℕ) (rows : List Row) → rows_after H file from lent text ≡ good rows → Packed H lent rows choices
-  pub fits : (rows : ℕ) → answer ≡ Read rows → rows * configuration_width ≤ length choices
+  pub fits : (rows : ℕ) → answer ≡ Ok rows → rows * configuration_width ≤ length choices
 
 -- ---- the choices
 

@@ -6,7 +6,6 @@ ghost use Rattle.solution.specs.Before.{counted_as, Turned};
 
 use crate::row;
 use rules::sizes::{Configuration, Leg};
-use solution_row::draft::Fresh;
 use solution_row::faults;
 use timetable_row::line;
 use timetable_row::line::Line;
@@ -20,25 +19,25 @@ pub const TIMES_AT: usize = 1;
 fn counted_as(line: Line, before: Line) -> Line
     ensures { result ≡ counted_as line before }
 {
-    let mut out = line;
-    out.rows = before.rows;
-    out.configurations = before.configurations;
-    out.above = before.above;
-    out
+    Line {
+        rows: before.rows,
+        configurations: before.configurations,
+        above: before.above,
+        ..line
+    }
 }
 
 // A line after the rows before, none of which has a fresh id: the first fault's number, or the counts with this row among them.
-pub fn turn(bytes: &[u8], h: u32, before: Line, fresh: Fresh, choices: &mut [u32]) -> Line
+pub fn turn(bytes: &[u8], h: u32, before: Line, fresh: Option<u32>, choices: &mut [u32]) -> Line
     requires { Alone h bytes.now × Earlier before.rows fresh choices.old }
     ensures { Turned h bytes.now before choices.old result choices.new }
 {
     let alone = row::read_row(bytes, h);
-    if alone.fault != 0 {
+    if alone.fault.is_some() {
         return alone;
     }
     let line = counted_as(alone, before);
-    let number = faults::fault(line, h, fresh, choices);
-    if number != 0 {
+    if let Some(number) = faults::fault(line, h, fresh, choices) {
         return line::stopped(line, number);
     }
     let numbers = line.numbers;

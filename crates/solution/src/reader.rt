@@ -11,22 +11,22 @@ use csv_marks::Mark;
 use rules::answers::Refusal;
 use rules::sizes::{Choice, Configuration, Leg, Text};
 use solution_row::draft;
-use solution_row::draft::Choices;
 use timetable::reader;
+use timetable_row::fault::Fault;
 use timetable_row::line;
 
 // Where the header ends and the first row begins; 0 where the header differs.
+// Kept (law `end_in` of `csv_header`): it says 0 there too.
 fn head_end(text: &[u8]) -> usize
     ensures { result ≡ head_end (split_on line_feed text.now) }
 {
-    let headed = csv_header::header(text, 0, Mark::Bare);
-    if headed.right {
-        if Leg::HEADER_LENGTH <= headed.head {
-            return headed.next;
-        }
+    let Ok(headed) = csv_header::header(text, 0, Mark::Bare) else {
+        return 0;
+    };
+    if headed.head < Leg::HEADER_LENGTH {
         return 0;
     }
-    0
+    headed.next
 }
 
 // The rows after the header, from a place on. The table holds ids and choices, packed.
@@ -37,30 +37,34 @@ fn read_rows(
     legs: &[u32],
     n: usize,
     choices: &mut [u32],
-) -> Choices
+) -> Result<u32, Fault>
     requires { Headed h text.now legs.now n from }
     ensures { RowsRead h text.now legs.now n from choices.old result choices.new }
 {
     let mut line = reader::first_line();
-    let mut compared = draft::none_differs();
+    let mut differing = draft::none_differs();
     let mut i = from;
+    // Kept (no plainer): a turn goes on by what it has read, which no range does.
     while i < text.len() {
         let place = i as u32;
         let e = ends::line_end(text, i);
         if text.len() <= e {
-            return Choices::Fault(Refusal::ROW_FORM, place);
+            return Err(Fault {
+                number: Refusal::ROW_FORM,
+                place,
+            });
         }
         let row = line.rows as usize;
-        let fresh = draft::next_id(compared, legs, n, row);
+        let fresh = draft::next_id(differing, legs, n, row);
         line = after::turn(&text[i..e], h, line, fresh, choices);
-        if line.fault != 0 {
-            return Choices::Fault(line.fault, place);
+        if let Some(number) = line.fault {
+            return Err(Fault { number, place });
         }
         let numbers = line.numbers;
-        compared = draft::compared_with(compared, numbers, legs, n, row, place);
+        differing = draft::compared_with(differing, numbers, legs, n, row, place);
         i = e + 1;
     }
-    draft::compared_answer(compared, line.rows, n, text.len())
+    draft::compared_answer(differing, line.rows, n, text.len())
 }
 
 // The choices of n rows, out of ids and choices.
@@ -68,8 +72,7 @@ fn unpack(choices: &mut [u32], n: usize)
     requires { n * configuration_width ≤ length choices.old }
     ensures { choices.new ≡ unpacked n choices.old }
 {
-    let mut i = 0;
-    while i < n {
+    for i in 0..n {
         let from = i * Choice::WIDTH;
         let times = choices[from + after::TIMES_AT];
         let profile = choices[from + Configuration::PROFILE_AT];
@@ -80,26 +83,34 @@ fn unpack(choices: &mut [u32], n: usize)
             times % after::TRAVELS,
             profile,
         );
-        i += 1;
     }
 }
 
 // A whole text, against the n rows of a draft's leg table.
-pub fn read_choices(text: &[u8], h: u32, legs: &[u32], n: usize, choices: &mut [u32]) -> Choices
+pub fn read_choices(
+    text: &[u8],
+    h: u32,
+    legs: &[u32],
+    n: usize,
+    choices: &mut [u32],
+) -> Result<u32, Fault>
     requires { Able h legs.now n }
     ensures { ChoicesRead h text.now legs.now n choices.old result choices.new }
 {
     if Text::MOST < text.len() {
-        return Choices::Fault(Refusal::TOO_LONG, 0);
+        return Err(Fault {
+            number: Refusal::TOO_LONG,
+            place: 0,
+        });
     }
     let from = head_end(text);
     if from == 0 {
-        return Choices::Fault(Refusal::HEADER, 0);
+        return Err(Fault {
+            number: Refusal::HEADER,
+            place: 0,
+        });
     }
-    let read = read_rows(text, from, h, legs, n, choices);
-    let Choices::Read(rows) = read else {
-        return read;
-    };
+    let rows = read_rows(text, from, h, legs, n, choices)?;
     unpack(choices, rows as usize);
-    Choices::Read(rows)
+    Ok(rows)
 }

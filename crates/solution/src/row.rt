@@ -45,7 +45,7 @@ pub fn read_row(bytes: &[u8], h: u32) -> Line
     let row = read.line;
     let unclosed = read.number;
     let mark = read.mark;
-    if row.fault != 0 {
+    if row.fault.is_some() {
         return row;
     }
     if csv_marks::may_end(mark) {

@@ -1,14 +1,12 @@
 -- 14: a solution's rows beside the draft's, as far as they are read.
-use Rattle.std.specs.Prelude.{ℕ, ◌+◌, ◌*◌, ◌≤◌, Bool, true, false, cond, ◌&&◌, List, ltb, eqb, length, get_or, drop}
+use Rattle.std.specs.Prelude.{ℕ, ◌+◌, ◌*◌, ◌≤◌, Bool, false, cond, Option, Some, None, Result, Ok, Err, ◌&&◌, List, ltb, eqb, length, get_or, drop}
+use Rattle.std.specs.Option.{is_some}
 use Rattle.rules.specs.Limits.{leg_width}
 use Rattle.rules.specs.Lists.{starts_with}
 use Rattle.rules.specs.Answers.{differs}
 use Rattle.timetable_row.specs.Slots.{held_ids}
-use Rattle.solution_row.specs.declared.draft.Compared.{Compared}
-use Rattle.solution_row.specs.declared.draft.Fresh.{Fresh}
-use Rattle.solution_row.specs.declared.draft.Fresh.TheVariants.{Id, Unknown}
-use Rattle.solution_row.specs.declared.draft.Choices.{Choices}
-use Rattle.solution_row.specs.declared.draft.Choices.TheVariants.{Fault, Read}
+use Rattle.timetable_row.specs.declared.fault.Fault.{Fault}
+use Rattle.timetable_row.specs.Faults.{fault_at}
 
 -- the table has a whole row there
 abbrev pub InTable : (row : ℕ) (legs : List ℕ) → Type 0
@@ -18,25 +16,27 @@ InTable row legs = row * leg_width + leg_width ≤ length legs
 abbrev pub same_at : (numbers legs : List ℕ) (row : ℕ) → Bool
 same_at numbers legs row = starts_with (held_ids numbers) (drop (row * leg_width) legs)
 
-abbrev pub none_differs : Compared
-none_differs = record { differs = false; place = 0 }
+-- where the first row that differs starts
+abbrev pub none_differs : Option ℕ
+none_differs = None
 
-abbrev pub differs_at : (place : ℕ) → Compared
-differs_at place = record { differs = true; place = place }
+abbrev pub differs_at : (place : ℕ) → Option ℕ
+differs_at place = Some place
 
 -- the draft's id where the next row stands, while no row differs
-abbrev pub next_id : Compared → (legs : List ℕ) (n row : ℕ) → Fresh
-next_id c legs n row = cond c.differs Unknown (cond (ltb row n) (Id (get_or legs (row * leg_width) 0)) Unknown)
+abbrev pub next_id : Option ℕ → (legs : List ℕ) (n row : ℕ) → Option ℕ
+next_id differing legs n row = cond (is_some differing) None (cond (ltb row n) (Some (get_or legs (row * leg_width) 0)) None)
 
-abbrev pub is_known : Fresh → (id : ℕ) → Bool
-is_known (Id known) id = eqb known id
-is_known Unknown id = false
+abbrev pub is_known : Option ℕ → (id : ℕ) → Bool
+is_known (Some known) id = eqb known id
+is_known None id = false
 
 -- with one row more: the first that differs is kept
-abbrev pub compared_with : Compared → (numbers legs : List ℕ) (n row place : ℕ) → Compared
-compared_with before numbers legs n row place =
-    cond before.differs before (cond (ltb row n && same_at numbers legs row) before (differs_at place))
+abbrev pub compared_with : Option ℕ → (numbers legs : List ℕ) (n row place : ℕ) → Option ℕ
+compared_with differing numbers legs n row place =
+    cond (is_some differing) differing (cond (ltb row n && same_at numbers legs row) differing (differs_at place))
 
 -- the answer after the last row: what differs, or how many rows there are
-abbrev pub compared_answer : Compared → (rows n end : ℕ) → Choices
-compared_answer c rows n end = cond c.differs (Fault differs c.place) (cond (ltb rows n) (Fault differs end) (Read rows))
+abbrev pub compared_answer : Option ℕ → (rows n end : ℕ) → Result ℕ Fault
+compared_answer (Some place) rows n end = Err (fault_at differs place)
+compared_answer None rows n end = cond (ltb rows n) (Err (fault_at differs end)) (Ok rows)

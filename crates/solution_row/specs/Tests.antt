@@ -1,11 +1,10 @@
 -- A row's tests after the rows before, whose ids stand in the choices.
-use Rattle.std.specs.Prelude.{ℕ, ◌*◌, ◌/◌, ◌≤◌, ◌≡◌, Bool, true, cond, List, [], ◌∷◌, leb, ltb, length, get_or}
+use Rattle.std.specs.Prelude.{ℕ, ◌*◌, ◌/◌, ◌≤◌, ◌≡◌, Bool, true, cond, Option, List, [], ◌∷◌, leb, ltb, length, get_or}
 use Rattle.rules.specs.Limits.{configuration_width}
 use Rattle.rules.specs.Answers.{out_of_range, too_many, already_seen, nominal_not_listed, no_room, Test, ◌needs◌}
 use Rattle.tables_ids.specs.Column.{column, is_new}
 use Rattle.timetable_row.specs.declared.line.Line.{Line}
 use Rattle.timetable_row.specs.RowOver.{range_holds, counts_hold}
-use Rattle.solution_row.specs.declared.draft.Fresh.{Fresh}
 use Rattle.solution_row.specs.Against.{is_known}
 
 -- an id above all others is new without a search
@@ -22,6 +21,6 @@ choice_tests H line choices =
     ∷ []
 
 -- the rows before: the table has them, so that an id can be looked for, and none of them has an id that is said to be fresh
-pub record Earlier (rows : ℕ) (fresh : Fresh) (choices : List ℕ) : Type 0 where
+pub record Earlier (rows : ℕ) (fresh : Option ℕ) (choices : List ℕ) : Type 0 where
   pub held : rows * configuration_width ≤ length choices
   pub lacks : (id : ℕ) → is_known fresh id ≡ true → is_new id (column configuration_width rows choices) ≡ true

@@ -1,63 +1,34 @@
-// 14: a solution's rows beside the draft's, which stand in the leg table, and the answer after the last row.
+// 14: a solution's rows beside the draft's, which stand in the leg table, and the answer after the last row. Where the first row that differs starts is kept from row to row.
 ghost use Rattle.std.specs.Prelude.{◌≡◌, ◌*◌, ◌≤◌, length};
 ghost use Rattle.rules.specs.Limits.{leg_width, most_text};
 ghost use Rattle.solution_row.specs.Against.{same_at, InTable, none_differs, next_id, is_known, compared_with, compared_answer};
 
 use rules::answers::Refusal;
 use rules::sizes::Leg;
+use timetable_row::fault::Fault;
 use timetable_row::line::LAST;
 
-// Whether a row so far differs from the draft's, and where the first that does starts.
-#[derive(Clone, Copy)]
-pub struct Compared {
-    pub differs: bool,
-    pub place: u32,
-}
-
-// An id that no row before has, where one is known.
-#[derive(Clone, Copy)]
-pub enum Fresh {
-    Id(u32),
-    Unknown,
-}
-
-// The first fault's number and place, or how many choices there are.
-#[derive(Clone, Copy)]
-pub enum Choices {
-    Fault(u8, u32),
-    Read(u32),
-}
-
-pub fn none_differs() -> Compared
+pub fn none_differs() -> Option<u32>
     ensures { result ≡ none_differs }
 {
-    Compared {
-        differs: false,
-        place: 0,
-    }
+    None
 }
 
 // While no row differs the rows before have the draft's ids. No two of those are the same, so the draft's next id is new.
-pub fn next_id(before: Compared, legs: &[u32], n: usize, row: usize) -> Fresh
+pub fn next_id(differing: Option<u32>, legs: &[u32], n: usize, row: usize) -> Option<u32>
     requires { n * leg_width ≤ length legs.now }
-    ensures { result ≡ next_id before legs.now n row }
+    ensures { result ≡ next_id differing legs.now n row }
 {
-    if before.differs {
-        return Fresh::Unknown;
+    if differing.is_some() || n <= row {
+        return None;
     }
-    if row < n {
-        return Fresh::Id(legs[row * Leg::WIDTH]);
-    }
-    Fresh::Unknown
+    Some(legs[row * Leg::WIDTH])
 }
 
-pub fn is_known(fresh: Fresh, id: u32) -> bool
+pub fn is_known(fresh: Option<u32>, id: u32) -> bool
     ensures { result ≡ is_known fresh id }
 {
-    let Fresh::Id(known) = fresh else {
-        return false;
-    };
-    known == id
+    fresh.is_some_and(|known| known == id)
 }
 
 // A row's five ids are those of a row of the leg table.
@@ -66,52 +37,48 @@ fn same_ids(numbers: [u32; LAST], legs: &[u32], row: usize) -> bool
     ensures { result ≡ same_at numbers legs.now row }
 {
     let from = row * Leg::WIDTH;
-    let mut k = 0;
-    while k < Leg::IDS {
-        if legs[from + k] != numbers[k] {
-            return false;
-        }
-        k += 1;
-    }
-    true
+    legs[from..from + Leg::IDS] == numbers[..Leg::IDS]
 }
 
 // With one row more: a row past the draft's last differs too.
 pub fn compared_with(
-    before: Compared,
+    differing: Option<u32>,
     numbers: [u32; LAST],
     legs: &[u32],
     n: usize,
     row: usize,
     place: u32,
-) -> Compared
+) -> Option<u32>
     requires { n * leg_width ≤ length legs.now }
-    ensures { result ≡ compared_with before numbers legs.now n row place }
+    ensures { result ≡ compared_with differing numbers legs.now n row place }
 {
-    if before.differs {
-        return before;
+    if differing.is_some() || (row < n && same_ids(numbers, legs, row)) {
+        return differing;
     }
-    if row < n {
-        if same_ids(numbers, legs, row) {
-            return before;
-        }
-    }
-    Compared {
-        differs: true,
-        place,
-    }
+    Some(place)
 }
 
-// 14 comes after every other fault; where rows are missing its place is the text's end.
-pub fn compared_answer(compared: Compared, rows: u32, n: usize, end: usize) -> Choices
+// 14 comes after every other fault; where rows are missing its place is the text's end. Without it there is a choice for each row.
+pub fn compared_answer(
+    differing: Option<u32>,
+    rows: u32,
+    n: usize,
+    end: usize,
+) -> Result<u32, Fault>
     requires { end ≤ most_text }
-    ensures { result ≡ compared_answer compared rows n end }
+    ensures { result ≡ compared_answer differing rows n end }
 {
-    if compared.differs {
-        return Choices::Fault(Refusal::DIFFERS, compared.place);
+    if let Some(place) = differing {
+        return Err(Fault {
+            number: Refusal::DIFFERS,
+            place,
+        });
     }
     if (rows as usize) < n {
-        return Choices::Fault(Refusal::DIFFERS, end as u32);
+        return Err(Fault {
+            number: Refusal::DIFFERS,
+            place: end as u32,
+        });
     }
-    Choices::Read(rows)
+    Ok(rows)
 }

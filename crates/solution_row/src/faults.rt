@@ -4,7 +4,6 @@ ghost use Rattle.timetable_row.specs.RowOver.{lowest};
 ghost use Rattle.solution_row.specs.Tests.{new_after, choice_tests, Earlier};
 
 use crate::draft;
-use crate::draft::Fresh;
 use rules::answers::Refusal;
 use rules::sizes::{Choice, Leg};
 use tables_ids::Found;
@@ -12,7 +11,7 @@ use timetable_row::line;
 use timetable_row::line::Line;
 
 // An id above all others is new, and so is one that is known to be; another is looked for row by row.
-fn is_new(choices: &[u32], rows: usize, above: u32, fresh: Fresh, id: u32) -> bool
+fn is_new(choices: &[u32], rows: usize, above: u32, fresh: Option<u32>, id: u32) -> bool
     requires { Earlier rows fresh choices.now }
     ensures { result ≡ new_after rows above id choices.now }
 {
@@ -28,32 +27,26 @@ fn is_new(choices: &[u32], rows: usize, above: u32, fresh: Fresh, id: u32) -> bo
     }
 }
 
-// The lowest number that the row is at fault by, or 0.
-pub fn fault(line: Line, h: u32, fresh: Fresh, choices: &[u32]) -> u8
+// The lowest number that the row is at fault by.
+pub fn fault(line: Line, h: u32, fresh: Option<u32>, choices: &[u32]) -> Option<u8>
     requires { Earlier line.rows fresh choices.now }
     ensures { result ≡ lowest (choice_tests h line choices.now) }
 {
     if line::out_of_range(line, h) {
-        return Refusal::RANGE;
+        return Some(Refusal::RANGE);
     }
     if line::too_many(line) {
-        return Refusal::COUNT;
+        return Some(Refusal::COUNT);
     }
-    let numbers = line.numbers;
-    if is_new(
-        choices,
-        line.rows as usize,
-        line.above,
-        fresh,
-        numbers[Leg::ID_AT],
-    ) {
-        if line.entries <= line.nominal {
-            return Refusal::NOMINAL;
-        }
-        if choices.len() / Choice::WIDTH <= line.rows as usize {
-            return Refusal::ROOM;
-        }
-        return 0;
+    let rows = line.rows as usize;
+    if !is_new(choices, rows, line.above, fresh, line.numbers[Leg::ID_AT]) {
+        return Some(Refusal::SEEN);
     }
-    Refusal::SEEN
+    if line.entries <= line.nominal {
+        return Some(Refusal::NOMINAL);
+    }
+    if choices.len() / Choice::WIDTH <= rows {
+        return Some(Refusal::ROOM);
+    }
+    None
 }

@@ -4,6 +4,7 @@ use mathlib.Core.Path.{◌≡◌, refl, sym, ap, ◌∙◌}
 use mathlib.Core.List.{List}
 use native.Mathlib.Omega.{arith}
 use lib.ListN.{length}
+use Rattle.std.specs.Prelude.{Result, Ok, Err}
 use Rattle.rules.specs.Lists.{flat}
 use Rattle.rules.specs.Answers.{refusal, Reading, refused, good}
 use Rattle.rules.specs.Timetable.{legs_of, leg_numbers}
@@ -14,8 +15,8 @@ use Rattle.rules.specs.declared.answers.Refusal.{Refusal}
 use Rattle.rules_theorems.proofs.FileRefusals.{Refuses, refuses, choices_refuse}
 use Rattle.rules_theorems.proofs.GoodFiles.{files_good}
 use Rattle.rules_theorems.proofs.LawfulRows.{legs_distinct}
-use Rattle.solution_row.specs.declared.draft.Choices.{Choices}
-use Rattle.solution_row.specs.declared.draft.Choices.TheVariants.{Fault, Read}
+use Rattle.timetable_row.specs.declared.fault.Fault.{Fault}
+use Rattle.timetable_row.specs.Faults.{fault_at}
 use Rattle.solution.specs.Promise.{Able, HoldsRows, choices_answer, ChoicesRead}
 use Rattle.tables_lent.specs.declared.Counts.{Counts}
 use Rattle.tables_lent.proofs.Filing.{same-refusal}
@@ -41,16 +42,18 @@ module _ {H : ℕ} {counts : Counts} {legs : List ℕ} (k : Choosable H counts l
       }
 
 -- a solution's refusals lie in its file
-own_file : (file : ℕ) (o : Reading (List Configuration)) → Refuses (λ r. r.file ≡ file) o → (number place : ℕ) → Fault number place ≡ choices_answer o
+own_file : (file : ℕ) (o : Reading (List Configuration)) → Refuses (λ r. r.file ≡ file) o → (number place : ℕ) → Err (fault_at number place) ≡ choices_answer o
     → o ≡ refused (refusal number file place)
-own_file file (refused r) (refuses f) number place e = same-refusal r (cc) f (cc)
+own_file file (refused r) (refuses f) number place e =
+    let same : fault_at number place ≡ fault_at r.number r.place = cc in
+    same-refusal r (ap (λ (x : Fault). x.number) same) f (ap (λ (x : Fault). x.place) same)
 own_file file (good cs) q number place e = let z : ◌≡◌ {A = ℕ} 0 1 = cc in absurd (omega arith)
 
-was_read : (o : Reading (List Configuration)) (n : ℕ) → Read n ≡ choices_answer o → Whole ≡ chosen_of o
+was_read : (o : Reading (List Configuration)) (n : ℕ) → Ok n ≡ choices_answer o → Whole ≡ chosen_of o
 was_read (refused r) n e = let z : ◌≡◌ {A = ℕ} 0 1 = cc in absurd (omega arith)
 was_read (good cs) n e = refl
 
-module _ (H file : ℕ) (counts : Counts) (text legs lent : List ℕ) {answer : Choices} {choices : List ℕ} (read : ChoicesRead H text legs counts.legs lent answer choices) where
+module _ (H file : ℕ) (counts : Counts) (text legs lent : List ℕ) {answer : Result ℕ Fault} {choices : List ℕ} (read : ChoicesRead H text legs counts.legs lent answer choices) where
   abbrev outcome : Choosable H counts legs → Reading (List Configuration)
   outcome k = choices_read H k.left.files file (length lent) text
 
@@ -60,17 +63,17 @@ module _ (H file : ℕ) (counts : Counts) (text legs lent : List ℕ) {answer : 
   written : (k : Choosable H counts legs) (cs : List Configuration) → outcome k ≡ good cs → choices ≡ written_choices cs lent
   written k cs e = read.chooses k.left.files file (held k) cs e
 
-  pub choose_fault : {number place : ℕ} {r : Refusal} → answer ≡ Fault number place → r ≡ refusal number file place → Chooses H file counts text legs lent (Refused r) choices
-  choose_fault {number} {place} {r} a e =
+  pub choose_fault : {fault : Fault} {r : Refusal} → answer ≡ Err fault → r ≡ refusal fault.number file fault.place → Chooses H file counts text legs lent (Refused r) choices
+  choose_fault {fault} {r} a e =
       record {
-        answers = λ k. ap Refused e ∙ ap chosen_of (sym (own_file file (outcome k) (refusals k) number place (sym a ∙ said k)));
+        answers = λ k. ap Refused e ∙ ap chosen_of (sym (own_file file (outcome k) (refusals k) fault.number fault.place (sym a ∙ said k)));
         chooses = written;
       }
     where
       refusals : (k : Choosable H counts legs) → Refuses (λ r. r.file ≡ file) (outcome k)
       refusals k = choices_refuse H k.left.files file (length lent) text (record { at_start = λ n h. refl; at_place = λ n p h. refl })
 
-  pub choose_whole : {n : ℕ} → answer ≡ Read n → Chooses H file counts text legs lent Whole choices
+  pub choose_whole : {n : ℕ} → answer ≡ Ok n → Chooses H file counts text legs lent Whole choices
   choose_whole {n} a = record { answers = λ k. was_read (outcome k) n (sym a ∙ said k); chooses = written }
 
 -- ---- what was chosen, by the answer

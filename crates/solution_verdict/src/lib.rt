@@ -5,7 +5,6 @@ ghost use Rattle.solution_verdict.specs.Left.{Choosable, Chooses, Ready, Judges}
 
 use rules::answers::{Refusal, Ruling};
 use solution::reader;
-use solution_row::draft::Choices;
 use tables_lent::Counts;
 
 #[derive(Clone, Copy)]
@@ -28,8 +27,8 @@ pub fn choose(
 {
     let n = counts.legs;
     match reader::read_choices(text, h, legs, n, choices) {
-        Choices::Fault(number, place) => Chosen::Refused(Refusal::new(number, file, place)),
-        Choices::Read(_) => Chosen::Whole,
+        Err(fault) => Chosen::Refused(Refusal::new(fault.number, file, fault.place)),
+        Ok(_) => Chosen::Whole,
     }
 }
 

@@ -11,29 +11,17 @@ use rules::sizes::Fill;
 pub fn unsigned(t: &mut [u32])
     ensures { t.new ≡ filled unsigned_fill t.old }
 {
-    let mut i = 0;
-    while i < t.len() {
-        t[i] = Fill::UNSIGNED;
-        i += 1;
-    }
+    t.fill(Fill::UNSIGNED);
 }
 
 pub fn signed(t: &mut [i32])
     ensures { t.new ≡ filled signed_fill t.old }
 {
-    let mut i = 0;
-    while i < t.len() {
-        t[i] = Fill::SIGNED;
-        i += 1;
-    }
+    t.fill(Fill::SIGNED);
 }
 
 pub fn bytes(t: &mut [u8])
     ensures { t.new ≡ filled byte_fill t.old }
 {
-    let mut at = 0;
-    while at < t.len() {
-        t[at] = Fill::BYTE;
-        at += 1;
-    }
+    t.fill(Fill::BYTE);
 }

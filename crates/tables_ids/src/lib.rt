@@ -18,12 +18,10 @@ fn walk(table: &[u32], width: usize, from: usize, n: usize, id: u32) -> Found
     requires { Records width n table.now × (from ≤ n) }
     ensures { result ≡ found_of (place_from from (λ x. eqb x id) (drop from (column width n table.now))) }
 {
-    let mut i = from;
-    while i < n {
+    for i in from..n {
         if table[i * width] == id {
             return Found::At(i);
         }
-        i += 1;
     }
     Found::Nothing
 }
@@ -43,6 +41,7 @@ fn parting(table: &[u32], width: usize, n: usize, id: u32) -> usize
 {
     let mut low = 0;
     let mut high = n;
+    // Kept (no plainer): the library's searches by halves go over a whole slice, and the ids stand a record apart, whose width is known only to the caller.
     while low < high {
         let middle = low + (high - low) / 2;
         if table[middle * width] < id {
@@ -71,14 +70,10 @@ fn halved(table: &[u32], width: usize, n: usize, id: u32) -> Found
 
 // Where an id stands if each is one more than the one before: a guess, of which nothing is promised.
 fn guess(table: &[u32], id: u32) -> usize {
-    if table.len() == 0 {
+    let Some(first) = table.first() else {
         return 0;
-    }
-    let first = table[0];
-    if id < first {
-        return 0;
-    }
-    (id - first) as usize
+    };
+    id.saturating_sub(*first) as usize
 }
 
 // `halved`, but faster: rising ids mostly count up by one.
@@ -130,14 +125,12 @@ pub fn rising_of(table: &[u32], width: usize, n: usize) -> usize
     if n == 0 {
         return 0;
     }
-    let mut i = 1;
-    while i < n {
+    for i in 1..n {
         if table[i * width] <= table[(i - 1) * width] {
             return i;
         }
-        i += 1;
     }
-    i
+    n
 }
 
 // No record has the id. `last` is the last of the rising ids: a table that rises to its end needs no search for a greater one.

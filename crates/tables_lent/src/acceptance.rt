@@ -8,27 +8,21 @@ use rules::answers::Answer;
 pub fn is_accepted(answer: Answer) -> bool
     ensures { result ≡ is_accepted answer }
 {
-    match answer {
-        Answer::Accepted => true,
-        Answer::Violated(_) => false,
-        Answer::Refused(_) => false,
-    }
+    matches!(answer, Answer::Accepted)
 }
 
 pub fn empty_curves(answer: Answer, curves: &mut [i32])
     ensures { curves.new ≡ curves_after answer curves.old }
 {
-    if is_accepted(answer) {
-        return;
+    if !is_accepted(answer) {
+        tables_fill::signed(curves);
     }
-    tables_fill::signed(curves);
 }
 
 pub fn empty_text(answer: Answer, text: &mut [u8])
     ensures { text.new ≡ text_after answer text.old }
 {
-    if is_accepted(answer) {
-        return;
+    if !is_accepted(answer) {
+        tables_fill::bytes(text);
     }
-    tables_fill::bytes(text);
 }

@@ -9,11 +9,7 @@ use rules::answers::Answer;
 pub fn is_refusal(answer: Answer) -> bool
     ensures { result ≡ is_refusal answer }
 {
-    match answer {
-        Answer::Accepted => false,
-        Answer::Violated(_) => false,
-        Answer::Refused(_) => true,
-    }
+    matches!(answer, Answer::Refused(_))
 }
 
 pub fn empty_tables(

@@ -1,16 +1,15 @@
 -- What a run of digits says of a whole text. Assumes nothing.
 use Prim.Native.Nat.{ℕ, ◌≤◌, ◌<◌, min}
-use mathlib.Core.Path.{◌≡◌, refl, ap, ◌∙◌}
-use mathlib.Core.List.{List, [], ◌∷◌}
+use mathlib.Core.Path.{◌≡◌, ap, ◌∙◌}
+use mathlib.Core.List.{List}
 use mathlib.Core.Option.{some}
 use mathlib.Core.Bool.{Bool, true, false, not, and-false}
 use native.Mathlib.Omega.{arith}
-use lib.Dec.{eqb}
-use lib.ListN.{length, get_or, drop}
+use lib.ListN.{length, drop}
 use borrow.Author.Tests.{le-leb, lt-leb, not-true, not-false}
 use Rattle.rules.specs.Lists.{lead, every}
 use Rattle.rules.specs.Limits.{most_id}
-use Rattle.rules.specs.Bytes.{digit_zero, is_digit, value_from, plain, whole_of}
+use Rattle.rules.specs.Bytes.{is_digit, value_from, plain, whole_of}
 use Rattle.text_read.specs.declared.numbers.Ran.{Ran}
 use Rattle.text_read.specs.declared.numbers.Whole.TheVariants.{Number, Beyond, Malformed}
 use Rattle.text_read.specs.Held.{past_id, ran_from, whole_held}
@@ -59,19 +58,3 @@ module _ (s : List ℕ) (r : Ran) (e : r ≡ ran_from 0 0 (drop 0 s)) where
 
 pub whole_not-plain : (s : List ℕ) (t : Bool) → t ≡ plain s → not t ≡ true → Malformed ≡ whole_held (whole_of s)
 whole_not-plain s t p n = rw (← p, not-true t n)
-
--- ---- `plain`, by the length and the first byte
-
-pub plain-none : (s : List ℕ) → length s ≡ 0 → false ≡ plain s
-plain-none [] h = refl
-plain-none (a ∷ s) h = absurd (omega arith)
-
-pub plain_one : (s : List ℕ) → length s ≡ 1 → true ≡ plain s
-plain_one [] h = absurd (omega arith)
-plain_one (a ∷ []) h = refl
-plain_one (a ∷ b ∷ s) h = absurd (omega arith)
-
-pub plain_more : (s : List ℕ) → (length s ≡ 0 → ⊥) → (length s ≡ 1 → ⊥) → not (eqb (get_or s 0 0) digit_zero) ≡ plain s
-plain_more [] h k = absurd (h refl)
-plain_more (a ∷ []) h k = absurd (k refl)
-plain_more (a ∷ b ∷ s) h k = refl

@@ -21,47 +21,43 @@ pub struct Ran {
     pub next: usize,
 }
 
+// Past every id.
+const PAST: u32 = Id::MOST + 1;
+
 // The value, or one past the greatest id.
 fn capped(value: u64) -> u32
     ensures { result ≡ min value past_id }
 {
-    if (Id::MOST as u64) < value {
-        return Id::MOST + 1;
-    }
-    value as u32
+    value.min(u64::from(PAST)) as u32
 }
 
 // The digits from `from` on, which follow the number `n`.
 pub fn digits(s: &[u8], from: usize, n: u32) -> Ran
     ensures { result ≡ ran_from n from (drop from s.now) }
 {
-    let mut value = capped(n as u64);
-    let mut next = from;
-    while next < s.len() {
+    let mut value = capped(u64::from(n));
+    for next in from..s.len() {
         let b = s[next];
-        if b < b'0' {
+        if !b.is_ascii_digit() {
             return Ran { value, next };
         }
-        if b'9' < b {
-            return Ran { value, next };
-        }
-        value = capped((value as u64) * 10 + ((b - b'0') as u64));
-        next += 1;
+        value = capped(u64::from(value) * 10 + u64::from(b - b'0'));
     }
-    Ran { value, next }
+    Ran {
+        value,
+        next: from.max(s.len()),
+    }
 }
 
 // One digit, or more of which the first is not 0.
 fn is_plain(s: &[u8]) -> bool
     ensures { result ≡ plain s.now }
 {
-    if s.len() == 0 {
-        return false;
+    match s {
+        [] => false,
+        [_] => true,
+        [first, ..] => *first != b'0',
     }
-    if s.len() == 1 {
-        return true;
-    }
-    s[0] != b'0'
 }
 
 // One or more digits with no needless leading zero.

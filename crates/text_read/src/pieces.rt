@@ -6,12 +6,10 @@ ghost use Rattle.text_read.specs.Places.{up_to};
 pub fn find(s: &[u8], sep: u8, from: usize) -> usize
     ensures { result ≡ from + up_to sep (drop from s.now) }
 {
-    let mut at = from;
-    while at < s.len() {
+    for at in from..s.len() {
         if s[at] == sep {
             return at;
         }
-        at += 1;
     }
-    at
+    from.max(s.len())
 }

@@ -2,27 +2,16 @@
 ghost use Rattle.std.specs.Prelude.{◌≡◌};
 ghost use Rattle.rules.specs.Lists.{same_list, starts_with};
 
+#[tactic(auto, using(crate::proofs::Names::starts_pairs))]
 pub fn starts_with(s: &[u8], name: &[u8]) -> bool
     ensures { result ≡ starts_with name.now s.now }
 {
-    if s.len() < name.len() {
-        return false;
-    }
-    let mut i = 0;
-    while i < name.len() {
-        if s[i] != name[i] {
-            return false;
-        }
-        i += 1;
-    }
-    true
+    s.starts_with(name)
 }
 
+#[tactic(auto, using(crate::proofs::Names::same_pairs))]
 pub fn spells(s: &[u8], name: &[u8]) -> bool
     ensures { result ≡ same_list name.now s.now }
 {
-    if s.len() != name.len() {
-        return false;
-    }
-    starts_with(s, name)
+    s == name
 }

@@ -1,12 +1,12 @@
 -- Texts written one after the other are one text; what fits stands over the buffer's front. Assumes nothing.
-use Prim.Native.Nat.{ℕ, ◌+◌, ◌≤◌, ◌<◌, min}
+use Prim.Native.Nat.{ℕ, ◌+◌, ◌≤◌, ◌<◌}
 use native.Mathlib.Omega.{arith}
 use mathlib.Core.Path.{◌≡◌, refl, ap, sym, ◌∙◌}
 use mathlib.Core.Bool.{Bool, true, false}
-use mathlib.Core.List.{List, [], ◌∷◌, ◌++◌}
+use mathlib.Core.List.{List, [], ◌++◌}
 use lib.Dec.{leb}
 use lib.ListN.{length, length-append}
-use lib.Seq.{sets, length-sets, set_out}
+use lib.Seq.{sets, length-sets}
 use borrow.Author.Tests.{leb-true, leb-false, le-leb, lt-leb}
 use Rattle.rules.specs.Lists.{over}
 use Rattle.text_write.specs.Written.{last_place, Written}
@@ -15,10 +15,6 @@ use Rattle.text_write.proofs.Stores.{sets_append, sets_capped, sets_front}
 -- nothing
 pub written_none : (t : List ℕ) (at : ℕ) → at ≤ last_place → Written t at [] t at
 written_none t at h = record { contents = refl; place = omega arith }
-
--- a byte past the end
-pub written-past : (t : List ℕ) (at b r : ℕ) → length t ≤ at → r ≡ min (at + 1) last_place → Written t at (b ∷ []) t r
-written-past t at b r h e = record { contents = sym (set_out t at b h); place = e }
 
 -- THE LAW: a text, and another from the place after it on, are one text
 pub written_then : {t : List ℕ} {at : ℕ} {w t' : List ℕ} {after : ℕ} {v t'' : List ℕ} {end : ℕ} → Written t at w t' after → Written t' after v t'' end

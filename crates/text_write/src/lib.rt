@@ -2,25 +2,18 @@
 // so a caller knows afterwards how long the text is, and whether it fits. Merged timetables and the words of an answer are written by it.
 #![tactic(auto)]
 
-ghost use Rattle.std.specs.Prelude.{◌≡◌, ◌&&◌, ◌+◌, min, ◌∷◌, [], leb};
+ghost use Rattle.std.specs.Prelude.{◌≡◌, ◌&&◌, ◌∷◌, [], leb};
 ghost use Rattle.rules.specs.Limits.{most_text};
 ghost use Rattle.rules.specs.Bytes.{spelled};
-ghost use Rattle.text_write.specs.Written.{last_place, Written};
+ghost use Rattle.text_write.specs.Written.{Written};
 
 use rules::sizes::Text;
-
-// The place after, or the last place there is.
-fn next(at: usize) -> usize
-    ensures { result ≡ min (at + 1) last_place }
-{
-    if at < usize::MAX { at + 1 } else { at }
-}
 
 pub fn put_byte(buffer: &mut [u8], at: usize, b: u8) -> usize
     ensures { Written buffer.old at (b ∷ []) buffer.new result }
 {
     if buffer.len() <= at {
-        return next(at);
+        return at.saturating_add(1);
     }
     buffer[at] = b;
     at + 1
@@ -30,10 +23,8 @@ pub fn put_bytes(buffer: &mut [u8], at: usize, s: &[u8]) -> usize
     ensures { Written buffer.old at s.now buffer.new result }
 {
     let mut place = at;
-    let mut i = 0;
-    while i < s.len() {
-        place = put_byte(buffer, place, s[i]);
-        i += 1;
+    for b in s {
+        place = put_byte(buffer, place, *b);
     }
     place
 }
@@ -54,6 +45,7 @@ pub fn put_number(buffer: &mut [u8], at: usize, n: u32) -> usize
     let mut digits = [0u8; DIGITS];
     let mut k = LAST;
     let mut left = n;
+    // Kept (no plainer): how many digits a number has shows only as they are laid.
     while TEN <= left {
         digits[k] = b'0' + (left % TEN) as u8;
         left /= TEN;

@@ -9,6 +9,7 @@ use lib.Dec.{leb, ltb}
 use lib.ListN.{length, get_or}
 use lib.Seq.{sets}
 use borrow.Author.Tests.{leb-true, leb-false, ltb-true}
+use Rattle.std.specs.Prelude.{None}
 use Rattle.rules.specs.Limits.{most_legs, most_listed, most_configurations, leg_width, configuration_width}
 use Rattle.rules.specs.Lists.{flat, over}
 use Rattle.rules.specs.Timetable.{Row, offers, listed, leg_of, legs_from, legs_of, leg_numbers, configurations_of, configuration_numbers}
@@ -51,7 +52,7 @@ above_grows above id = go (leb above id) refl
 
 module _ (H : ℕ) (lent : Tables) (line : Line) (now : Tables) (place : ℕ) (before : List Row) (closed : List ℕ) (list : List Configuration)
     (g : InLine H lent line now place before closed list []) (eight : length closed ≡ entry_slot)
-    (room : ℕ) (room_is : room ≡ length lent.configurations) (none : lowest (line_tests H line now.legs room) ≡ 0) where
+    (room : ℕ) (room_is : room ≡ length lent.configurations) (none : lowest (line_tests H line now.legs room) ≡ None) where
   abbrev r : Row
   r = row_from closed list
 

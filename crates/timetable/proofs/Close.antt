@@ -10,6 +10,7 @@ use lib.Dec.{ltb}
 use lib.ListN.{length, get_or, set, length-append, length-set, get_or-append}
 use lib.Seq.{take-suc-set}
 use borrow.Author.Tests.{ltb-true, ltb-false, lt-ltb, le-ltb, eq-eqb, ne_eqb}
+use Rattle.std.proofs.lemmas.List.{get_or_default}
 use Rattle.rules.specs.Limits.{most_listed}
 use Rattle.rules.specs.Lists.{◌>>=◌}
 use Rattle.rules.specs.Answers.{bad_row}
@@ -24,7 +25,6 @@ use Rattle.timetable.specs.Open.{Open, partly, separate, open_step}
 use Rattle.timetable_row.specs.Slots.{separators, last_slot, entry_slot, separator_of, nominal_of}
 use Rattle.timetable.specs.Held.{Shaped, in_head, in_first, in_second, in_third, line_with, kept_in, leading, same_held, Opened, Tables, tables, InLine, AfterByte, Entered, Closed}
 use Rattle.timetable_row.specs.RowOver.{stopped_with}
-use Rattle.timetable_row.proofs.Leaves.{get_d_inside}
 use Rattle.timetable.proofs.Words.{length_snoc}
 
 -- ---- which byte closes a number
@@ -42,7 +42,7 @@ head_separator : (closed : List ℕ) → length closed < entry_slot → separato
 head_separator closed h =
     ap (λ (l : List ℕ). separator_of (length l)) (append-nil closed)
     ∙ get_or-append separators (underscore ∷ underscore ∷ []) space (length closed) h
-    ∙ get_d_inside separators (length closed) space 0 h
+    ∙ get_or_default separators (length closed) space 0 h
 
 -- how many numbers stand before an entry's first, second and third
 pub entry_slot_lem : (closed entry : List ℕ) (k : ℕ) → length closed ≡ entry_slot → length entry ≡ k → length (closed ++ entry) ≡ entry_slot + k

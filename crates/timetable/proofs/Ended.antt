@@ -1,5 +1,5 @@
 -- A byte that the open number does not take: LF ends the row and has it judged, another byte closes the number or breaks the row's form. Assumes nothing.
-use Prim.Native.Nat.{ℕ, zero, suc, ◌+◌, ◌≤◌, ◌<◌}
+use Prim.Native.Nat.{ℕ, ◌+◌, ◌≤◌, ◌<◌}
 use mathlib.Core.Path.{◌≡◌, refl, ap, sym, ◌∙◌}
 use mathlib.Core.Bool.{Bool, true, false, not, cond, ◌&&◌, true≢false, false≢true}
 use mathlib.Core.List.{List, [], ◌∷◌, ◌++◌, append-nil}
@@ -8,6 +8,7 @@ use native.Mathlib.Omega.{arith}
 use lib.Dec.{leb, ltb}
 use lib.ListN.{length, get_or}
 use borrow.Author.Tests.{leb-true, ltb-true, le-ltb, lt-leb, eq-eqb, ne_eqb}
+use Rattle.std.specs.Prelude.{Option, Some, None}
 use Rattle.rules.specs.Limits.{most_text, most_id, most_legs, least_listed, most_listed, most_configurations, leg_width}
 use Rattle.rules.specs.Lists.{◌>>=◌, every}
 use Rattle.rules.specs.Answers.{bad_row}
@@ -30,7 +31,7 @@ use Rattle.timetable.specs.Ended.{draft_room, AfterLine, Ended}
 use Rattle.timetable.specs.Text.{Signed}
 use Rattle.timetable.proofs.Words.{ids_low}
 use Rattle.timetable.proofs.Close.{entry_slot_lem}
-use Rattle.timetable.proofs.Judge.{row_from, eight_make, outcome, judged, lowest_zero}
+use Rattle.timetable.proofs.Judge.{row_from, eight_make, outcome, judged, lowest_none, lowest_positive}
 use Rattle.timetable.proofs.Accept.{accepted}
 
 -- ---- the row that ends
@@ -50,10 +51,10 @@ end_none closed list (d ∷ t ∷ []) m v (in_third k) n e = absurd (n (entry_sl
 
 -- ---- what the code knows of a row with no fault
 
-pub row_bounds : (H : ℕ) (line : Line) (legs : List ℕ) (room k at : ℕ) → k ≡ lowest (line_tests H line legs room) → k ≡ 0 → at < most_text
+pub row_bounds : (H : ℕ) (line : Line) (legs : List ℕ) (room at : ℕ) (k : Option ℕ) → k ≡ lowest (line_tests H line legs room) → k ≡ None → at < most_text
     → Bounded line at
-row_bounds H line legs room k at e z a =
-    let holds = lowest_zero (range_holds H line) (counts_hold line) (is_new line.rows line.above (get_or line.numbers 0 0) legs) (ltb line.nominal line.entries) (room_holds line (length legs) room) (sym e ∙ z) in
+row_bounds H line legs room at k e z a =
+    let holds = lowest_none (range_holds H line) (counts_hold line) (is_new line.rows line.above (get_or line.numbers 0 0) legs) (ltb line.nominal line.entries) (room_holds line (length legs) room) (sym e ∙ z) in
     let counts = holds.1 in
     let ids : every (λ id. leb id most_id) (held_ids line.numbers) ≡ true =
     and_first (every (λ id. leb id most_id) (held_ids line.numbers)) (in_range H (nominal_of line.numbers) && not line.wide) holds.0 in
@@ -66,10 +67,10 @@ row_bounds H line legs room k at e z a =
     }
 
 -- the constructor makes its leg
-pub leg-made : (H : ℕ) (line : Line) (legs : List ℕ) (room : ℕ) → lowest (line_tests H line legs room) ≡ 0
+pub leg-made : (H : ℕ) (line : Line) (legs : List ℕ) (room : ℕ) → lowest (line_tests H line legs room) ≡ None
     → leg_held line ≡ Within (leg_of line.numbers line.configurations line.entries line.nominal)
 leg-made H line legs room z =
-    let holds = lowest_zero (range_holds H line) (counts_hold line) (is_new line.rows line.above (get_or line.numbers 0 0) legs) (ltb line.nominal line.entries) (room_holds line (length legs) room) z in
+    let holds = lowest_none (range_holds H line) (counts_hold line) (is_new line.rows line.above (get_or line.numbers 0 0) legs) (ltb line.nominal line.entries) (room_holds line (length legs) room) z in
     let n = line.numbers in
     let low : All (λ id. id ≤ most_id) (held_ids n) = ids_low (held_ids n) (and_first (every (λ id. leb id most_id) (held_ids n)) _ holds.0) in
     let listed-low : line.entries ≤ most_listed = leb-true line.entries most_listed (and_first (leb line.entries most_listed) _ (and_second (ltb line.rows most_legs) _ holds.1)) in
@@ -95,7 +96,7 @@ ended_short H line line' n at now s l =
     }
 
 -- the last entry is closed, and the row judged
-module _ (H : ℕ) (line whole line' : Line) (n at k : ℕ) (legs legs' table table' : List ℕ) (last : line.slot ≡ last_slot) (entered : Entered H line n whole table table')
+module _ (H : ℕ) (line whole line' : Line) (n at : ℕ) (k : Option ℕ) (legs legs' table table' : List ℕ) (last : line.slot ≡ last_slot) (entered : Entered H line n whole table table')
     (lowest_is : k ≡ lowest (line_tests H whole legs (length table'))) where
   -- what is to be shown of the row
   abbrev Judges : Type 0
@@ -122,15 +123,16 @@ module _ (H : ℕ) (line whole line' : Line) (n at k : ℕ) (legs legs' table ta
           rw (end_row closed list d t v m h e, judged H lent whole (tables legs table') place before closed all g' h (length table') g'.long, ← lowest_is)
           (judges lent place before closed all h g')
 
-  pub ended_fault : legs' ≡ legs → (k ≡ 0 → ⊥) → line' ≡ stopped_with whole k → Ended H line n at line' (tables legs table) (tables legs' table')
-  ended_fault s z l = by_judging (λ lent place before closed list h g. go k z l lent place before (row_from closed list) g.placed)
+  pub ended_fault : (j : ℕ) → legs' ≡ legs → k ≡ Some j → line' ≡ stopped_with whole j → Ended H line n at line' (tables legs table) (tables legs' table')
+  ended_fault j s z l =
+      by_judging (λ lent place before closed list h g. rw (z, l) (refl, g.placed, positive))
     where
-      go : (j : ℕ) → (j ≡ 0 → ⊥) → line' ≡ stopped_with whole j → (lent : Tables) (place : ℕ) (before : List Row) (r : Row) → whole.place ≡ place
-          → AfterLine H lent line' (tables legs' table') place at before (outcome j r)
-      go zero z l lent place before r p = absurd (z refl)
-      go (suc j) z l lent place before r p = rw l (refl, p, omega arith)
+      positive : 0 < j
+      positive =
+          lowest_positive (range_holds H whole) (counts_hold whole) (is_new whole.rows whole.above (get_or whole.numbers 0 0) legs) (ltb whole.nominal whole.entries) (room_holds whole (length legs) (length table')) j
+          (sym z ∙ lowest_is)
 
-  pub ended_right : k ≡ 0 → (made : LegMade) → made ≡ leg_held whole → legs' ≡ stored_leg whole.rows made legs → line' ≡ next_line whole at
+  pub ended_right : k ≡ None → (made : LegMade) → made ≡ leg_held whole → legs' ≡ stored_leg whole.rows made legs → line' ≡ next_line whole at
       → Ended H line n at line' (tables legs table) (tables legs' table')
   ended_right z made m s l =
       by_judging

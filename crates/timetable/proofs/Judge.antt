@@ -1,6 +1,6 @@
 -- The reader's tests of a row that is over are the definition's, made on what the reader holds. Assumes nothing.
-use Prim.Native.Nat.{ℕ, zero, suc, ◌+◌, ◌*◌, ◌/◌, ◌≤◌, ◌<◌}
-use mathlib.Core.Path.{◌≡◌, refl, ap, sym, ◌∙◌}
+use Prim.Native.Nat.{ℕ, suc, ◌+◌, ◌*◌, ◌/◌, ◌≤◌, ◌<◌}
+use mathlib.Core.Path.{◌≡◌, refl, ap, sym, ◌∙◌, subst}
 use mathlib.Core.Bool.{Bool, true, false, not, cond, ◌&&◌, ◌||◌}
 use mathlib.Core.List.{List, [], ◌∷◌, ◌++◌, append-nil}
 use mathlib.Core.Option
@@ -10,6 +10,7 @@ use lib.Dec.{leb, ltb, eqb}
 use lib.ListN.{length, get_or, drop}
 use lib.Seq.{get_or-take}
 use borrow.Author.Tests.{leb-true, leb-false, lt-leb, lt-ltb, le-ltb, ne_eqb}
+use Rattle.std.specs.Prelude.{Option, Some, None}
 use Rattle.rules.specs.Limits.{most_id, most_legs, most_listed, most_configurations, leg_width}
 use Rattle.rules.specs.Lists.{every, any, flat, place_from, over}
 use Rattle.rules.specs.Answers.{Judged, wrong, right, judge, out_of_range, too_many, already_seen, nominal_not_listed, no_room, ◌needs◌}
@@ -96,9 +97,9 @@ legs_long {lent = lent} {before = before} w =
 
 -- ---- the lowest number
 
-abbrev pub outcome : {A : Type 0} → ℕ → A → Judged A
-outcome zero x = right x
-outcome (suc k) x = wrong (suc k)
+abbrev pub outcome : {A : Type 0} → Option ℕ → A → Judged A
+outcome None x = right x
+outcome (Some k) x = wrong k
 
 pub judge-lowest : {A : Type 0} (x : A) (a b c d e a' b' c' d' e' : Bool) → a' ≡ a → b' ≡ b → (a ≡ true → c' ≡ c) → (a ≡ true → b ≡ true → d' ≡ d) → (b ≡ true → e' ≡ e)
     → judge (out_of_range needs a ∷ too_many needs b ∷ already_seen needs c ∷ nominal_not_listed needs d ∷ no_room needs e ∷ []) x
@@ -111,14 +112,30 @@ judge-lowest x true true true true false a' b' c' d' e' p q r s t = rw (p, q, r 
 judge-lowest x true true true true true a' b' c' d' e' p q r s t = rw (p, q, r refl, s refl refl, t refl)
 
 -- no number: every test holds
-pub lowest_zero : (a b c d e : Bool) → lowest (out_of_range needs a ∷ too_many needs b ∷ already_seen needs c ∷ nominal_not_listed needs d ∷ no_room needs e ∷ []) ≡ 0
+pub lowest_none : (a b c d e : Bool) → lowest (out_of_range needs a ∷ too_many needs b ∷ already_seen needs c ∷ nominal_not_listed needs d ∷ no_room needs e ∷ []) ≡ None
     → (a ≡ true) × (b ≡ true) × (c ≡ true) × (d ≡ true) × (e ≡ true)
-lowest_zero false b c d e z = absurd (omega arith)
-lowest_zero true false c d e z = absurd (omega arith)
-lowest_zero true true false d e z = absurd (omega arith)
-lowest_zero true true true false e z = absurd (omega arith)
-lowest_zero true true true true false z = absurd (omega arith)
-lowest_zero true true true true true z = (refl, refl, refl, refl, refl)
+lowest_none false b c d e z = cc
+lowest_none true false c d e z = cc
+lowest_none true true false d e z = cc
+lowest_none true true true false e z = cc
+lowest_none true true true true false z = cc
+lowest_none true true true true true z = (refl, refl, refl, refl, refl)
+
+-- the number of a test that fails is no 0
+abbrev Positive : Option ℕ → Type 0
+Positive None = Unit {0}
+Positive (Some k) = 0 < k
+
+number_positive : (a b c d e : Bool) → Positive (lowest (out_of_range needs a ∷ too_many needs b ∷ already_seen needs c ∷ nominal_not_listed needs d ∷ no_room needs e ∷ []))
+number_positive false b c d e = omega arith
+number_positive true false c d e = omega arith
+number_positive true true false d e = omega arith
+number_positive true true true false e = omega arith
+number_positive true true true true false = omega arith
+number_positive true true true true true = tt
+
+pub lowest_positive : (a b c d e : Bool) (k : ℕ) → Some k ≡ lowest (out_of_range needs a ∷ too_many needs b ∷ already_seen needs c ∷ nominal_not_listed needs d ∷ no_room needs e ∷ []) → 0 < k
+lowest_positive a b c d e k q = subst Positive (sym q) (number_positive a b c d e)
 
 -- ---- the reader's tests and the definition's
 
@@ -255,11 +272,11 @@ module _ (H : ℕ) (lent : Tables) (line : Line) (now : Tables) (place : ℕ) (b
       range_same counts_same (λ a. new_same (leg-in_range a)) (λ a b. nominal_same a (few_of b)) (λ b. room_same room q (few_of b))
 
   -- a row with no fault: its tests hold
-  pub faultless : (room : ℕ) → room ≡ length lent.configurations → lowest (line_tests H line now.legs room) ≡ 0
+  pub faultless : (room : ℕ) → room ≡ length lent.configurations → lowest (line_tests H line now.legs room) ≡ None
       → (ranged ≡ true) × (counted ≡ true) × (offers list (nominal_of closed) ≡ true) × (draft_room lent before r ≡ true)
   faultless room q z =
       let k =
-      lowest_zero (range_holds H line) (counts_hold line) (is_new line.rows line.above (get_or line.numbers 0 0) now.legs) (ltb line.nominal line.entries) (room_holds line (length now.legs) room) z in
+      lowest_none (range_holds H line) (counts_hold line) (is_new line.rows line.above (get_or line.numbers 0 0) now.legs) (ltb line.nominal line.entries) (room_holds line (length now.legs) room) z in
       let a : ranged ≡ true = sym range_same ∙ k.0 in
       let b : counted ≡ true = sym counts_same ∙ k.1 in
       (a, b, sym (nominal_same a (few_of b)) ∙ k.3, sym (room_same room q (few_of b)) ∙ k.4)

@@ -5,6 +5,7 @@ use mathlib.Core.Bool.{true, false}
 use mathlib.Core.List.{List}
 use native.Mathlib.Omega.{arith}
 use lib.ListN.{length, get_or, set}
+use Rattle.std.specs.Prelude.{Option, Some, None}
 use Rattle.rules.specs.Bytes.{line_feed, space, underscore}
 use Rattle.timetable_row.specs.declared.line.Line.{Line}
 use Rattle.timetable_row.specs.declared.number.Number.TheVariants.{Empty}
@@ -12,8 +13,7 @@ use Rattle.csv_marks.specs.declared.Mark.{Mark}
 use Rattle.csv_marks.specs.Turns.{takes, plain_under}
 use Rattle.csv_marks.proofs.Follow.{plain_other}
 use Rattle.timetable_entry.specs.declared.Spotted.{Spotted}
-use Rattle.timetable_entry.specs.declared.Spotted.TheVariants.{Entry}
-use Rattle.timetable_entry.specs.Spots.{NumberAt, EntryAt, Spots, spotted}
+use Rattle.timetable_entry.specs.Spots.{NumberAt, EntryAt, Spots, spots}
 use Rattle.timetable_row.specs.Slots.{entry_slot, separator_of}
 use Rattle.timetable.specs.Held.{line_with, open_entry, tables, Entered, Closed}
 use Rattle.timetable.specs.Text.{Signed, Leads}
@@ -24,11 +24,11 @@ use Rattle.timetable.proofs.Turn.{taken_forward, led_none, led_signed}
 
 -- ---- an entry that was spotted
 
-entry_of : {part : List ℕ} {from : ℕ} {r : Spotted} {d t p next : ℕ} → Spots part from r → r ≡ Entry d t p next → EntryAt part from d t p next
-entry_of {part} {from} {r} {d} {t} {p} {next} c e = go (rw e at c)
+entry_of : {part : List ℕ} {from : ℕ} {r : Option Spotted} (x : Spotted) → Spots part from r → r ≡ Some x → EntryAt part from x.departure x.travel x.profile x.next
+entry_of {part} {from} {r} x c e = go (rw e at c)
   where
-    go : Spots part from (Entry d t p next) → EntryAt part from d t p next
-    go (spotted n) = n
+    go : Spots part from (Some x) → EntryAt part from x.departure x.travel x.profile x.next
+    go (spots n) = n
 
 number_forward : {part : List ℕ} {from closes v next : ℕ} → NumberAt part from closes v next → (from < next) × (next ≤ length part)
 number_forward {part} {from} n =
@@ -41,7 +41,7 @@ entry_forward e =
 -- ---- a number of an entry, and its byte
 
 module _ {H read : ℕ} {part : List ℕ} {from : ℕ} {line₀ : Line} {legs₀ table₀ legs table : List ℕ} {i : ℕ} {line : Line}
-    {mark : Mark} (led : Leads H read part from mark Empty line₀ (tables legs₀ table₀) i mark Empty line (tables legs table)) (clear : line.fault ≡ 0) (open_mark : takes mark ≡ true) where
+    {mark : Mark} (led : Leads H read part from mark Empty line₀ (tables legs₀ table₀) i mark Empty line (tables legs table)) (clear : line.fault ≡ None) (open_mark : takes mark ≡ true) where
   led_closed : {closes v next : ℕ} (line' : Line) (table' : List ℕ) → NumberAt part i closes v next → plain_under mark closes ≡ true → (closes ≡ line_feed → ⊥) → Closed H line v closes line' table table'
       → Leads H read part from mark Empty line₀ (tables legs₀ table₀) next mark Empty line' (tables legs table')
   led_closed {closes} {v} {next} line' table' n plain other closed =
@@ -57,7 +57,7 @@ module _ {H read : ℕ} {part : List ℕ} {from : ℕ} {line₀ : Line} {legs₀
 -- ---- the entry
 
 module _ {H read : ℕ} {part : List ℕ} {from : ℕ} {line₀ : Line} {legs₀ table₀ legs table : List ℕ} {i : ℕ} {line : Line}
-    {mark : Mark} (led : Leads H read part from mark Empty line₀ (tables legs₀ table₀) i mark Empty line (tables legs table)) (clear : line.fault ≡ 0) (open_mark : takes mark ≡ true)
+    {mark : Mark} (led : Leads H read part from mark Empty line₀ (tables legs₀ table₀) i mark Empty line (tables legs table)) (clear : line.fault ≡ None) (open_mark : takes mark ≡ true)
     (slot : line.slot ≡ entry_slot) where
   led_entry : {d t p next : ℕ} (line' : Line) (table' : List ℕ) → EntryAt part i d t p next
       → Entered H (open_entry line d t) p line' table table'
@@ -82,7 +82,7 @@ module _ {H read : ℕ} {part : List ℕ} {from : ℕ} {line₀ : Line} {legs₀
 pub record Listing (H : ℕ) (part : List ℕ) (from : ℕ) (table₀ : List ℕ) (line₀ : Line) (table : List ℕ) (line : Line) (i : ℕ) : Type 0 where
   pub forward : from ≤ i
   pub inside : i ≤ length part
-  pub clear : line.fault ≡ 0
+  pub clear : line.fault ≡ None
   pub at_entry : line.slot ≡ entry_slot
   pub long : length table ≡ length table₀
   pub listed : (read : ℕ) (mark : Mark) (legs : List ℕ) → takes mark ≡ true
@@ -100,11 +100,11 @@ listing H part from table line b s =
     }
 
 module _ {H : ℕ} {part : List ℕ} {from : ℕ} {table₀ : List ℕ} {line₀ : Line} {table : List ℕ} {line : Line} {i : ℕ} (g : Listing H part from table₀ line₀ table line i) where
-  pub listing_next : {r : Spotted} {d t p next : ℕ} (line' : Line) (table' : List ℕ) → Spots part i r → r ≡ Entry d t p next
-      → Entered H (open_entry line d t) p line' table table'
-      → length table' ≡ length table → Listing H part from table₀ line₀ table' line' next
-  listing_next line' table' found e entered l =
-      let x = entry_of found e in
+  pub listing_next : {r : Option Spotted} (s : Spotted) (line' : Line) (table' : List ℕ) → Spots part i r → r ≡ Some s
+      → Entered H (open_entry line s.departure s.travel) s.profile line' table table'
+      → length table' ≡ length table → Listing H part from table₀ line₀ table' line' s.next
+  listing_next s line' table' found e entered l =
+      let x = entry_of s found e in
       record {
         forward = omega (arith, g.forward, (entry_forward x).0);
         inside = (entry_forward x).1;
@@ -114,8 +114,8 @@ module _ {H : ℕ} {part : List ℕ} {from : ℕ} {table₀ : List ℕ} {line₀
         listed = λ read mark legs open_mark. led_entry (g.listed read mark legs open_mark) g.clear open_mark g.at_entry line' table' x entered;
       }
 
-  pub listing_less : {r : Spotted} {d t p next : ℕ} → Spots part i r → r ≡ Entry d t p next → i < length part → length part - next < length part - i
-  listing_less found e h = let x = entry_of found e in omega (arith, (entry_forward x).0, (entry_forward x).1)
+  pub listing_less : {r : Option Spotted} (s : Spotted) → Spots part i r → r ≡ Some s → length part - s.next < length part - i
+  listing_less s found e = let x = entry_of s found e in omega (arith, (entry_forward x).0, (entry_forward x).1)
 
   pub listing_over : Lists H line₀ part from (record { line = line; next = i }) table₀ table
   listing_over = record { forward = g.forward; inside = g.inside; clear = g.clear; listed = g.listed }
@@ -129,7 +129,7 @@ lists_none H part from table line b =
       listed = λ read mark legs open_mark. led_none H read part from mark Empty line (tables legs table);
     }
 
-pub begun : (part : List ℕ) (from : ℕ) (line : Line) → from ≤ length part → line.fault ≡ 0 → Begun part from line
+pub begun : (part : List ℕ) (from : ℕ) (line : Line) → from ≤ length part → line.fault ≡ None → Begun part from line
 begun part from line h c = record { within = h; clear = c }
 
 pub ruleset entering = (listing, listing_next, listing_less, listing_over, lists_none, begun)

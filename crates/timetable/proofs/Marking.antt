@@ -1,25 +1,21 @@
 -- Where a field begins, by the code's line and by the machine. Assumes nothing.
-use Prim.Native.Nat.{ℕ, suc, ◌+◌, ◌≤◌, ◌<◌}
+use Prim.Native.Nat.{ℕ, suc, ◌+◌, ◌≤◌}
 use mathlib.Core.Path.{◌≡◌, refl, ap, sym, ◌∙◌}
 use mathlib.Core.Bool.{Bool, true, false, cond, ◌||◌}
 use mathlib.Core.List.{List, [], ◌∷◌, ◌++◌, append-nil}
 use native.Mathlib.Omega.{arith}
 use lib.Dec.{leb, eqb}
-use lib.ListN.{length, get_or}
-use borrow.Author.Tests.{le-leb, lt-leb, eq-eqb, ne_eqb}
-use Rattle.rules.specs.Bytes.{line_feed, comma}
+use lib.ListN.{length}
+use borrow.Author.Tests.{le-leb, eq-eqb, ne_eqb}
 use Rattle.rules.specs.Timetable.{Row}
 use Rattle.rules.specs.declared.sizes.Configuration.{Configuration}
 use Rattle.csv_machine.specs.Number as Row
 use Rattle.timetable_row.specs.declared.line.Line.{Line}
 use Rattle.timetable_row.specs.declared.number.Number.{Number}
-use Rattle.timetable_row.specs.Digits.{is_empty}
 use Rattle.timetable_row.specs.Slots.{nominal_slot, entry_slot}
 use Rattle.timetable.specs.Open.{Open, opens_field, open_begins}
 use Rattle.timetable.specs.Held.{number_held, Shaped, in_head, in_first, in_second, in_third, Tables, InLine}
-use Rattle.csv_marks.specs.declared.Mark.{Mark}
-use Rattle.csv_marks.specs.declared.Mark.TheVariants.{Bare, Behind, Returned}
-use Rattle.timetable.specs.Text.{field_begins, line_begins, Frees, kept, freed}
+use Rattle.timetable.specs.Text.{field_begins, line_begins}
 use Rattle.timetable.proofs.Close.{entry_slot_lem}
 use Rattle.timetable.proofs.Fields.{not-empty}
 
@@ -27,18 +23,6 @@ use Rattle.timetable.proofs.Fields.{not-empty}
 
 pub field_head : (slot entries : ℕ) → slot ≤ nominal_slot → true ≡ field_begins slot entries
 field_head slot entries h = rw (le-leb slot nominal_slot h)
-
-pub field_list : (slot entries : ℕ) (x : Bool) → nominal_slot < slot → slot ≡ entry_slot → x ≡ eqb entries 0 → x ≡ field_begins slot entries
-field_list slot entries x h e k = rw (lt-leb slot nominal_slot h, eq-eqb slot entry_slot e) k
-
-pub field_other : (slot entries : ℕ) → nominal_slot < slot → (slot ≡ entry_slot → ⊥) → false ≡ field_begins slot entries
-field_other slot entries h n = rw (lt-leb slot nominal_slot h, ne_eqb slot entry_slot n)
-
-pub begins-empty : (line : Line) (number : Number) (e x : Bool) → e ≡ is_empty number → e ≡ true → x ≡ field_begins line.slot line.entries → x ≡ line_begins line number
-begins-empty line number e x q t k = rw (← q, t) k
-
-pub begins-none : (line : Line) (number : Number) (e : Bool) → e ≡ is_empty number → e ≡ false → false ≡ line_begins line number
-begins-none line number e q t = rw (← q, t)
 
 -- an empty number: by the slot and the entries
 empty-begins : (slot entries : ℕ) (closed : List ℕ) (list : List Configuration) (entry : List ℕ) → Shaped closed list entry → slot ≡ length (closed ++ entry)
@@ -83,21 +67,3 @@ pub begins_is : (H : ℕ) (lent : Tables) (line : Line) (now : Tables) (place : 
 begins_is H lent line now place before o number g n =
     begins-held line number o.closed o.list o.entry o.number g.opened.shaped g.opened.slot_is
     (λ e. omega (arith, g.opened.entries_are)) (λ e. omega (arith, g.opened.entries_are)) n
-
--- ---- the mark taken back
-
-module _ {mark : Mark} {part : List ℕ} {i : ℕ} where
-  pub keeps : {m : Mark} → mark ≡ m → Frees mark part i m
-  keeps e = kept (sym e)
-
-  module _ (h : i < length part) where
-    pub frees_comma : mark ≡ Behind → get_or part i 0 ≡ comma → Frees mark part i Bare
-    frees_comma e b = freed h (λ begins. rw (e, b)) refl
-
-    pub frees_end : mark ≡ Behind → get_or part i 0 ≡ line_feed → Frees mark part i Bare
-    frees_end e b = freed h (λ begins. rw (e, b)) refl
-
-    pub frees_return : mark ≡ Returned → get_or part i 0 ≡ line_feed → Frees mark part i Bare
-    frees_return e b = freed h (λ begins. rw (e, b)) refl
-
-pub ruleset marking = (field_head, field_list, field_other, begins-empty, begins-none, keeps, frees_comma, frees_end, frees_return)

@@ -1,11 +1,12 @@
 -- Whole ids in quotes lead where their bytes lead: a quote, the digits, a quote and the comma behind it. Assumes nothing.
-use Prim.Native.Nat.{ℕ, zero, suc, ◌+◌, ◌-◌, ◌≤◌, ◌<◌}
+use Prim.Native.Nat.{ℕ, zero, suc, ◌+◌, ◌≤◌, ◌<◌}
 use mathlib.Core.Path.{◌≡◌, refl, ap, sym, subst, ◌∙◌}
 use mathlib.Core.Bool.{Bool, true, false, false≢true}
 use mathlib.Core.List.{List, ◌∷◌}
 use native.Mathlib.Omega.{arith}
 use lib.ListN.{length, get_or, drop}
 use lib.Seq.{drop-cons}
+use Rattle.std.specs.Prelude.{Option, Some, None}
 use Rattle.rules.specs.Bytes.{comma, quote, line_feed}
 use Rattle.timetable_row.specs.Slots.{nominal_slot, separator_of}
 use Rattle.timetable_row.specs.Digits.{taken, taken_from, is_empty}
@@ -15,10 +16,8 @@ use Rattle.timetable_row.specs.declared.number.Number.TheVariants.{Empty, Zero, 
 use Rattle.timetable_row.specs.declared.number.Taken.{Taken}
 use Rattle.csv_marks.specs.declared.Mark.{Mark}
 use Rattle.csv_marks.specs.declared.Mark.TheVariants.{Bare, Within, Behind}
-use Rattle.csv_marks.specs.declared.Move.{Move}
-use Rattle.csv_marks.specs.Turns.{plain_under, moved_to, left_at, moved_under}
+use Rattle.csv_marks.specs.Turns.{plain_under, moved_under}
 use Rattle.timetable_entry.specs.declared.Cut.{Cut}
-use Rattle.timetable_entry.specs.declared.Cut.TheVariants.{At}
 use Rattle.timetable_entry.specs.Spots.{QuotedAt, Quotes, quoted}
 use Rattle.timetable.specs.declared.entries.Listed.{Listed}
 use Rattle.timetable.specs.declared.reader.Run.{Run}
@@ -32,11 +31,11 @@ use Rattle.timetable.proofs.Turn.{taken_forward, led_then, led_none, led_taken, 
 
 -- ---- a byte that moves the mark
 
-module _ (H read : ℕ) (part : List ℕ) (i : ℕ) (mark : Mark) (number : Number) (line : Line) (now : Tables) (clear : line.fault ≡ 0) (inside : i < length part) where
-  led_by : (r : Move) → r.right ≡ true → moved_under mark (get_or part i 0) (line_begins line number) ≡ r
-      → Leads H read part i mark number line now (i + r.step) r.mark number line now
-  led_by r right e =
-      led_moved H read part i mark number line now i mark number line now (led_none H read part i mark number line now) (line_begins line number) r clear inside refl (sym e) right
+module _ (H read : ℕ) (part : List ℕ) (i : ℕ) (mark : Mark) (number : Number) (line : Line) (now : Tables) (clear : line.fault ≡ None) (inside : i < length part) where
+  led_by : (m : Mark) (step : ℕ) → moved_under mark (get_or part i 0) (line_begins line number) ≡ Some (record { mark = m; step = step })
+      → Leads H read part i mark number line now (i + step) m number line now
+  led_by m step e =
+      led_moved H read part i mark number line now i mark number line now (led_none H read part i mark number line now) (line_begins line number) clear inside refl (record { mark = m; step = step }) (sym e)
 
 -- ---- an id
 
@@ -60,7 +59,7 @@ quoted_digits {part} {i} q = taken_forward Empty part (i + 1) q.number.number q.
 quoted_forward : {part : List ℕ} {i v next : ℕ} → QuotedAt part i v next → i < next
 quoted_forward q = omega (arith, quoted_digits q, q.number.behind, q.behind)
 
-module _ (H read : ℕ) {part : List ℕ} {i v next : ℕ} (line : Line) (legs table : List ℕ) (clear : line.fault ≡ 0) (among : line.slot < nominal_slot) (q : QuotedAt part i v next) where
+module _ (H read : ℕ) {part : List ℕ} {i v next : ℕ} (line : Line) (legs table : List ℕ) (clear : line.fault ≡ None) (among : line.slot < nominal_slot) (q : QuotedAt part i v next) where
   abbrev now : Tables
   now = tables legs table
 
@@ -71,7 +70,7 @@ module _ (H read : ℕ) {part : List ℕ} {i v next : ℕ} (line : Line) (legs t
   opened : Leads H read part i Bare Empty line now (i + 1) Within Empty line now
   opened =
       let begins : line_begins line Empty ≡ true = sym (field_head line.slot line.entries (omega arith)) in
-      led_by H read part i Bare Empty line now clear (omega (arith, quoted_digits q, q.number.inside)) (moved_to Within) refl (ap (λ (b : ℕ). moved_under Bare b (line_begins line Empty)) q.opens ∙ ap (moved_under Bare quote) begins)
+      led_by H read part i Bare Empty line now clear (omega (arith, quoted_digits q, q.number.inside)) Within 1 (ap (λ (b : ℕ). moved_under Bare b (line_begins line Empty)) q.opens ∙ ap (moved_under Bare quote) begins)
 
   -- its digits
   counted : Leads H read part (i + 1) Within Empty line now t.next Within t.number line now
@@ -82,12 +81,12 @@ module _ (H read : ℕ) {part : List ℕ} {i v next : ℕ} (line : Line) (legs t
   -- the quote behind it
   closed : Leads H read part t.next Within t.number line now (t.next + 1) Behind t.number line now
   closed =
-      led_by H read part t.next Within t.number line now clear q.number.inside (moved_to Behind) refl (ap (λ (b : ℕ). moved_under Within b (line_begins line t.number)) q.number.byte)
+      led_by H read part t.next Within t.number line now clear q.number.inside Behind 1 (ap (λ (b : ℕ). moved_under Within b (line_begins line t.number)) q.number.byte)
 
   -- the comma, which is left for the contents
   freed : Leads H read part q.shut Behind t.number line now (q.shut + 0) Bare t.number line now
   freed =
-      led_by H read part q.shut Behind t.number line now clear (omega (arith, q.within, q.behind)) (left_at Bare) refl (ap (λ (b : ℕ). moved_under Behind b (line_begins line t.number)) q.comma_there)
+      led_by H read part q.shut Behind t.number line now clear (omega (arith, q.within, q.behind)) Bare 0 (ap (λ (b : ℕ). moved_under Behind b (line_begins line t.number)) q.comma_there)
 
   signed : Leads H read part q.shut Bare t.number line now (q.shut + 1) Bare Empty (kept_in line v) now
   signed =
@@ -116,16 +115,16 @@ module _ (H read : ℕ) {part : List ℕ} {i v next : ℕ} (line : Line) (legs t
 
 -- ---- ids one after the other
 
-quoted_of : {part : List ℕ} {from : ℕ} {r : Cut} {v next : ℕ} → Quotes part from r → r ≡ At v next → QuotedAt part from v next
-quoted_of {part} {from} {r} {v} {next} c e = go (rw e at c)
+quoted_of : {part : List ℕ} {from : ℕ} {r : Option Cut} (x : Cut) → Quotes part from r → r ≡ Some x → QuotedAt part from x.number x.next
+quoted_of {part} {from} {r} x c e = go (rw e at c)
   where
-    go : Quotes part from (At v next) → QuotedAt part from v next
+    go : Quotes part from (Some x) → QuotedAt part from x.number x.next
     go (quoted n) = n
 
 pub record Passing (part : List ℕ) (from : ℕ) (line₀ : Line) (line : Line) (i : ℕ) : Type 0 where
   pub forward : from ≤ i
   pub inside : i ≤ length part
-  pub clear : line.fault ≡ 0
+  pub clear : line.fault ≡ None
   pub passed : (H read : ℕ) (legs table : List ℕ) → Leads H read part from Bare Empty line₀ (tables legs table) i Bare Empty line (tables legs table)
 
 pub passing : (part : List ℕ) (from : ℕ) (line : Line) → Begun part from line → Passing part from line line from
@@ -133,9 +132,9 @@ passing part from line b =
     record { forward = omega arith; inside = b.within; clear = b.clear; passed = λ H read legs table. led_none H read part from Bare Empty line (tables legs table) }
 
 module _ {part : List ℕ} {from : ℕ} {line₀ line : Line} {i : ℕ} (g : Passing part from line₀ line i) where
-  pub passing_next : {r : Cut} {v next : ℕ} (line' : Line) → Quotes part i r → r ≡ At v next → line.slot < nominal_slot → line' ≡ kept_in line v → Passing part from line₀ line' next
-  passing_next {r} {v} {next} line' found e among l =
-      let q = quoted_of found e in
+  pub passing_next : {r : Option Cut} (x : Cut) (line' : Line) → Quotes part i r → r ≡ Some x → line.slot < nominal_slot → line' ≡ kept_in line x.number → Passing part from line₀ line' x.next
+  passing_next {r} x line' found e among l =
+      let q = quoted_of x found e in
       rw l
       (record {
         forward = omega (arith, g.forward, quoted_forward q);
@@ -146,9 +145,6 @@ module _ {part : List ℕ} {from : ℕ} {line₀ line : Line} {i : ℕ} (g : Pas
 
   pub passing_over : Passes line₀ Empty Bare part from (record { line = line; next = i })
   passing_over = record { forward = g.forward; inside = g.inside; clear = g.clear; passed = g.passed }
-
-pub passing_less : (line line' : Line) (v : ℕ) → line.slot < nominal_slot → line' ≡ kept_in line v → nominal_slot - line'.slot < nominal_slot - line.slot
-passing_less line line' v h l = let s : line'.slot ≡ line.slot + 1 = ap (λ (x : Line). x.slot) l in omega arith
 
 -- nothing is passed
 pub passes_none : (part : List ℕ) (from : ℕ) (line : Line) (number : Number) (mark : Mark) → Begun part from line → Passes line number mark part from (record { line = line; next = from })
@@ -187,4 +183,4 @@ ran_passed {H} {read} {part} {from} {mark = mark} {legs' = legs'} {configuration
       runs = led_then ran.runs (p.passed H read legs' configurations');
     }
 
-pub ruleset passings = (passing, passing_next, passing_over, passing_less, passes_none)
+pub ruleset passings = (passing, passing_next, passing_over, passes_none)

@@ -7,7 +7,8 @@ use native.Mathlib.Omega.{arith}
 use native.Mathlib.Nat.{add-zero}
 use lib.ListN.{length, get_or, drop}
 use lib.Dec.{eqb}
-use borrow.Author.Tests.{le-leb, lt-leb, eq-eqb, eqb-true}
+use borrow.Author.Tests.{eq-eqb, eqb-true}
+use Rattle.std.specs.Prelude.{None, Some}
 use Rattle.rules.specs.Limits.{most_text}
 use Rattle.rules.specs.Answers.{bad_row}
 use Rattle.rules.specs.Timetable.{timetable_header}
@@ -19,12 +20,14 @@ use Rattle.timetable_row.specs.RowOver.{stopped_with}
 use Rattle.timetable_row.specs.Digits.{taken_from}
 use Rattle.csv_marks.specs.declared.Mark.{Mark}
 use Rattle.csv_marks.specs.declared.Move.{Move}
-use Rattle.csv_marks.specs.Turns.{takes, plain_under, left_at, moved_by, moved_under}
+use Rattle.csv_marks.specs.declared.Act.{Act}
+use Rattle.csv_marks.specs.declared.Act.TheVariants.{To, Content, Broken}
+use Rattle.csv_marks.specs.Turns.{takes, plain_under, turned, moved_by, moved_under}
 use Rattle.csv_marks.proofs.Follow.{never_plain}
 use Rattle.csv_marks.proofs.Late.{late, late_most, late_open, late_shut}
-use Rattle.csv_marks.proofs.Moves.{Moves, goes_to, leaves, breaks, moves, Left, left, step_most}
+use Rattle.csv_marks.proofs.Moves.{Left, left, step_most}
 use Rattle.timetable.specs.Held.{tables}
-use Rattle.timetable.specs.Text.{Signed, line_begins, Frees, kept, freed, Leads, Placed, Opens, Ran, Lined, placed_at, begun_at}
+use Rattle.timetable.specs.Text.{Signed, line_begins, Frees, kept, freed, Leads, Placed, Opens, Ran, Lined}
 use Rattle.timetable.specs.declared.entries.Listed.{Listed}
 use Rattle.timetable.specs.declared.reader.Run.{Run}
 use Rattle.timetable.specs.Entries.{Lists}
@@ -37,7 +40,7 @@ pub record Going (H read : ℕ) (part : List ℕ) (from : ℕ) (mark : Mark) (le
   pub open_mark : takes mark ≡ true
   pub onward : from ≤ i
   pub within : i ≤ length part
-  pub clear : line.fault ≡ 0
+  pub clear : line.fault ≡ None
   pub legs_long : length legs ≡ length legs₀
   pub configurations_long : length configurations ≡ length configurations₀
   pub led : Leads H read part from mark number₀ line₀ (tables legs₀ configurations₀) i mark number line (tables legs configurations)
@@ -123,7 +126,7 @@ module _ {H read : ℕ} {part : List ℕ} {from : ℕ} {mark : Mark} {legs₀ co
   pub ran_stopped : (t : Taken) (at : ℕ) (line' : Line) (legs' configurations' : List ℕ) → i < length part → t ≡ taken_from number i (drop i part) → t.next < length part
       → at ≡ read + t.next → (p : Bool) → p ≡ plain_under mark (get_or part t.next 0) → p ≡ true
       → Signed H line t.number (get_or part t.next 0) at line' (tables legs configurations) (tables legs' configurations')
-      → (line'.fault ≡ 0 → ⊥)
+      → (line'.fault ≡ None → ⊥)
       → Ran H line₀ number₀ mark read part from (record { next = length part; number = Empty; line = line' }) (tables legs₀ configurations₀) (tables legs' configurations')
   ran_stopped t at line' legs' configurations' h e k a p q y s c =
       record {
@@ -191,26 +194,26 @@ module _ {H read : ℕ} {part : List ℕ} {from : ℕ} {legs₀ configurations�
 
   -- what stands behind the plain bytes
   module _ (r : Run) (legs' configurations' : List ℕ) (ran : Ran H line number mark read part i r (tables legs configurations) (tables legs' configurations')) (h : r.next < length part)
-      (begins : Bool) (v : Move) (begins-at : begins ≡ line_begins r.line r.number) (moved : v ≡ moved_under mark (get_or part r.next 0) begins) where
+      (begins : Bool) (begins-at : begins ≡ line_begins r.line r.number) where
     -- the byte breaks the row
-    pub lined_stopped : (line' : Line) → v.right ≡ false → line' ≡ stopped_with r.line bad_row
+    pub lined_stopped : (line' : Line) → None ≡ moved_under mark (get_or part r.next 0) begins → line' ≡ stopped_with r.line bad_row
         → Lined H line₀ number₀ mark₀ read part from (record { read = read + length part; head = length timetable_header; mark = mark; number = r.number; line = line' }) (tables legs₀ configurations₀) (tables legs' configurations')
     lined_stopped line' wrong l =
-        let f : line'.fault ≡ bad_row = ap (λ (x : Line). x.fault) l in
+        let f : line'.fault ≡ Some bad_row = ap (λ (x : Line). x.fault) l in
         record {
           ran_to = refl;
           head_whole = refl;
           lines =
               led_stopped H read part from mark₀ number₀ line₀ (tables legs₀ configurations₀) (r.next + 1) mark r.number line' (tables legs' configurations')
               (led_broken H read part from mark₀ number₀ line₀ (tables legs₀ configurations₀) r.next mark r.number r.line (tables legs' configurations') (led_then g.led ran.runs)
-              begins v (ran.clear h) h begins-at moved wrong line' l)
-              mark r.number (λ z. omega arith);
+              begins (ran.clear h) h begins-at wrong line' l)
+              mark r.number (λ z. cc (f, z));
         }
 
     -- the byte moves the mark, or is left
-    pub lining_on : length legs' ≡ length legs → length configurations' ≡ length configurations → v.right ≡ true
+    pub lining_on : length legs' ≡ length legs → length configurations' ≡ length configurations → (v : Move) → Some v ≡ moved_under mark (get_or part r.next 0) begins
         → Lining H read part from legs₀ configurations₀ line₀ number₀ mark₀ legs' configurations' r.line r.number v.mark (r.next + v.step)
-    lining_on l m right =
+    lining_on l m v moved =
         let one : v.step ≤ 1 = step_most mark (get_or part r.next 0) begins v moved in
         record {
           placed = record { in_limit = g.placed.in_limit; inside = omega arith; no_fault = ran.clear h };
@@ -218,7 +221,7 @@ module _ {H read : ℕ} {part : List ℕ} {from : ℕ} {legs₀ configurations�
           configurations_long = m ∙ g.configurations_long;
           led =
               led_moved H read part from mark₀ number₀ line₀ (tables legs₀ configurations₀) r.next mark r.number r.line (tables legs' configurations') (led_then g.led ran.runs)
-              begins v (ran.clear h) h begins-at moved right;
+              begins (ran.clear h) h begins-at v moved;
         }
 
   -- the mark is taken back
@@ -233,7 +236,7 @@ module _ {H read : ℕ} {part : List ℕ} {from : ℕ} {legs₀ configurations�
         led =
             subst (λ (x : ℕ). Leads H read part from mark₀ number₀ line₀ (tables legs₀ configurations₀) x m number line (tables legs configurations)) here
             (led_moved H read part from mark₀ number₀ line₀ (tables legs₀ configurations₀) i mark number line (tables legs configurations) g.led
-            (line_begins line number) (left_at m) g.placed.no_fault h refl (ap (moved_by mark) (turn (line_begins line number))) refl);
+            (line_begins line number) g.placed.no_fault h refl (record { mark = m; step = 0 }) (ap moved_by (turn (line_begins line number))));
       }
 
   pub lined_over : length part ≤ i
@@ -247,34 +250,24 @@ module _ {H read : ℕ} {part : List ℕ} {from : ℕ} {legs₀ configurations�
 
 pub line_less : {H read : ℕ} {part : List ℕ} {i : ℕ} {line : Line} {number : Number} {mark : Mark} {r : Run} {legs configurations legs' configurations' : List ℕ}
     → Ran H line number mark read part i r (tables legs configurations) (tables legs' configurations') → r.next < length part
-    → (begins : Bool) (v : Move) → v ≡ moved_under mark (get_or part r.next 0) begins → v.right ≡ true
+    → (begins : Bool) (v : Move) → Some v ≡ moved_under mark (get_or part r.next 0) begins
     → 2 * (length part - (r.next + v.step)) + late v.mark < 2 * (length part - i) + late mark
-line_less {part = part} {i = i} {mark = mark} {r = r} ran h begins v moved right = go (moves mark (get_or part r.next 0) begins v moved)
+line_less {part = part} {i = i} {mark = mark} {r = r} ran h begins v moved = go (turned mark (get_or part r.next 0) begins) refl moved
   where
-    go : Moves mark (get_or part r.next 0) begins v → 2 * (length part - (r.next + v.step)) + late v.mark < 2 * (length part - i) + late mark
-    go (goes_to m t e) =
-        subst (λ (x : Move). 2 * (length part - (r.next + x.step)) + late x.mark < 2 * (length part - i) + late mark) (sym e) (omega (arith, ran.onward, late_most m))
-    go (leaves m t e) =
-        subst (λ (x : Move). 2 * (length part - (r.next + x.step)) + late x.mark < 2 * (length part - i) + late mark) (sym e) (stands (eqb r.next i) refl)
+    go : (t : Act) → turned mark (get_or part r.next 0) begins ≡ t → Some v ≡ moved_by t → 2 * (length part - (r.next + v.step)) + late v.mark < 2 * (length part - i) + late mark
+    go (To m) t e = let q : v ≡ record { mark = m; step = 1 } = cc in rw q (omega (arith, ran.onward, late_most m))
+    go (Content m) t e = let q : v ≡ record { mark = m; step = 0 } = cc in rw q (stands (eqb r.next i) refl)
       where
         l : Left mark m (get_or part r.next 0) begins
-        l = left m (get_or part r.next 0) begins mark t
+        l = left m (get_or part r.next 0) begins mark (sym t)
 
         -- the byte is left: some were passed before it, or the mark is taken back
         stands : (x : Bool) → eqb r.next i ≡ x → 2 * (length part - (r.next + 0)) + late m < 2 * (length part - i) + late mark
         stands true q = omega (arith, late_open m l.open_mark, late_shut mark (l.late (ran.halts h (eqb-true r.next i q))))
         stands false q = let other : r.next ≡ i → ⊥ = λ z. true≢false (sym (eq-eqb r.next i z) ∙ q) in omega (arith, ran.onward, late_open m l.open_mark)
-    go (breaks t e) = absurd (true≢false (sym right ∙ ap (λ (x : Move). x.right) e))
+    go Broken t e = cc
 
 -- a mark that is taken back leaves no byte
 pub late_freed : {mark m : Mark} {part : List ℕ} {i : ℕ} → Frees mark part i m → late m ≤ late mark
 late_freed (kept e) = rw e (omega arith)
 late_freed (freed h turn bare) = rw bare (omega arith)
-
--- ---- the first row's place
-
-pub begun-same : (line : Line) (head at : ℕ) → length timetable_header ≤ head → line ≡ begun_at line head at
-begun-same line head at h = rw (le-leb (length timetable_header) head h)
-
-pub begun-placed : (line : Line) (head at : ℕ) → head < length timetable_header → placed_at line at ≡ begun_at line head at
-begun-placed line head at h = rw (lt-leb (length timetable_header) head h)

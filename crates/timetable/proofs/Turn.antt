@@ -11,6 +11,7 @@ use lib.Dec.{leb, eqb}
 use lib.ListN.{length, get_or, drop, length-drop}
 use lib.Seq.{drop-cons, drop-drop, drop-length, get_or-drop}
 use borrow.Author.Tests.{leb-true, ne_eqb}
+use Rattle.std.specs.Prelude.{None, Some}
 use Rattle.rules.specs.Bytes.{is_digit, digit_zero, digit_nine, line_feed, carriage_return, quote, comma}
 use Rattle.rules.specs.Answers.{bad_row}
 use Rattle.rules.specs.Timetable.{Row, timetable_header}
@@ -31,9 +32,9 @@ use Rattle.csv_marks.specs.declared.Mark.{Mark}
 use Rattle.csv_marks.specs.declared.Act.{Act}
 use Rattle.csv_marks.specs.declared.Act.TheVariants.{To, Content, Broken}
 use Rattle.csv_marks.specs.declared.Move.{Move}
-use Rattle.csv_marks.specs.Turns.{marked, takes, plain_under, turned, moved_under}
+use Rattle.csv_marks.specs.Turns.{marked, takes, plain_under, turned, moved_by, moved_under}
 use Rattle.csv_marks.proofs.Follow.{plain_other}
-use Rattle.csv_marks.proofs.Moves.{Moves, goes_to, leaves, breaks, moves, left}
+use Rattle.csv_marks.proofs.Moves.{left}
 use Rattle.timetable.specs.Open.{Open, Reached, partly, open_step, open_begins}
 use Rattle.timetable.specs.Text.{Holds, drafted, Signed, line_begins, Leads}
 use Rattle.timetable.proofs.Faults.{faulty_fold, faulty_held}
@@ -211,7 +212,7 @@ module _ (H read : ℕ) (part : List ℕ) (from : ℕ) (mark₀ : Mark) (number�
 
   module _ (i : ℕ) (mark : Mark) (number : Number) (line : Line) (now : Tables) (led : Leads H read part from mark₀ number₀ line₀ now₀ i mark number line now) where
     -- the reader is in a row: what holds of every row holds
-    in_row_lem : (i' : ℕ) (mark' : Mark) (number' : Number) (line' : Line) (now' : Tables) → line.fault ≡ 0
+    in_row_lem : (i' : ℕ) (mark' : Mark) (number' : Number) (line' : Line) (now' : Tables) → line.fault ≡ None
         → ((lent : Tables) (place : ℕ) (before : List Row) (o : Open) → number ≡ number_held o.number → InLine H lent line now place before o.closed o.list o.entry
         → (reached' : Reached) × Holds H lent (read + i') mark' (length timetable_header) number' line' now' reached'
         × (fold (drafted H lent) reached' (drop i' part) ≡ fold (drafted H lent) (in_row place (read + i) before (marked mark o)) (drop i part)))
@@ -224,8 +225,8 @@ module _ (H read : ℕ) (part : List ℕ) (from : ℕ) (mark₀ : Mark) (number�
         go : (lent : Tables) (at : Reached) → Holds H lent (read + i) mark (length timetable_header) number line now at → (end : Reached) → fold (drafted H lent) at (drop i part) ≡ end
             → (reached' : Reached) × Holds H lent (read + i') mark' (length timetable_header) number' line' now' reached' × (fold (drafted H lent) reached' (drop i' part) ≡ end)
         go lent (in_header k m) h end e = absurd (omega (arith, h.2))
-        go lent (broken k place) h end e = absurd (omega (arith, h.0, h.2))
-        go lent (stopped k place) h end e = absurd (omega (arith, h.0, h.2))
+        go lent (broken k place) h end e = cc (h.0)
+        go lent (stopped k place) h end e = cc (h.0)
         go lent (in_row place n before m) h end e =
             let a = turn lent place before h.0 h.3 h.4 in (
               a.0,
@@ -237,7 +238,7 @@ module _ (H read : ℕ) (part : List ℕ) (from : ℕ) (mark₀ : Mark) (number�
             )
 
     -- what the open number takes, up to a place
-    pub led_taken : (t : Taken) → takes mark ≡ true → line.fault ≡ 0 → i < length part → t ≡ taken_from number i (drop i part) → t.next ≤ length part
+    pub led_taken : (t : Taken) → takes mark ≡ true → line.fault ≡ None → i < length part → t ≡ taken_from number i (drop i part) → t.next ≤ length part
         → Leads H read part from mark₀ number₀ line₀ now₀ t.next mark t.number line now
     led_taken t open_mark clear inside e h =
         in_row_lem t.next mark t.number line now clear
@@ -255,7 +256,7 @@ module _ (H read : ℕ) (part : List ℕ) (from : ℕ) (mark₀ : Mark) (number�
         ))
 
     -- a plain byte closes the open number
-    pub led_signed : (t : Taken) (at : ℕ) (line' : Line) (now' : Tables) → takes mark ≡ true → line.fault ≡ 0 → i < length part
+    pub led_signed : (t : Taken) (at : ℕ) (line' : Line) (now' : Tables) → takes mark ≡ true → line.fault ≡ None → i < length part
         → t ≡ taken_from number i (drop i part) → t.next < length part → at ≡ read + t.next → plain_under mark (get_or part t.next 0) ≡ true
         → Signed H line t.number (get_or part t.next 0) at line' now now'
         → Leads H read part from mark₀ number₀ line₀ now₀ (t.next + 1) mark Empty line' now'
@@ -284,7 +285,7 @@ module _ (H read : ℕ) (part : List ℕ) (from : ℕ) (mark₀ : Mark) (number�
         ))
 
     -- a byte that is not plain moves the mark, is left for the contents, or breaks the row
-    module _ (begins : Bool) (r : Move) (clear : line.fault ≡ 0) (h : i < length part) (begins-at : begins ≡ line_begins line number) (moved : r ≡ moved_under mark (get_or part i 0) begins) where
+    module _ (begins : Bool) (clear : line.fault ≡ None) (h : i < length part) (begins-at : begins ≡ line_begins line number) where
       turn_is : (lent : Tables) (place : ℕ) (before : List Row) (o : Open) → InLine H lent line now place before o.closed o.list o.entry → number ≡ number_held o.number
           → (t : Act) → t ≡ turned mark (get_or part i 0) begins → t ≡ turned mark (get_or part i 0) (open_begins o)
       turn_is lent place before o g n t e = e ∙ ap (turned mark (get_or part i 0)) (begins-at ∙ begins_is H lent line now place before o number g n)
@@ -323,41 +324,41 @@ module _ (H read : ℕ) (part : List ℕ) (from : ℕ) (mark₀ : Mark) (number�
                 ∙ ap (λ (s : List ℕ). fold (drafted H lent) here s) (sym (drop-cons part i 0 h)),
           ))
 
-      pub led_moved : r.right ≡ true → Leads H read part from mark₀ number₀ line₀ now₀ (i + r.step) r.mark number line now
-      led_moved right = go (moves mark (get_or part i 0) begins r moved)
+      pub led_moved : (v : Move) → Some v ≡ moved_under mark (get_or part i 0) begins → Leads H read part from mark₀ number₀ line₀ now₀ (i + v.step) v.mark number line now
+      led_moved v moved = go (turned mark (get_or part i 0) begins) refl moved
         where
-          go : Moves mark (get_or part i 0) begins r → Leads H read part from mark₀ number₀ line₀ now₀ (i + r.step) r.mark number line now
-          go (goes_to m t e) = subst (λ (x : Move). Leads H read part from mark₀ number₀ line₀ now₀ (i + x.step) x.mark number line now) (sym e) (led_to m t)
-          go (leaves m t e) = subst (λ (x : Move). Leads H read part from mark₀ number₀ line₀ now₀ (i + x.step) x.mark number line now) (sym e) (led_left m t)
-          go (breaks t e) = absurd (true≢false (sym right ∙ ap (λ (x : Move). x.right) e))
+          go : (t : Act) → turned mark (get_or part i 0) begins ≡ t → Some v ≡ moved_by t → Leads H read part from mark₀ number₀ line₀ now₀ (i + v.step) v.mark number line now
+          go (To m) t e = let q : v ≡ record { mark = m; step = 1 } = cc in rw q (led_to m (sym t))
+          go (Content m) t e = let q : v ≡ record { mark = m; step = 0 } = cc in rw q (led_left m (sym t))
+          go Broken t e = cc
 
-      pub led_broken : r.right ≡ false → (line' : Line) → line' ≡ stopped_with line bad_row → Leads H read part from mark₀ number₀ line₀ now₀ (i + 1) mark number line' now
-      led_broken wrong line' l = go (moves mark (get_or part i 0) begins r moved)
+      pub led_broken : None ≡ moved_under mark (get_or part i 0) begins → (line' : Line) → line' ≡ stopped_with line bad_row → Leads H read part from mark₀ number₀ line₀ now₀ (i + 1) mark number line' now
+      led_broken moved line' l = go (turned mark (get_or part i 0) begins) refl moved
         where
-          go : Moves mark (get_or part i 0) begins r → Leads H read part from mark₀ number₀ line₀ now₀ (i + 1) mark number line' now
-          go (goes_to m t e) = absurd (true≢false (sym (ap (λ (x : Move). x.right) e) ∙ wrong))
-          go (leaves m t e) = absurd (true≢false (sym (ap (λ (x : Move). x.right) e) ∙ wrong))
-          go (breaks t e) =
+          go : (t : Act) → turned mark (get_or part i 0) begins ≡ t → None ≡ moved_by t → Leads H read part from mark₀ number₀ line₀ now₀ (i + 1) mark number line' now
+          go (To m) t e = cc
+          go (Content m) t e = cc
+          go Broken t e =
               in_row_lem (i + 1) mark number line' now clear
               (λ lent place before o n g.
               let b : ℕ = get_or part i 0 in
               let here : Reached = in_row place (read + i) before (marked mark o) in (
                 drafted H lent here b,
                 faulty_held H lent (drafted H lent here b) (read + (i + 1)) mark (length timetable_header) number line' now
-                    (lands_broken H lent place (read + i) before mark o b (turn_is lent place before o g n Broken t))
+                    (lands_broken H lent place (read + i) before mark o b (turn_is lent place before o g n Broken (sym t)))
                     (ap (λ (x : Line). x.fault) l) (ap (λ (x : Line). x.place) l ∙ g.placed) (omega arith),
                 ap (λ (x : ℕ). fold (drafted H lent) (drafted H lent here b) (drop x part)) (add-one i)
                     ∙ ap (λ (s : List ℕ). fold (drafted H lent) here s) (sym (drop-cons part i 0 h)),
               ))
 
     -- after a fault the rest of the part is not looked at
-    pub led_stopped : (mark' : Mark) (number' : Number) → (line.fault ≡ 0 → ⊥) → Leads H read part from mark₀ number₀ line₀ now₀ (length part) mark' number' line now
+    pub led_stopped : (mark' : Mark) (number' : Number) → (line.fault ≡ None → ⊥) → Leads H read part from mark₀ number₀ line₀ now₀ (length part) mark' number' line now
     led_stopped mark' number' fault =
         record {
           leads = λ lent reached h. let a = led.leads lent reached h in go lent a.0 a.1 (fold (drafted H lent) reached (drop from part)) a.2;
         }
       where
-        at-end : (lent : Tables) (at : Reached) {k place : ℕ} → Faulty k place at → line.fault ≡ k → line.place ≡ place → 0 < k → (end : Reached) → fold (drafted H lent) at (drop i part) ≡ end
+        at-end : (lent : Tables) (at : Reached) {k place : ℕ} → Faulty k place at → line.fault ≡ Some k → line.place ≡ place → 0 < k → (end : Reached) → fold (drafted H lent) at (drop i part) ≡ end
             → (reached' : Reached) × Holds H lent (read + length part) mark' (length timetable_header) number' line now reached' × (fold (drafted H lent) reached' (drop (length part) part) ≡ end)
         at-end lent at f l p z end e =
             let there : Reached = fold (drafted H lent) at (drop i part) in (

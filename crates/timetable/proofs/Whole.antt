@@ -10,6 +10,7 @@ use lib.ListN.{length}
 use mir.Syntax.{w32}
 use mir.Val.{Fits}
 use borrow.Author.Tests.{lt-leb, eqb-true}
+use Rattle.std.specs.Prelude.{Result, Err}
 use Rattle.rules.specs.Limits.{most_text, leg_width, configuration_width}
 use Rattle.rules.specs.Lists.{is_some, flat, over}
 use Rattle.rules.specs.Answers.{refusal, too_long, bad_row, timetable_file, Reading, refused, good, Judged, wrong, right}
@@ -24,8 +25,9 @@ use Rattle.csv_machine.specs.Machine.{in_header, in_row, broken, stopped, on_hea
 use Rattle.csv_machine.proofs.Contents.{text_by_bytes}
 use Rattle.timetable_row.specs.declared.number.Number.TheVariants.{Empty}
 use Rattle.timetable.specs.declared.reader.Reader.{Reader}
+use Rattle.timetable_row.specs.declared.fault.Fault.{Fault}
+use Rattle.timetable_row.specs.Faults.{fault_at}
 use Rattle.timetable.specs.declared.reader.Rows.{Rows}
-use Rattle.timetable.specs.declared.reader.Rows.TheVariants.{Fault}
 use Rattle.timetable_row.specs.Digits.{most_held}
 use Rattle.csv_marks.specs.declared.Mark.TheVariants.{Bare}
 use Rattle.csv_marks.proofs.Follow.{inside, inside_marked}
@@ -44,7 +46,7 @@ long_text : (H : ℕ) (lent : Tables) (text : List ℕ) → most_text < length t
 unfolding timetable_of csv_of
 long_text H lent text h = rw (lt-leb (length text) most_text h)
 
-pub read_long : (H : ℕ) (lent now : Tables) (text : List ℕ) → most_text < length text → ReadAs H text lent (Fault too_long 0) now
+pub read_long : (H : ℕ) (lent now : Tables) (text : List ℕ) → most_text < length text → ReadAs H text lent (Err (fault_at too_long 0)) now
 read_long H lent now text h =
     record { answers = rw (long_text H lent text h); fills = rw (long_text H lent text h) tt }
 
@@ -129,7 +131,7 @@ module _ (H : ℕ) (lent : Tables) where
       go false e = tt
 
 -- a whole text is one part, from the start to the end
-pub read_fed : (H : ℕ) (lent now : Tables) (text : List ℕ) (reader reader' : Reader) (answer : Rows) → Fits w32 H → length text ≤ most_text
+pub read_fed : (H : ℕ) (lent now : Tables) (text : List ℕ) (reader reader' : Reader) (answer : Result Rows Fault) → Fits w32 H → length text ≤ most_text
     → (reader.read ≡ 0) × (reader.head ≡ 0) × (reader.mark ≡ Bare) × (reader.number ≡ Empty) × (reader.line ≡ first_line) → Fed H reader text reader' lent now → Finished reader' answer
     → ReadAs H text lent answer now
 read_fed H lent now text reader reader' answer fits short begun fed finished =

@@ -1,5 +1,5 @@
 -- What a row that is over gives: its fault, or the next row.
-use Rattle.std.specs.Prelude.{ℕ, suc, ◌/◌, ◌<◌, ◌≡◌, Bool, List, [], ◌∷◌, ◌++◌, length}
+use Rattle.std.specs.Prelude.{Some, ℕ, suc, ◌/◌, ◌<◌, ◌≡◌, Bool, List, [], ◌∷◌, ◌++◌, length}
 use Rattle.std.proofs.Math.Option.{some}
 use Rattle.rules.specs.Limits.{leg_width, configuration_width}
 use Rattle.rules.specs.Answers.{Judged, wrong, right}
@@ -16,7 +16,7 @@ draft_room lent = draft_fits (length lent.legs / leg_width) (length lent.configu
 
 -- what a row that is judged must give
 abbrev pub AfterLine : (H : ℕ) (lent : Tables) (line : Line) (now : Tables) (place at : ℕ) → List Row → Judged Row → Type 0
-AfterLine H lent line now place at before (wrong k) = (line.fault ≡ k) × (line.place ≡ place) × (0 < k)
+AfterLine H lent line now place at before (wrong k) = (line.fault ≡ Some k) × (line.place ≡ place) × (0 < k)
 AfterLine H lent line now place at before (right row) = InLine H lent line now (suc at) (before ++ row ∷ []) [] [] []
 
 pub record Ended (H : ℕ) (line : Line) (n at : ℕ) (line' : Line) (now now' : Tables) : Type 0 where

@@ -1,5 +1,5 @@
 -- What the reader holds of the rows before and of the open row, and what the tables hold of them.
-use Rattle.std.specs.Prelude.{ℕ, suc, ◌+◌, ◌*◌, ◌≤◌, ◌<◌, min, ◌≡◌, Bool, true, not, cond, List, [], ◌∷◌, ◌++◌, map, length, take, set}
+use Rattle.std.specs.Prelude.{None, Some, ℕ, suc, ◌+◌, ◌*◌, ◌≤◌, ◌<◌, min, ◌≡◌, Bool, true, not, cond, List, [], ◌∷◌, ◌++◌, map, length, take, set}
 use Rattle.std.proofs.Math.Option.{Option, none, some}
 use Rattle.rules.specs.Limits.{most_legs, most_listed, most_configurations, leg_width, configuration_width}
 use Rattle.rules.specs.Lists.{every, flat, over}
@@ -104,7 +104,7 @@ Kept H lent now before list =
 
 pub record InLine (H : ℕ) (lent : Tables) (line : Line) (now : Tables) (place : ℕ) (before : List Row) (closed : List ℕ) (list : List Configuration) (entry : List ℕ) : Type 0 where
   pub horizon : H ≤ most_held
-  pub going : line.fault ≡ 0
+  pub going : line.fault ≡ None
   pub placed : line.place ≡ place
   pub opened : Opened H line.slot line.numbers line.entries line.nominal line.wide closed list entry
   pub rowed : Rowed lent.legs now.legs (length lent.configurations) line.rows line.configurations line.above before
@@ -121,7 +121,7 @@ pub record Entered (H : ℕ) (line : Line) (p : ℕ) (line' : Line) (table table
 
 -- what a byte that no digit follows must give: the row goes on with an empty number, or breaks its form
 abbrev pub AfterByte : (H : ℕ) (lent : Tables) (line : Line) (now : Tables) (place : ℕ) → List Row → Option Open → Type 0
-AfterByte H lent line now place before none = (line.fault ≡ bad_row) × (line.place ≡ place)
+AfterByte H lent line now place before none = (line.fault ≡ Some bad_row) × (line.place ≡ place)
 AfterByte H lent line now place before (some o) = InLine H lent line now place before o.closed o.list o.entry × (o.number ≡ empty)
 
 -- what closing a number, held as n, by a byte that it does not take must give

@@ -1,5 +1,5 @@
 -- How far a text is read: what the reader and the tables hold there, in the header, in a row, and after a fault.
-use Rattle.std.specs.Prelude.{ℕ, ◌+◌, ◌≤◌, ◌<◌, ◌≡◌, Bool, true, false, cond, List, leb, eqb, length, get_or, drop, replicate}
+use Rattle.std.specs.Prelude.{None, Some, Result, ℕ, ◌+◌, ◌≤◌, ◌<◌, ◌≡◌, Bool, true, false, cond, List, leb, eqb, length, get_or, drop, replicate}
 use Rattle.std.proofs.Math.Option.{none}
 use Rattle.rules.specs.Limits.{most_text}
 use Rattle.rules.specs.Answers.{timetable_file}
@@ -20,6 +20,7 @@ use Rattle.csv_marks.specs.Turns.{marked, takes, plain_under, turned}
 use Rattle.csv_header.specs.Heading.{name_at}
 use Rattle.timetable.specs.declared.reader.Run.{Run}
 use Rattle.timetable.specs.declared.reader.Reader.{Reader}
+use Rattle.timetable_row.specs.declared.fault.Fault.{Fault}
 use Rattle.timetable.specs.declared.reader.Rows.{Rows}
 use Rattle.timetable.specs.Open.{Open, Reached, open_step, open_end, reach, reached_end}
 use Rattle.timetable.specs.Held.{number_held, Tables, InLine, AfterByte}
@@ -30,7 +31,7 @@ use Rattle.timetable.specs.Promise.{answer_of}
 abbrev pub first_line : Line
 first_line =
     record {
-      fault = 0;
+      fault = None;
       place = 0;
       slot = 0;
       numbers = replicate last_slot 0;
@@ -68,8 +69,8 @@ Holds H lent next mark head number line now (in_header k m) =
 Holds H lent next mark head number line now (in_row place n before m) =
     (o : Open) × (n ≡ next) × (m ≡ marked mark o) × (number ≡ number_held o.number) × InLine H lent line now place before o.closed o.list o.entry
     × (length timetable_header ≤ head)
-Holds H lent next mark head number line now (broken k place) = (line.fault ≡ k) × (line.place ≡ place) × (0 < k)
-Holds H lent next mark head number line now (stopped k place) = (line.fault ≡ k) × (line.place ≡ place) × (0 < k)
+Holds H lent next mark head number line now (broken k place) = (line.fault ≡ Some k) × (line.place ≡ place) × (0 < k)
+Holds H lent next mark head number line now (stopped k place) = (line.fault ≡ Some k) × (line.place ≡ place) × (0 < k)
 
 -- the machine of a draft
 abbrev pub drafted : (H : ℕ) (lent : Tables) → Reached → ℕ → Reached
@@ -113,7 +114,7 @@ pub record Leads (H read : ℕ) (part : List ℕ) (i : ℕ) (mark : Mark) (numbe
 pub record Placed (read : ℕ) (part : List ℕ) (from : ℕ) (line : Line) : Type 0 where
   pub in_limit : read + length part ≤ most_text
   pub inside : from ≤ length part
-  pub no_fault : line.fault ≡ 0
+  pub no_fault : line.fault ≡ None
 
 -- such a place where contents may follow
 pub record Opens (read : ℕ) (part : List ℕ) (from : ℕ) (line : Line) (mark : Mark) : Type 0 where
@@ -124,7 +125,7 @@ pub record Opens (read : ℕ) (part : List ℕ) (from : ℕ) (line : Line) (mark
 pub record Ran (H : ℕ) (line : Line) (number : Number) (mark : Mark) (read : ℕ) (part : List ℕ) (from : ℕ) (r : Run) (now now' : Tables) : Type 0 where
   pub onward : from ≤ r.next
   pub inside : r.next ≤ length part
-  pub clear : r.next < length part → r.line.fault ≡ 0
+  pub clear : r.next < length part → r.line.fault ≡ None
   pub halts : r.next < length part → r.next ≡ from → plain_under mark (get_or part r.next 0) ≡ false
   pub runs : Leads H read part from mark number line now r.next mark r.number r.line now'
 
@@ -146,6 +147,6 @@ pub record Fed (H : ℕ) (reader : Reader) (part : List ℕ) (reader' : Reader) 
 -- ---- the end of a text
 
 -- the reader's answer at the end of a text
-pub record Finished (reader : Reader) (answer : Rows) : Type 0 where
+pub record Finished (reader : Reader) (answer : Result Rows Fault) : Type 0 where
   pub finishes : (H : ℕ) (lent now : Tables) (reached : Reached) → Stands H lent reader now reached
       → answer ≡ answer_of (reached_end H timetable_file (draft_room lent) reached)

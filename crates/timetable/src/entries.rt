@@ -7,7 +7,6 @@ ghost use Rattle.timetable.specs.Entries.{Lists, Begun, Passes};
 
 use crate::row;
 use csv_marks::Mark;
-use timetable_entry::{Cut, Spotted};
 use timetable_row::line::Line;
 use timetable_row::number::Number;
 use timetable_row::{line, number};
@@ -25,15 +24,20 @@ fn run_entries(before: Line, part: &[u8], from: usize, h: u32, configurations: &
     ensures { Lists h before part.now from result configurations.old configurations.new }
 {
     let mut line = before;
-    let mut i = from;
-    while i < part.len() {
-        let Spotted::Entry(d, t, p, next) = timetable_entry::entry_at(part, i) else {
-            return Listed { line, next: i };
-        };
-        line = row::listed(line, d, t, p, h, configurations);
-        i = next;
+    let mut next = from;
+    // Kept (no plainer): a turn goes on by what it has read, which no range does.
+    while let Some(entry) = timetable_entry::entry_at(part, next) {
+        line = row::listed(
+            line,
+            entry.departure,
+            entry.travel,
+            entry.profile,
+            h,
+            configurations,
+        );
+        next = entry.next;
     }
-    Listed { line, next: i }
+    Listed { line, next }
 }
 
 // At an entry's beginning, whole entries are read at once.
@@ -53,15 +57,15 @@ fn run_ids(before: Line, part: &[u8], from: usize) -> Listed
     ensures { Passes before Empty Bare part.now from result }
 {
     let mut line = before;
-    let mut i = from;
-    while line.slot < line::NOMINAL {
-        let Cut::At(id, next) = timetable_entry::quoted_at(part, i) else {
-            return Listed { line, next: i };
+    let mut next = from;
+    for _slot in before.slot..line::NOMINAL {
+        let Some(id) = timetable_entry::quoted_at(part, next) else {
+            break;
         };
-        line = row::kept(line, id);
-        i = next;
+        line = row::kept(line, id.number);
+        next = id.next;
     }
-    Listed { line, next: i }
+    Listed { line, next }
 }
 
 // Where neither a number nor a quote is open, whole ids in quotes are read at once.

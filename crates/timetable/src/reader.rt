@@ -11,6 +11,7 @@ use crate::{entries, marked, row};
 use csv_marks::Mark;
 use rules::answers::Refusal;
 use rules::sizes::{Leg, Text};
+use timetable_row::fault::Fault;
 use timetable_row::line::Line;
 use timetable_row::number::Number;
 use timetable_row::{line, number};
@@ -33,18 +34,18 @@ pub struct Run {
     pub line: Line,
 }
 
-// The rows and configurations of a text, or its first fault.
+// How many rows a text has, and how many configurations they list.
 #[derive(Clone, Copy)]
-pub enum Rows {
-    Fault(u8, u32),
-    Read(u32, u32),
+pub struct Rows {
+    pub rows: u32,
+    pub configurations: u32,
 }
 
 pub fn first_line() -> Line
     ensures { result ≡ first_line }
 {
     Line {
-        fault: 0,
+        fault: None,
         place: 0,
         slot: 0,
         numbers: [0; line::LAST],
@@ -87,6 +88,7 @@ fn run_plain(
     let mut line = before;
     let mut number = unclosed;
     let mut i = from;
+    // Kept (no plainer): a turn goes on by what it has read, which no range does.
     while i < part.len() {
         let taken = number::take(part, i, number);
         let next = taken.next;
@@ -103,7 +105,7 @@ fn run_plain(
             let at = (gone + next) as u32;
             line = row::sign(line, number, b, at, h, legs, configurations);
             number = Number::Empty;
-            if line.fault != 0 {
+            if line.fault.is_some() {
                 return Run {
                     next: part.len(),
                     number,
@@ -139,36 +141,32 @@ pub fn run_rows(
     requires { Placed gone part.now from before }
     ensures { Ran h before unclosed mark gone part.now from result (tables legs.old configurations.old) (tables legs.new configurations.new) }
 {
-    if csv_marks::contents(mark) {
-        let ran = run_plain(
-            before,
-            unclosed,
-            mark,
-            gone,
-            part,
-            from,
-            h,
-            legs,
-            configurations,
-        );
-        let next = ran.next;
-        let number = ran.number;
-        let line = ran.line;
-        if part.len() <= next {
-            return Run { next, number, line };
-        }
-        let quoted = entries::run_quoted(line, number, mark, part, next);
-        let line = quoted.line;
+    if !csv_marks::contents(mark) {
         return Run {
-            next: quoted.next,
-            number,
-            line,
+            next: from,
+            number: unclosed,
+            line: before,
         };
     }
+    let ran = run_plain(
+        before,
+        unclosed,
+        mark,
+        gone,
+        part,
+        from,
+        h,
+        legs,
+        configurations,
+    );
+    if part.len() <= ran.next {
+        return ran;
+    }
+    let quoted = entries::run_quoted(ran.line, ran.number, mark, part, ran.next);
     Run {
-        next: from,
-        number: unclosed,
-        line: before,
+        next: quoted.next,
+        number: ran.number,
+        line: quoted.line,
     }
 }
 
@@ -193,6 +191,7 @@ pub fn run_lines(
     let mut number = unclosed;
     let mut mark = first;
     let mut i = from;
+    // Kept (no plainer): a turn goes on by what it has read, which no range does.
     while i < part.len() {
         let ran = run_rows(line, number, mark, gone, part, i, h, legs, configurations);
         let next = ran.next;
@@ -207,12 +206,7 @@ pub fn run_lines(
                 line,
             };
         }
-        let moved = csv_marks::moved(mark, part[next], marked::begins(line, number));
-        if moved.right {
-            i = next + moved.step;
-            let after = moved.mark;
-            mark = marked::freed(after, part, i);
-        } else {
+        let Some(moved) = csv_marks::moved(mark, part[next], marked::begins(line, number)) else {
             line = line::stopped(line, Refusal::ROW_FORM);
             return Reader {
                 read,
@@ -221,7 +215,9 @@ pub fn run_lines(
                 number,
                 line,
             };
-        }
+        };
+        i = next + moved.step;
+        mark = marked::freed(moved.mark, part, i);
     }
     Reader {
         read,
@@ -239,9 +235,7 @@ fn begun(line: Line, head: usize, at: u32) -> Line
     if Leg::HEADER_LENGTH <= head {
         return line;
     }
-    let mut out = line;
-    out.place = at;
-    out
+    Line { place: at, ..line }
 }
 
 // A part of a text, however it is cut.
@@ -260,7 +254,7 @@ pub fn feed(
     let number = reader.number;
     let line = reader.line;
     let all = read + part.len();
-    if line.fault != 0 {
+    if line.fault.is_some() {
         return Reader {
             read: all,
             head: reader.head,
@@ -269,67 +263,84 @@ pub fn feed(
             line,
         };
     }
-    let headed = csv_header::header(part, reader.head, mark);
-    if headed.right {
-        let after = headed.mark;
-        if headed.head < Leg::HEADER_LENGTH {
-            return Reader {
-                read: all,
-                head: headed.head,
-                mark: after,
-                number,
-                line,
-            };
-        }
-        let next = headed.next;
-        let first = begun(line, reader.head, (read + next) as u32);
-        return run_lines(
-            first,
+    let Ok(headed) = csv_header::header(part, reader.head, mark) else {
+        let wrong = Line {
+            fault: Some(Refusal::HEADER),
+            place: 0,
+            ..line
+        };
+        return Reader {
+            read: all,
+            head: reader.head,
+            mark,
             number,
-            after,
-            read,
-            part,
-            next,
-            h,
-            legs,
-            configurations,
-        );
+            line: wrong,
+        };
+    };
+    if headed.head < Leg::HEADER_LENGTH {
+        return Reader {
+            read: all,
+            head: headed.head,
+            mark: headed.mark,
+            number,
+            line,
+        };
     }
-    let mut wrong = line;
-    wrong.fault = Refusal::HEADER;
-    wrong.place = 0;
-    Reader {
-        read: all,
-        head: reader.head,
-        mark,
+    let first = begun(line, reader.head, (read + headed.next) as u32);
+    run_lines(
+        first,
         number,
-        line: wrong,
-    }
+        headed.mark,
+        read,
+        part,
+        headed.next,
+        h,
+        legs,
+        configurations,
+    )
 }
 
 // The text is over.
-pub fn finish(reader: Reader) -> Rows
+pub fn finish(reader: Reader) -> Result<Rows, Fault>
     ensures { Finished reader result }
 {
     let line = reader.line;
-    if line.fault != 0 {
-        return Rows::Fault(line.fault, line.place);
+    let place = line.place;
+    if let Some(number) = line.fault {
+        return Err(Fault { number, place });
     }
     if reader.head < Leg::HEADER_LENGTH {
-        return Rows::Fault(Refusal::HEADER, 0);
+        return Err(Fault {
+            number: Refusal::HEADER,
+            place: 0,
+        });
     }
-    if line.place as usize != reader.read {
-        return Rows::Fault(Refusal::ROW_FORM, line.place);
+    if place as usize != reader.read {
+        return Err(Fault {
+            number: Refusal::ROW_FORM,
+            place,
+        });
     }
-    Rows::Read(line.rows, line.configurations)
+    Ok(Rows {
+        rows: line.rows,
+        configurations: line.configurations,
+    })
 }
 
 // A whole text.
-pub fn read_timetable(text: &[u8], h: u32, legs: &mut [u32], configurations: &mut [u32]) -> Rows
+pub fn read_timetable(
+    text: &[u8],
+    h: u32,
+    legs: &mut [u32],
+    configurations: &mut [u32],
+) -> Result<Rows, Fault>
     ensures { ReadAs h text.now (tables legs.old configurations.old) result (tables legs.new configurations.new) }
 {
     if Text::MOST < text.len() {
-        return Rows::Fault(Refusal::TOO_LONG, 0);
+        return Err(Fault {
+            number: Refusal::TOO_LONG,
+            place: 0,
+        });
     }
     let begun = start();
     let fed = feed(begun, text, h, legs, configurations);

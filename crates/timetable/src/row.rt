@@ -88,8 +88,7 @@ fn ended(line: Line, n: u32, at: u32, h: u32, legs: &mut [u32], configurations: 
         return line::stopped(line, Refusal::ROW_FORM);
     }
     let whole = entry(line, n, h, configurations);
-    let number = timetable_faults::fault(whole, h, legs, configurations.len());
-    if number != 0 {
+    if let Some(number) = timetable_faults::fault(whole, h, legs, configurations.len()) {
         return line::stopped(whole, number);
     }
     let made = line::leg_of(whole);

@@ -3,39 +3,38 @@ use Prim.Native.Nat.{ℕ, ◌+◌, ◌≤◌}
 use native.Mathlib.Omega.{arith}
 use mathlib.Core.Path.{◌≡◌, refl}
 use mathlib.Core.Bool.{Bool, true, false, cond}
+use Rattle.std.specs.Prelude.{Option, Some, None}
 use mathlib.Core.List.{List}
 use lib.Dec.{eqb}
 use lib.ListN.{length, get_or}
 use borrow.Author.Tests.{eqb-true}
 use Rattle.rules.specs.Bytes.{space, underscore, comma, quote}
 use Rattle.timetable_entry.specs.declared.Cut.{Cut}
-use Rattle.timetable_entry.specs.declared.Cut.TheVariants.{At, Miss}
-use Rattle.timetable_entry.specs.declared.Spotted.TheVariants.{Entry}
-use Rattle.timetable_entry.specs.Spots.{number_bytes, NumberAt, Cuts, missed, cut, Spots, unspotted, spotted, Quotes, unquoted, quoted}
+use Rattle.timetable_entry.specs.Spots.{number_bytes, cut, spotted, NumberAt, Cuts, missed, cuts, Spots, unspotted, spots, Quotes, unquoted, quoted}
 
-cut_number : {part : List ℕ} {from closes : ℕ} {r : Cut} {v next : ℕ} → Cuts part from closes r → r ≡ At v next → NumberAt part from closes v next
-cut_number {part} {from} {closes} {r} {v} {next} c e = go (rw e at c)
+cut_number : {part : List ℕ} {from closes : ℕ} {r : Option Cut} (c : Cut) → Cuts part from closes r → r ≡ Some c → NumberAt part from closes c.number c.next
+cut_number {part} {from} {closes} {r} c m e = go (rw e at m)
   where
-    go : Cuts part from closes (At v next) → NumberAt part from closes v next
-    go (cut n) = n
+    go : Cuts part from closes (Some c) → NumberAt part from closes c.number c.next
+    go (cuts n) = n
 
 -- a number that is there ends within its bytes
-pub cut_near : (part : List ℕ) (from closes v next : ℕ) (r : Cut) → Cuts part from closes r → r ≡ At v next → next ≤ from + number_bytes
-cut_near part from closes v next r c e = (cut_number c e).near
+pub cut_near : (part : List ℕ) (from closes : ℕ) (r : Option Cut) (c : Cut) → Cuts part from closes r → r ≡ Some c → c.next ≤ from + number_bytes
+cut_near part from closes r c m e = (cut_number c m e).near
 
-pub spotted_at : (part : List ℕ) (from : ℕ) (a b c : Cut) (d t p second third next : ℕ) → Cuts part from underscore a → a ≡ At d second → Cuts part second underscore b → b ≡ At t third
-    → Cuts part third space c → c ≡ At p next → Spots part from (Entry d t p next)
-spotted_at part from a b c d t p second third next x e y f z g =
-    spotted (record { second = second; third = third; departure = cut_number x e; travel = cut_number y f; profile = cut_number z g })
+pub spotted_at : (part : List ℕ) (from : ℕ) (a b c : Option Cut) (d t p : Cut) → Cuts part from underscore a → a ≡ Some d → Cuts part d.next underscore b → b ≡ Some t
+    → Cuts part t.next space c → c ≡ Some p → Spots part from (Some (spotted d.number t.number p.number p.next))
+spotted_at part from a b c d t p x e y f z g =
+    spots (record { second = d.next; third = t.next; departure = cut_number d x e; travel = cut_number t y f; profile = cut_number p z g })
 
-pub quoted-at : (part : List ℕ) (from v shut : ℕ) (a r : Cut) → from + (number_bytes + 2) ≤ length part → get_or part from 0 ≡ quote → Cuts part (from + 1) quote a → a ≡ At v shut
-    → r ≡ cond (eqb (get_or part shut 0) comma) (At v (shut + 1)) Miss → Quotes part from r
-quoted-at part from v shut a r h o c e q = rw q (go (eqb (get_or part shut 0) comma) refl)
+pub quoted-at : (part : List ℕ) (from : ℕ) (a r : Option Cut) (n : Cut) → from + (number_bytes + 2) ≤ length part → get_or part from 0 ≡ quote → Cuts part (from + 1) quote a → a ≡ Some n
+    → r ≡ cond (eqb (get_or part n.next 0) comma) (Some (cut n.number (n.next + 1))) None → Quotes part from r
+quoted-at part from a r n h o m e q = rw q (go (eqb (get_or part n.next 0) comma) refl)
   where
-    go : (t : Bool) → eqb (get_or part shut 0) comma ≡ t → Quotes part from (cond t (At v (shut + 1)) Miss)
+    go : (t : Bool) → eqb (get_or part n.next 0) comma ≡ t → Quotes part from (cond t (Some (cut n.number (n.next + 1))) None)
     go true b =
-        let n = cut_number c e in
-        quoted (record { shut = shut; opens = o; number = n; comma_there = eqb-true (get_or part shut 0) comma b; behind = refl; within = omega (arith, n.near) })
+        let at = cut_number n m e in
+        quoted (record { shut = n.next; opens = o; number = at; comma_there = eqb-true (get_or part n.next 0) comma b; behind = refl; within = omega (arith, at.near) })
     go false b = unquoted
 
 pub ruleset looks = (missed, unspotted, spotted_at)

@@ -4,18 +4,19 @@ use native.Mathlib.Omega.{arith}
 use native.Mathlib.Nat.{pow-suc, pow-le-pow_right, min-eq_left}
 use mathlib.Core.Path.{◌≡◌, refl, sym, ◌∙◌}
 use mathlib.Core.Bool.{Bool, true, false, cond}
+use Rattle.std.specs.Prelude.{Option, Some, None}
 use mathlib.Core.List.{List}
 use lib.Dec.{eqb}
 use lib.ListN.{length, get_or, drop}
 use borrow.Author.Tests.{eqb-true}
+use Rattle.std.specs.Char.{is_ascii_digit}
 use Rattle.rules.specs.Bytes.{digit_zero, digit_nine}
 use Rattle.timetable_row.specs.declared.number.Number.{Number}
 use Rattle.timetable_row.specs.declared.number.Number.TheVariants.{Empty, Zero, Digits}
 use Rattle.timetable_row.specs.Digits.{taken, digits_from, taken_from, is_empty, value_of, most_held}
-use Rattle.timetable_row.proofs.Digits.{digits_low, digits_high, digits_more, first_zero, first_digit}
+use Rattle.timetable_row.proofs.Digits.{digits_over, digits_more, first_zero, first_digit}
 use Rattle.timetable_entry.specs.declared.Cut.{Cut}
-use Rattle.timetable_entry.specs.declared.Cut.TheVariants.{At, Miss}
-use Rattle.timetable_entry.specs.Spots.{most_digits, number_bytes, Cuts, missed, cut}
+use Rattle.timetable_entry.specs.Spots.{most_digits, number_bytes, cut, Cuts, missed, cuts}
 
 -- at place i the number so far is v
 pub record Reading (part : List ℕ) (from v i : ℕ) : Type 0 where
@@ -32,17 +33,17 @@ reading-fits {part} {from} {v} {i} r h =
     omega (arith, r.small, p)
 
 -- the byte behind a number that is over closes it, or it is a miss
-ended_cut : {part : List ℕ} {from v i : ℕ} (closes : ℕ) (r : Cut) (n : Number) → from + number_bytes ≤ length part → i < from + number_bytes → taken n i ≡ taken_from Empty from (drop from part)
-    → is_empty n ≡ false → v ≡ value_of n → r ≡ cond (eqb (get_or part i 0) closes) (At v (i + 1)) Miss → Cuts part from closes r
+ended_cut : {part : List ℕ} {from v i : ℕ} (closes : ℕ) (r : Option Cut) (n : Number) → from + number_bytes ≤ length part → i < from + number_bytes → taken n i ≡ taken_from Empty from (drop from part)
+    → is_empty n ≡ false → v ≡ value_of n → r ≡ cond (eqb (get_or part i 0) closes) (Some (cut v (i + 1))) None → Cuts part from closes r
 ended_cut {part} {from} {v} {i} closes r n h k e d w q = rw q (go (eqb (get_or part i 0) closes) refl)
   where
-    go : (t : Bool) → eqb (get_or part i 0) closes ≡ t → Cuts part from closes (cond t (At v (i + 1)) Miss)
+    go : (t : Bool) → eqb (get_or part i 0) closes ≡ t → Cuts part from closes (cond t (Some (cut v (i + 1))) None)
     go true b =
-        cut (record { number = taken n i; number_is = e; inside = omega arith; byte = eqb-true (get_or part i 0) closes b; digits = d; value = w; behind = refl; near = omega arith })
+        cuts (record { number = taken n i; number_is = e; inside = omega arith; byte = eqb-true (get_or part i 0) closes b; digits = d; value = w; behind = refl; near = omega arith })
     go false b = missed
 
 module _ (part : List ℕ) (from : ℕ) (h : from + number_bytes ≤ length part) where
-  pub zero_cut : (closes : ℕ) (r : Cut) → get_or part from 0 ≡ digit_zero → r ≡ cond (eqb (get_or part (from + 1) 0) closes) (At 0 (from + 1 + 1)) Miss → Cuts part from closes r
+  pub zero_cut : (closes : ℕ) (r : Option Cut) → get_or part from 0 ≡ digit_zero → r ≡ cond (eqb (get_or part (from + 1) 0) closes) (Some (cut 0 (from + 1 + 1))) None → Cuts part from closes r
   zero_cut closes r z q = ended_cut closes r Zero h (omega arith) (first_zero part from (omega arith) z) refl refl q
 
   pub reading-first : (v : ℕ) → digit_zero ≤ get_or part from 0 → get_or part from 0 ≤ digit_nine → (get_or part from 0 ≡ digit_zero → ⊥) → v ≡ get_or part from 0 - digit_zero
@@ -70,11 +71,8 @@ module _ (part : List ℕ) (from : ℕ) (h : from + number_bytes ≤ length part
           short = omega arith;
         }
 
-    module _ (closes : ℕ) (r : Cut) (q : r ≡ cond (eqb (get_or part i 0) closes) (At v (i + 1)) Miss) where
-      pub low_cut : get_or part i 0 < digit_zero → Cuts part from closes r
-      low_cut low = ended_cut closes r (Digits v) h k (digits_low part i v _ s.same (omega arith) low) refl refl q
+    module _ (closes : ℕ) (r : Option Cut) (q : r ≡ cond (eqb (get_or part i 0) closes) (Some (cut v (i + 1))) None) where
+      pub over_cut : false ≡ is_ascii_digit (get_or part i 0) → Cuts part from closes r
+      over_cut over = ended_cut closes r (Digits v) h k (digits_over part i v _ s.same (omega arith) over) refl refl q
 
-      pub high_cut : digit_zero ≤ get_or part i 0 → digit_nine < get_or part i 0 → Cuts part from closes r
-      high_cut low high = ended_cut closes r (Digits v) h k (digits_high part i v _ s.same (omega arith) low high) refl refl q
-
-pub ruleset readings = (missed, zero_cut, reading-first, reading_next, low_cut, high_cut)
+pub ruleset readings = (missed, zero_cut, reading-first, reading_next, over_cut)

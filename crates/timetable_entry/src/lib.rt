@@ -1,18 +1,18 @@
-// A whole entry of a list, where one stands: three numbers, each with the byte that closes it; and a whole number in quotes. They are the fast ways of `timetable`; what is neither is a miss, and goes byte by byte.
+// A whole entry of a list, where one stands: three numbers, each with the byte that closes it; and a whole number in quotes. They are the fast ways of `timetable`; what is neither is `None`, and goes byte by byte.
 #![tactic(auto)]
 
 ghost use Rattle.std.specs.Prelude.{◌≡◌, cond, ◌+◌, ◌^◌, ◌≤◌, ◌<◌, eqb, length};
-ghost use Rattle.timetable_entry.specs.Spots.{number_bytes, Cuts, Spots, Quotes};
+ghost use Rattle.timetable_entry.specs.Spots.{number_bytes, cut, Cuts, Spots, Quotes};
 
-// A number and the place behind the byte that closes it.
+// A number, and the place behind the byte that closes it.
 #[derive(Clone, Copy)]
-pub enum Cut {
-    At(u32, usize),
-    Miss,
+pub struct Cut {
+    pub number: u32,
+    pub next: usize,
 }
 
 impl Cut {
-    // A number of more digits is a miss: so nothing wraps.
+    // A number of more digits is passed over: so nothing wraps.
     const MOST_DIGITS: usize = 8;
 
     // The digits and the byte that closes them, at most.
@@ -22,73 +22,61 @@ impl Cut {
     const QUOTED_BYTES: usize = Cut::BYTES + 2;
 }
 
-// A number whose digits end before place i: the byte there closes it, or it is a miss.
-fn closed(b: u8, closes: u8, v: u32, i: usize) -> Cut
+// A number whose digits end before place i: the byte there closes it, or there is none.
+fn closed(b: u8, closes: u8, number: u32, i: usize) -> Option<Cut>
     requires { i + 1 < 2 ^ 64 }
-    ensures { result ≡ cond (eqb b closes) (Cut.At v (i + 1)) Cut.Miss }
+    ensures { result ≡ cond (eqb b closes) (Some (cut number (i + 1))) None }
 {
-    if b == closes {
-        return Cut::At(v, i + 1);
-    }
-    Cut::Miss
+    (b == closes).then_some(Cut {
+        number,
+        next: i + 1,
+    })
 }
 
 // The number that begins at a place. All its bytes stand there, so no length is asked; the loop has a constant length, and the compiler unrolls it.
-fn number_at(part: &[u8], from: usize, closes: u8) -> Cut
+fn number_at(part: &[u8], from: usize, closes: u8) -> Option<Cut>
     requires { from + number_bytes ≤ length part.now }
     ensures { Cuts part.now from closes result }
 {
     let first = part[from];
-    if first < b'0' {
-        return Cut::Miss;
-    }
-    if b'9' < first {
-        return Cut::Miss;
+    if !first.is_ascii_digit() {
+        return None;
     }
     if first == b'0' {
         return closed(part[from + 1], closes, 0, from + 1);
     }
-    let mut v = (first - b'0') as u32;
-    let mut i = from + 1;
-    let stop = from + Cut::BYTES;
-    while i < stop {
+    let mut number = u32::from(first - b'0');
+    for i in from + 1..from + Cut::BYTES {
         let b = part[i];
-        if b < b'0' {
-            return closed(b, closes, v, i);
+        if !b.is_ascii_digit() {
+            return closed(b, closes, number, i);
         }
-        if b'9' < b {
-            return closed(b, closes, v, i);
-        }
-        v = v * 10 + ((b - b'0') as u32);
-        i += 1;
+        number = number * 10 + u32::from(b - b'0');
     }
-    Cut::Miss
+    None
 }
 
 // The number in quotes that begins at a place, and the place behind its comma.
-pub fn quoted_at(part: &[u8], from: usize) -> Cut
+pub fn quoted_at(part: &[u8], from: usize) -> Option<Cut>
     ensures { Quotes part.now from result }
 {
-    if part.len() < Cut::QUOTED_BYTES {
-        return Cut::Miss;
+    if part.len() < Cut::QUOTED_BYTES
+        || part.len() - Cut::QUOTED_BYTES < from
+        || part[from] != b'"'
+    {
+        return None;
     }
-    if part.len() - Cut::QUOTED_BYTES < from {
-        return Cut::Miss;
-    }
-    if part[from] != b'"' {
-        return Cut::Miss;
-    }
-    let Cut::At(v, next) = number_at(part, from + 1, b'"') else {
-        return Cut::Miss;
-    };
-    closed(part[next], b',', v, next)
+    let quoted = number_at(part, from + 1, b'"')?;
+    closed(part[quoted.next], b',', quoted.number, quoted.next)
 }
 
 // An entry's three numbers, and the place behind its space.
 #[derive(Clone, Copy)]
-pub enum Spotted {
-    Entry(u32, u32, u32, usize),
-    Miss,
+pub struct Spotted {
+    pub departure: u32,
+    pub travel: u32,
+    pub profile: u32,
+    pub next: usize,
 }
 
 impl Spotted {
@@ -97,23 +85,19 @@ impl Spotted {
 }
 
 // The entry that begins at a place. The length is asked once, for all three numbers.
-pub fn entry_at(part: &[u8], from: usize) -> Spotted
+pub fn entry_at(part: &[u8], from: usize) -> Option<Spotted>
     ensures { Spots part.now from result }
 {
-    if part.len() < Spotted::BYTES {
-        return Spotted::Miss;
+    if part.len() < Spotted::BYTES || part.len() - Spotted::BYTES < from {
+        return None;
     }
-    if part.len() - Spotted::BYTES < from {
-        return Spotted::Miss;
-    }
-    let Cut::At(d, second) = number_at(part, from, b'_') else {
-        return Spotted::Miss;
-    };
-    let Cut::At(t, third) = number_at(part, second, b'_') else {
-        return Spotted::Miss;
-    };
-    let Cut::At(p, next) = number_at(part, third, b' ') else {
-        return Spotted::Miss;
-    };
-    Spotted::Entry(d, t, p, next)
+    let departure = number_at(part, from, b'_')?;
+    let travel = number_at(part, departure.next, b'_')?;
+    let profile = number_at(part, travel.next, b' ')?;
+    Some(Spotted {
+        departure: departure.number,
+        travel: travel.number,
+        profile: profile.number,
+        next: profile.next,
+    })
 }

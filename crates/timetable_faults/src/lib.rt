@@ -13,19 +13,14 @@ use timetable_row::line::Line;
 fn is_new(legs: &[u32], rows: u32, above: u32, id: u32) -> bool
     ensures { result ≡ is_new rows above id legs.now }
 {
-    if above <= id {
-        return true;
-    }
     let n = rows as usize;
-    if legs.len() / Leg::WIDTH < n {
+    if above <= id || legs.len() / Leg::WIDTH < n {
         return true;
     }
-    let mut i = 0;
-    while i < n {
+    for i in 0..n {
         if legs[i * Leg::WIDTH + Leg::ID_AT] == id {
             return false;
         }
-        i += 1;
     }
     true
 }
@@ -33,31 +28,29 @@ fn is_new(legs: &[u32], rows: u32, above: u32, id: u32) -> bool
 fn no_room(line: Line, legs: usize, configurations: usize) -> bool
     ensures { result ≡ not (room_holds line legs configurations) }
 {
-    if legs / Leg::WIDTH <= line.rows as usize {
-        return true;
-    }
-    configurations / Configuration::WIDTH < line.configurations as usize + line.entries as usize
+    legs / Leg::WIDTH <= line.rows as usize
+        || configurations / Configuration::WIDTH
+            < line.configurations as usize + line.entries as usize
 }
 
-// The lowest number that the row is at fault by, or 0.
-pub fn fault(line: Line, h: u32, legs: &[u32], room: usize) -> u8
+// The lowest number that the row is at fault by.
+pub fn fault(line: Line, h: u32, legs: &[u32], room: usize) -> Option<u8>
     ensures { result ≡ lowest (line_tests h line legs.now room) }
 {
     if line::out_of_range(line, h) {
-        return Refusal::RANGE;
+        return Some(Refusal::RANGE);
     }
     if line::too_many(line) {
-        return Refusal::COUNT;
+        return Some(Refusal::COUNT);
     }
-    let numbers = line.numbers;
-    if is_new(legs, line.rows, line.above, numbers[Leg::ID_AT]) {
-        if line.entries <= line.nominal {
-            return Refusal::NOMINAL;
-        }
-        if no_room(line, legs.len(), room) {
-            return Refusal::ROOM;
-        }
-        return 0;
+    if !is_new(legs, line.rows, line.above, line.numbers[Leg::ID_AT]) {
+        return Some(Refusal::SEEN);
     }
-    Refusal::SEEN
+    if line.entries <= line.nominal {
+        return Some(Refusal::NOMINAL);
+    }
+    if no_room(line, legs.len(), room) {
+        return Some(Refusal::ROOM);
+    }
+    None
 }

@@ -1,3 +1,4 @@
 pub mod Digits
 pub mod Slots
 pub mod RowOver
+pub mod Faults

@@ -1,5 +1,5 @@
 -- A row that is over: its tests, as the reader makes them on what it holds, and what becomes of the row.
-use Rattle.std.specs.Prelude.{ℕ, zero, suc, ◌+◌, ◌*◌, ◌/◌, ◌≤◌, ◌<◌, Bool, true, false, not, cond, ◌&&◌, List, [], ◌∷◌, leb, ltb, eqb, length, get_or, drop}
+use Rattle.std.specs.Prelude.{ℕ, zero, suc, ◌+◌, ◌*◌, ◌/◌, ◌≤◌, ◌<◌, Bool, true, false, not, cond, ◌&&◌, Option, Some, None, List, [], ◌∷◌, leb, ltb, eqb, length, get_or, drop}
 use Rattle.std.proofs.lemmas.List.Edits.{sets}
 use Rattle.rules.specs.Limits.{most_text, most_id, most_legs, most_listed, most_configurations, leg_width, configuration_width}
 use Rattle.rules.specs.Lists.{every, any}
@@ -45,10 +45,10 @@ line_tests H line legs room =
     ∷ no_room needs room_holds line (length legs) room
     ∷ []
 
--- the number of the first test that fails, or 0
-abbrev pub lowest : List Test → ℕ
-lowest [] = 0
-lowest (t ∷ ts) = cond t.holds (lowest ts) t.number
+-- the number of the first test that fails
+abbrev pub lowest : List Test → Option ℕ
+lowest [] = None
+lowest (t ∷ ts) = cond t.holds (lowest ts) (Some t.number)
 
 -- the leg as the reader holds it, and its numbers
 abbrev pub leg_of : (numbers : List ℕ) → (first count nominal : ℕ) → Leg
@@ -79,7 +79,7 @@ stored_leg at OutOfRange table = table
 abbrev pub stopped_with : Line → (number : ℕ) → Line
 stopped_with line number =
     record {
-      fault = number;
+      fault = Some number;
       place = line.place;
       slot = line.slot;
       numbers = line.numbers;

@@ -10,8 +10,8 @@ use rules::sizes::{Configuration, ConfigurationMade, Id, Leg, LegMade};
 
 #[derive(Clone, Copy)]
 pub struct Line {
-    // The first fault's number, or 0.
-    pub fault: u8,
+    // The first fault's number.
+    pub fault: Option<u8>,
     // Whether an entry of the list is out of range.
     pub wide: bool,
     // The row's first byte.
@@ -48,18 +48,16 @@ const SEPARATORS: [u8; LAST] = [b',', b',', b',', b',', b',', b'_', b'_', b',', 
 pub fn separator(slot: usize) -> u8
     ensures { result ≡ separator_of slot }
 {
-    if slot < LAST {
-        return SEPARATORS[slot];
-    }
-    b' '
+    SEPARATORS.get(slot).copied().unwrap_or(b' ')
 }
 
 pub fn stopped(line: Line, number: u8) -> Line
     ensures { result ≡ stopped_with line number }
 {
-    let mut out = line;
-    out.fault = number;
-    out
+    Line {
+        fault: Some(number),
+        ..line
+    }
 }
 
 fn in_range(d: u32, t: u32, p: u32, h: u32) -> bool
@@ -74,23 +72,16 @@ fn in_range(d: u32, t: u32, p: u32, h: u32) -> bool
 pub fn or_wide(wide: bool, d: u32, t: u32, p: u32, h: u32) -> bool
     ensures { result ≡ cond (in_range h (configuration d t p)) wide true }
 {
-    if in_range(d, t, p, h) {
-        return wide;
-    }
-    true
+    wide || !in_range(d, t, p, h)
 }
 
 // The open entry, whose third number is p, is the nominal.
 pub fn is_nominal(numbers: [u32; LAST], p: u32) -> bool
     ensures { result ≡ same (nominal_of numbers) (entry_of numbers p) }
 {
-    if numbers[NOMINAL] != numbers[ENTRY] {
-        return false;
-    }
-    if numbers[NOMINAL_TRAVEL] != numbers[ENTRY_TRAVEL] {
-        return false;
-    }
-    numbers[NOMINAL_PROFILE] == p
+    numbers[NOMINAL] == numbers[ENTRY]
+        && numbers[NOMINAL_TRAVEL] == numbers[ENTRY_TRAVEL]
+        && numbers[NOMINAL_PROFILE] == p
 }
 
 // The entries before the nominal, with one entry more.
@@ -124,42 +115,26 @@ pub fn out_of_range(line: Line, h: u32) -> bool
     ensures { result ≡ not (range_holds h line) }
 {
     let numbers = line.numbers;
-    if Id::MOST < numbers[Leg::ID_AT] {
-        return true;
-    }
-    if Id::MOST < numbers[Leg::TRAIN_AT] {
-        return true;
-    }
-    if Id::MOST < numbers[Leg::TRACK_AT] {
-        return true;
-    }
-    if Id::MOST < numbers[Leg::START_AT] {
-        return true;
-    }
-    if Id::MOST < numbers[Leg::END_AT] {
-        return true;
-    }
-    if in_range(
-        numbers[NOMINAL],
-        numbers[NOMINAL_TRAVEL],
-        numbers[NOMINAL_PROFILE],
-        h,
-    ) {
-        return line.wide;
-    }
-    true
+    Id::MOST < numbers[Leg::ID_AT]
+        || Id::MOST < numbers[Leg::TRAIN_AT]
+        || Id::MOST < numbers[Leg::TRACK_AT]
+        || Id::MOST < numbers[Leg::START_AT]
+        || Id::MOST < numbers[Leg::END_AT]
+        || !in_range(
+            numbers[NOMINAL],
+            numbers[NOMINAL_TRAVEL],
+            numbers[NOMINAL_PROFILE],
+            h,
+        )
+        || line.wide
 }
 
 pub fn too_many(line: Line) -> bool
     ensures { result ≡ not (counts_hold line) }
 {
-    if Leg::MOST <= line.rows as usize {
-        return true;
-    }
-    if Leg::MOST_CONFIGURATIONS < line.entries {
-        return true;
-    }
-    Configuration::MOST < line.configurations as usize + line.entries as usize
+    Leg::MOST <= line.rows as usize
+        || Leg::MOST_CONFIGURATIONS < line.entries
+        || Configuration::MOST < line.configurations as usize + line.entries as usize
 }
 
 // The row's leg, as its constructor makes it.
@@ -182,11 +157,7 @@ fn write(table: &mut [u32], from: usize, numbers: &[u32])
     requires { from + length numbers.now ≤ length table.old }
     ensures { table.new ≡ sets table.old from numbers.now }
 {
-    let mut k = 0;
-    while k < numbers.len() {
-        table[from + k] = numbers[k];
-        k += 1;
-    }
+    table[from..from + numbers.len()].copy_from_slice(numbers);
 }
 
 // A leg's numbers stand in the order of its fields.
@@ -217,29 +188,20 @@ pub fn store_made(legs: &mut [u32], at: usize, made: LegMade)
     }
 }
 
-fn above_all(above: u32, id: u32) -> u32
-    requires { id ≤ most_id }
-    ensures { result ≡ cond (leb above id) (id + 1) above }
-{
-    if above <= id {
-        return id + 1;
-    }
-    above
-}
-
 pub fn next_row(line: Line, at: u32) -> Line
     requires { Bounded line at }
     ensures { result ≡ next_line line at }
 {
     let numbers = line.numbers;
-    let mut out = line;
-    out.place = at + 1;
-    out.slot = 0;
-    out.entries = 0;
-    out.nominal = 0;
-    out.wide = false;
-    out.rows = line.rows + 1;
-    out.configurations = line.configurations + line.entries;
-    out.above = above_all(line.above, numbers[Leg::ID_AT]);
-    out
+    Line {
+        place: at + 1,
+        slot: 0,
+        entries: 0,
+        nominal: 0,
+        wide: false,
+        rows: line.rows + 1,
+        configurations: line.configurations + line.entries,
+        above: line.above.max(numbers[Leg::ID_AT] + 1),
+        ..line
+    }
 }

@@ -21,11 +21,8 @@ pub struct Taken {
 fn push(value: u32, digit: u8) -> u32
     ensures { result ≡ held (value * 10 + digit) }
 {
-    let wide = (value as u64) * 10 + (digit as u64);
-    if (u32::MAX as u64) < wide {
-        return u32::MAX;
-    }
-    wide as u32
+    let wide = u64::from(value) * 10 + u64::from(digit);
+    wide.min(u64::from(u32::MAX)) as u32
 }
 
 // The digits from `from` on, after a number of that value that does not begin with 0.
@@ -33,27 +30,19 @@ fn digits(part: &[u8], from: usize, value: u32) -> Taken
     ensures { result ≡ digits_from value from (drop from part.now) }
 {
     let mut v = value;
-    let mut i = from;
-    while i < part.len() {
+    for i in from..part.len() {
         let b = part[i];
-        if b < b'0' {
-            return Taken {
-                number: Number::Digits(v),
-                next: i,
-            };
-        }
-        if b'9' < b {
+        if !b.is_ascii_digit() {
             return Taken {
                 number: Number::Digits(v),
                 next: i,
             };
         }
         v = push(v, b - b'0');
-        i += 1;
     }
     Taken {
         number: Number::Digits(v),
-        next: i,
+        next: part.len().max(from),
     }
 }
 
@@ -61,27 +50,17 @@ fn digits(part: &[u8], from: usize, value: u32) -> Taken
 fn first(part: &[u8], from: usize) -> Taken
     ensures { result ≡ first_from from (drop from part.now) }
 {
-    let none = Taken {
-        number: Number::Empty,
-        next: from,
-    };
-    if part.len() <= from {
-        return none;
-    }
-    let b = part[from];
-    if b < b'0' {
-        return none;
-    }
-    if b'9' < b {
-        return none;
-    }
-    if b == b'0' {
-        return Taken {
+    match part.get(from).copied() {
+        Some(b'0') => Taken {
             number: Number::Zero,
             next: from + 1,
-        };
+        },
+        Some(b) if b.is_ascii_digit() => digits(part, from + 1, u32::from(b - b'0')),
+        _ => Taken {
+            number: Number::Empty,
+            next: from,
+        },
     }
-    digits(part, from + 1, (b - b'0') as u32)
 }
 
 // The digits from `from` on that the number takes: no other byte, and none after a lone zero.
@@ -101,19 +80,14 @@ pub fn take(part: &[u8], from: usize, number: Number) -> Taken
 pub fn is_empty(number: Number) -> bool
     ensures { result ≡ is_empty number }
 {
-    match number {
-        Number::Empty => true,
-        Number::Zero => false,
-        Number::Digits(_) => false,
-    }
+    matches!(number, Number::Empty)
 }
 
 pub fn value(number: Number) -> u32
     ensures { result ≡ value_of number }
 {
     match number {
-        Number::Empty => 0,
-        Number::Zero => 0,
+        Number::Empty | Number::Zero => 0,
         Number::Digits(v) => v,
     }
 }

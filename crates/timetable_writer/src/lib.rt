@@ -55,11 +55,9 @@ pub fn put_list(
     ensures { Written buffer.old at (spelled_list (list_from configurations.now first count)) buffer.new result }
 {
     let mut place = at;
-    let mut j = 0;
-    while j < count as usize {
+    for j in 0..count as usize {
         let c = tables_views::configuration_at(configurations, first as usize + j);
         place = put_entry(buffer, place, j, c);
-        j += 1;
     }
     place
 }

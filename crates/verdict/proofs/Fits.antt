@@ -1,7 +1,7 @@
 -- In tables that keep the limits a shortfall is at most the greatest H and the greatest seconds of a record, and a record's tests can be counted. Assumes nothing.
 use Prim.Native.Nat.{ℕ, zero, suc, ◌+◌, ◌*◌, ◌≤◌, ◌<◌}
 use native.Mathlib.Omega.{arith}
-use mathlib.Core.Path.{◌≡◌, sym, ◌∙◌, subst}
+use mathlib.Core.Path.{◌≡◌, sym, ap, ◌∙◌, subst}
 use mathlib.Core.Bool.{Bool, true, false, cond}
 use mathlib.Core.List.{List, [], ◌∷◌}
 use lib.Dec.{leb, eqb}
@@ -22,28 +22,25 @@ use Rattle.rules.specs.declared.answers.Tally.{Tally}
 use Rattle.rules_theorems.proofs.All.{all_at}
 use Rattle.rules_theorems.proofs.Tabulate.{tabulate-at, tabulate-length}
 use Rattle.rules_theorems.proofs.Tests.{two_each}
-use Rattle.verdict.specs.Found.{shortfall_of, finding_from, finding_of, tests_in}
+use Rattle.verdict.specs.Found.{Finding, fails, shortfall_of, finding_from, finding_of, tests_in}
 use Rattle.verdict.specs.Within.{Timely, Brief, Within, Fair, most_shortfall, Failed}
-use Rattle.verdict.specs.declared.records.Finding.{Finding}
-use Rattle.verdict.specs.declared.records.Finding.TheVariants.{Kept, Fails}
+use Rattle.std.specs.Prelude.{Err}
+use Rattle.verdict.specs.declared.records.Failing.{Failing}
 use Rattle.verdict.proofs.Tallies.{record_countable, fair_record}
 use Rattle.verdict.proofs.RecordSteps.{position_within}
 
 abbrev Small : Inequality → Type 0
 Small q = q.left ≤ most_shortfall
 
-kept_not-fails : (i e f : ℕ) → Kept i ≡ Fails e f → ⊥
-kept_not-fails i e f g = let z : ◌≡◌ {A = ℕ} 0 1 = cc in omega arith
-
 -- a shortfall is at most its left side
-found-small : (i : ℕ) (qs : List Inequality) → All Small qs → (e f : ℕ) → finding_from i qs ≡ Fails e f → f ≤ most_shortfall
-found-small i [] small e f g = absurd (kept_not-fails i e f g)
-found-small i (q ∷ qs) small e f g = go (leb q.left q.right) (found-small (suc i) qs small.1 e f) g
+found-small : (i : ℕ) (qs : List Inequality) → All Small qs → (f : Failing) → finding_from i qs ≡ Err f → f.short ≤ most_shortfall
+found-small i [] small f g = (cc)
+found-small i (q ∷ qs) small f g = go (leb q.left q.right) (found-small (suc i) qs small.1 f) g
   where
-    go : (b : Bool) → (finding_from (suc i) qs ≡ Fails e f → f ≤ most_shortfall)
-        → cond b (finding_from (suc i) qs) (Fails (suc i) (shortfall_of q)) ≡ Fails e f → f ≤ most_shortfall
+    go : (b : Bool) → (finding_from (suc i) qs ≡ Err f → f.short ≤ most_shortfall)
+        → cond b (finding_from (suc i) qs) (fails (suc i) (shortfall_of q)) ≡ Err f → f.short ≤ most_shortfall
     go true more g = more g
-    go false more g = let same : shortfall_of q ≡ f = cc in omega (arith, small.0)
+    go false more g = let same : record { inequality = suc i; short = shortfall_of q } ≡ f = cc in omega (arith, ap (λ (x : Failing). x.short) same, small.0)
 
 module _ (low high type : ℕ) (one two : Configuration) (lt : low ≤ most_seconds) (ft : Timely one) (st : Timely two) where
   connection-small : All Small (connection_rule low high type one two)
@@ -82,8 +79,8 @@ brief_at m at s within i h c ec = subst Brief (tabulate-at m at (no_entry 0) i h
 
 -- what `violated` asks for: c is the record that was read, v what was found of it
 pub failed : (m : ℕ) (at : ℕ → Constraint) (s : List Configuration) → Within (tabulate m at) s → (i : ℕ) → i < m
-    → (c : Constraint) → c ≡ at i → (v : Finding) → v ≡ finding_of (inequalities s c) → (e f : ℕ) → v ≡ Fails e f → Failed c.kind f
-failed m at s within i h c ec v ev e f g =
+    → (c : Constraint) → c ≡ at i → (v : Finding) → v ≡ finding_of (inequalities s c) → (f : Failing) → v ≡ Err f → Failed c.kind f.short
+failed m at s within i h c ec v ev f g =
     let brief = brief_at m at s within i h c ec in
     let first : Timely (choice_at s c.first) = all_at Timely s no_choice within.timely (omega arith) c.first in
     let second : Timely (choice_at s c.second) = all_at Timely s no_choice within.timely (omega arith) c.second in
@@ -91,7 +88,7 @@ failed m at s within i h c ec v ev e f g =
       known = brief.0;
       small =
           found-small 0 (inequalities s c)
-          (rule_small c.low c.high c.connection (choice_at s c.first) (choice_at s c.second) brief.1 first second c.kind) e f (sym ev ∙ g);
+          (rule_small c.low c.high c.connection (choice_at s c.first) (choice_at s c.second) brief.1 first second c.kind) f (sym ev ∙ g);
     }
 
 -- ---- a record has at most two tests
@@ -101,7 +98,7 @@ tests_few i [] = omega arith
 tests_few i (q ∷ qs) = go (leb q.left q.right) (tests_few (suc i) qs)
   where
     go : (b : Bool) → tests_in (finding_from (suc i) qs) ≤ suc i + length qs
-        → tests_in (cond b (finding_from (suc i) qs) (Fails (suc i) (shortfall_of q))) ≤ i + suc (length qs)
+        → tests_in (cond b (finding_from (suc i) qs) (fails (suc i) (shortfall_of q))) ≤ i + suc (length qs)
     go true more = omega arith
     go false more = omega arith
 

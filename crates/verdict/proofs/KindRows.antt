@@ -9,9 +9,7 @@ use Rattle.rules.specs.declared.kinds.Kind.{Kind}
 use Rattle.rules.specs.declared.sizes.Configuration.{Configuration}
 use Rattle.rules.specs.declared.sizes.Constraint.{Constraint}
 use Rattle.rules.proofs.KindRule.{kind_at, kinds_rule, before_kinds, past_kinds}
-use Rattle.verdict.specs.Found.{finding_of}
-use Rattle.verdict.specs.declared.records.Finding.{Finding}
-use Rattle.verdict.specs.declared.records.Finding.TheVariants.{Fails}
+use Rattle.verdict.specs.Found.{Finding, fails, finding_of}
 
 -- ---- a record over the choices of its two rows
 
@@ -26,10 +24,10 @@ module _ (c : Constraint) (one two : Configuration) where
   other : (rule : Rule) → rule_of c.kind ≡ rule → finding_of (rule c.low c.high c.connection one two) ≡ found
   other rule e = sym (ap (λ (r : Rule). finding_of (r c.low c.high c.connection one two)) e)
 
-  pub no_kind_lem : c.kind < headway → Fails 1 1 ≡ found
+  pub no_kind_lem : c.kind < headway → fails 1 1 ≡ found
   no_kind_lem h = other no_rule (before_kinds c.kind h)
 
-  pub no_such_kind : connection < c.kind → Fails 1 1 ≡ found
+  pub no_such_kind : connection < c.kind → fails 1 1 ≡ found
   no_such_kind h = other no_rule (past_kinds c.kind h)
 
   -- row is what was read, v what was found of it

@@ -1,6 +1,5 @@
 pub mod Tallies
 pub mod RowSteps
-pub mod Times
 pub mod Inequalities
 pub mod KindRows
 pub mod RecordSteps

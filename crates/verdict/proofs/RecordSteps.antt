@@ -17,15 +17,15 @@ use Rattle.rules.specs.declared.answers.Tally.{Tally}
 use Rattle.rules.specs.declared.answers.Answer.{Answer}
 use Rattle.rules.specs.declared.answers.Answer.TheVariants.{Accepted}
 use Rattle.tables_views.proofs.Tabulated.{tabulate_from, tabulate-past}
-use Rattle.verdict.specs.Found.{shortfall_of, finding_from, finding_of, tests_in}
-use Rattle.verdict.specs.declared.records.Finding.{Finding}
-use Rattle.verdict.specs.declared.records.Finding.TheVariants.{Kept, Fails}
+use Rattle.verdict.specs.Found.{Finding, fails, shortfall_of, finding_from, finding_of, tests_in}
+use Rattle.std.specs.Prelude.{Ok, Err}
+use Rattle.verdict.specs.declared.records.Failing.{Failing}
 use Rattle.verdict.proofs.Tallies.{counted-twice, counted_none}
 
 -- what a finding leaves of a record of kind k at position n, after the tests that a tally counts: on with the rest, or the end
 abbrev after : (k n : ℕ) → Tally → (rest : Tally → Verdict) → Finding → Verdict
-after k n t rest (Kept i) = rest (counted k i t)
-after k n t rest (Fails i m) = found (violated (test k n i m false)) (counted k i t)
+after k n t rest (Ok i) = rest (counted k i t)
+after k n t rest (Err f) = found (violated (test k n f.inequality f.short false)) (counted k f.inequality t)
 
 -- i inequalities were tested before
 found-names : (k n i : ℕ) (t : Tally) (qs : List Inequality) (more : List Test)
@@ -39,7 +39,7 @@ found-names k n i t (q ∷ qs) more = go (leb q.left q.right) (found-names k n (
     go : (b : Bool) → verdict_from (counted k (suc i) t) (inequality_tests k n (suc (suc i)) qs ++ more) ≡ after k n t (λ u. verdict_from u more) (finding_from (suc i) qs)
         → cond b (verdict_from (counted k 1 (counted k i t)) (inequality_tests k n (suc (suc i)) qs ++ more))
         (found (violated (test k n (suc i) (shortfall_of q) b)) (counted k 1 (counted k i t)))
-        ≡ after k n t (λ u. verdict_from u more) (cond b (finding_from (suc i) qs) (Fails (suc i) (shortfall_of q)))
+        ≡ after k n t (λ u. verdict_from u more) (cond b (finding_from (suc i) qs) (fails (suc i) (shortfall_of q)))
     go true e = ap (λ (u : Tally). verdict_from u (inequality_tests k n (suc (suc i)) qs ++ more)) twice ∙ e
     go false e = ap (λ (u : Tally). found (violated (test k n (suc i) (shortfall_of q) false)) u) twice
 
@@ -87,16 +87,16 @@ module _ (m : ℕ) (at : ℕ → Constraint) (s : List Configuration) where
           ∙ found-names c.kind q 0 t (inequalities s c) (record_tests c.kind (suc q) s (drop (suc i) (tabulate m at)))
           ∙ ap (after c.kind q t rest) (sym ex)
 
-      pub record_passes : (y : ℕ) → x ≡ Kept y → v ≡ records_left u c.kind (q + 1) (i + 1)
+      pub record_passes : (y : ℕ) → x ≡ Ok y → v ≡ records_left u c.kind (q + 1) (i + 1)
       record_passes y e =
           next_record
           ∙ ap (after c.kind q t rest) e
-          ∙ ap rest (sym (tallied (Kept y) e))
+          ∙ ap rest (sym (tallied (Ok y) e))
           ∙ ap₂ (records_left u c.kind) (sym (add-one q)) (sym (add-one i))
 
       -- r is the answer that was made of it
-      pub record_fails : (file y z : ℕ) → x ≡ Fails y z
-          → (r : Answer) → r ≡ answer_of file (violated (test c.kind q y z false)) → record { answer = r; tally = u } ≡ ruling file v
-      record_fails file y z e r er =
-          ap₂ (λ (a : Answer) (w : Tally). record { answer = a; tally = w }) er (tallied (Fails y z) e)
+      pub record_fails : (file : ℕ) (f : Failing) → x ≡ Err f
+          → (r : Answer) → r ≡ answer_of file (violated (test c.kind q f.inequality f.short false)) → record { answer = r; tally = u } ≡ ruling file v
+      record_fails file f e r er =
+          ap₂ (λ (a : Answer) (w : Tally). record { answer = a; tally = w }) er (tallied (Err f) e)
           ∙ sym (ap (ruling file) (next_record ∙ ap (after c.kind q t rest) e))

@@ -11,11 +11,10 @@ use Rattle.rules.specs.Kinds.{not_offered}
 use Rattle.rules.specs.Timetable.{same, offers}
 use Rattle.rules.specs.Verdict.{row_test, row_tests, violated, Verdict, found, verdict_from, answer_of, ruling}
 use Rattle.rules.specs.declared.sizes.Configuration.{Configuration}
-use Rattle.rules.specs.declared.sizes.Leg.{Leg}
 use Rattle.rules.specs.declared.answers.Tally.{Tally}
 use Rattle.rules.specs.declared.answers.Answer.{Answer}
 use Rattle.rules.specs.declared.answers.Answer.TheVariants.{Accepted}
-use Rattle.tables_views.specs.View.{leg_at, configuration_at, part_of, list_in, offers_in, configurations_in}
+use Rattle.tables_views.specs.View.{configuration_at, list_in, offers_in, configurations_in}
 use Rattle.tables_views.proofs.Tabulated.{tabulate_from, tabulate-past}
 
 -- ---- a row's list, of count offers from the first on: what is left of it from offer j on
@@ -46,11 +45,6 @@ module _ (table : List ℕ) (first count : ℕ) (choice : Configuration) where
 
       pub offer_differs : b ≡ false → all ≡ offers_left (j + 1)
       offer_differs e = next_offer ∙ ap (λ a. a || offers_left (suc j)) e ∙ ap offers_left (sym (add-one j))
-
--- l and c are the leg and the choice that were read
-pub offered-row : (legs configurations choices : List ℕ) (i : ℕ) (l : Leg) → l ≡ leg_at legs i → (c : Configuration) → c ≡ configuration_at choices i
-    → (b : Bool) → b ≡ offers (part_of (configuration_at configurations) l) c → b ≡ offers (list_in legs configurations i) (configuration_at choices i)
-offered-row legs configurations choices i l el c ec b eb = eb ∙ ap₂ (λ (k : Leg) (d : Configuration). offers (part_of (configuration_at configurations) k) d) el ec
 
 -- ---- n rows: what is left of them from row i on, after the tests that a tally counts
 

@@ -14,13 +14,7 @@ use rules::sizes::{Configuration, Leg};
 pub fn same(a: Configuration, b: Configuration) -> bool
     ensures { result ≡ row.same a b }
 {
-    if a.departure != b.departure {
-        return false;
-    }
-    if a.travel != b.travel {
-        return false;
-    }
-    a.profile == b.profile
+    a.departure == b.departure && a.travel == b.travel && a.profile == b.profile
 }
 
 // Whether a leg's part of the configurations has the choice.
@@ -29,13 +23,11 @@ pub fn listed(configurations: &[u32], leg: Leg, choice: Configuration) -> bool
 {
     let first = leg.first as usize;
     let count = leg.count as usize;
-    let mut j: usize = 0;
-    while j < count {
+    for j in 0..count {
         let offer = tables_views::configuration_at(configurations, first + j);
         if same(choice, offer) {
             return true;
         }
-        j += 1;
     }
     false
 }
@@ -69,18 +61,13 @@ pub fn judge_rows(
     ensures { (result ≡ ruling file (verdict_from no_tests (row_tests 0 (offers_in n legs.now configurations.now) (configurations_in n choices.now)))) × Fair n result.tally }
 {
     let mut tally = Tally::none();
-    let mut i: usize = 0;
-    let ruling = loop {
-        if n <= i {
-            let answer = Answer::Accepted;
-            break Ruling { answer, tally };
-        }
+    for i in 0..n {
         tally = tally.with(Kind::NOT_OFFERED as usize, 1);
         if !is_offered(legs, configurations, choices, i) {
             let answer = not_offered(i, file);
-            break Ruling { answer, tally };
+            return Ruling { answer, tally };
         }
-        i += 1;
-    };
-    ruling
+    }
+    let answer = Answer::Accepted;
+    Ruling { answer, tally }
 }

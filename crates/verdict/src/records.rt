@@ -12,15 +12,24 @@ use rules::answers::{Answer, Ruling, Tally, Violation};
 use rules::kinds::{Anchor, Key, Kind, Time};
 use rules::sizes::{Configuration, Constraint};
 
-// The inequalities of a record that were tested: all of them hold, or the last fails, with its shortfall.
+// The inequality of a record that fails, and its shortfall.
 #[derive(Clone, Copy)]
-pub enum Finding {
-    Kept(u8),
-    Fails(u8, u64),
+pub struct Failing {
+    pub inequality: u8,
+    pub short: u64,
 }
+
+// The inequalities of a record that were tested: so many, and all of them hold, or the last fails.
+pub type Finding = Result<u8, Failing>;
 
 // What cannot hold (`Kinds.cannot_hold`) fails by a second.
 const CANNOT_HOLD: u64 = 1;
+
+// Another number than a kind's has one inequality, which cannot hold.
+const NO_KIND: Failing = Failing {
+    inequality: 1,
+    short: CANNOT_HOLD,
+};
 
 // x of kind 5, by the record's type; another type has none.
 pub fn x_of(connection: u32, c: Configuration) -> Time
@@ -62,7 +71,7 @@ pub fn time_of(anchor: u8, connection: u32, c: Configuration) -> Time
 pub fn beyond(left: u64, right: u64) -> u64
     ensures { result ≡ left - right }
 {
-    if right < left { left - right } else { 0 }
+    left.saturating_sub(right)
 }
 
 // The shortfall of one inequality, by the anchors of the first leg and of the second; 0 where it holds. Without both times it cannot hold.
@@ -100,20 +109,26 @@ pub fn first_failing(row: Kind, c: Constraint, one: Configuration, two: Configur
     let count = row.inequalities;
     let anchors = row.anchors;
     if count < 1 {
-        return Finding::Kept(0);
+        return Ok(0);
     }
     let short = shortfall(keys, anchors[0], anchors[1], c, one, two);
     if 0 < short {
-        return Finding::Fails(1, short);
+        return Err(Failing {
+            inequality: 1,
+            short,
+        });
     }
     if count < 2 {
-        return Finding::Kept(1);
+        return Ok(1);
     }
     let second = shortfall(keys, anchors[2], anchors[3], c, one, two);
     if 0 < second {
-        return Finding::Fails(2, second);
+        return Err(Failing {
+            inequality: 2,
+            short: second,
+        });
     }
-    Finding::Kept(2)
+    Ok(2)
 }
 
 // The choice of a row; 0 everywhere where there is no such row.
@@ -131,17 +146,13 @@ pub fn choice_of(choices: &[u32], n: usize, row: usize) -> Configuration
     }
 }
 
-// A record by its kind's row of the table, over the choices of its two rows. Another number than a kind's has one inequality, which cannot hold.
+// A record by its kind's row of the table, over the choices of its two rows.
 pub fn find_record(c: Constraint, one: Configuration, two: Configuration) -> Finding
     ensures { result ≡ finding_of (rule_of c.kind c.low c.high c.connection one two) }
 {
     let kind = c.kind as usize;
-    let unknown = Finding::Fails(1, CANNOT_HOLD);
-    if kind < 1 {
-        return unknown;
-    }
-    if Kind::COUNT < kind {
-        return unknown;
+    if kind < 1 || Kind::COUNT < kind {
+        return Err(NO_KIND);
     }
     let row = rules::kinds::kind_at(kind - 1);
     first_failing(row, c, one, two)
@@ -160,8 +171,8 @@ pub fn tests_of(finding: Finding) -> u32
     ensures { result ≡ tests_in finding }
 {
     match finding {
-        Finding::Kept(tests) => tests as u32,
-        Finding::Fails(inequality, _) => inequality as u32,
+        Ok(tests) => tests as u32,
+        Err(failing) => failing.inequality as u32,
     }
 }
 
@@ -195,24 +206,19 @@ pub fn judge_records(
     let mut tally = counted;
     let mut before: u32 = Kind::NOT_OFFERED as u32;
     let mut next: u32 = 0;
-    let mut i: usize = 0;
-    let ruling = loop {
-        if m <= i {
-            let answer = Answer::Accepted;
-            break Ruling { answer, tally };
-        }
+    for i in 0..m {
         let c = tables_views::constraint_at(constraints, i);
         let kind = c.kind;
         let position = position_after(before, next, kind);
         let finding = judge_record(c, choices, n);
         tally = tally.with(kind as usize, tests_of(finding));
-        if let Finding::Fails(inequality, short) = finding {
-            let answer = violated(kind, position, inequality, short, file);
-            break Ruling { answer, tally };
+        if let Err(failing) = finding {
+            let answer = violated(kind, position, failing.inequality, failing.short, file);
+            return Ruling { answer, tally };
         }
         before = kind;
         next = position + 1;
-        i += 1;
-    };
-    ruling
+    }
+    let answer = Answer::Accepted;
+    Ruling { answer, tally }
 }

@@ -1,10 +1,6 @@
 -- `constraints_tables::in_order` meets its contract. The loop's invariant: those before `i` stand by kind. Assumes nothing.
-use Prim.Native.Nat.{◌-◌, ◌≤◌}
 use Rattle.constraints_tables.specs.Places.{Upward}
 use Rattle.constraints_tables.proofs.in_order.Given as goal
 
 abbrev pub invariant-loop-i : goal.invariant-loop-i
-invariant-loop-i l = (1 ≤ l.i) × Upward l.i l.table
-
-abbrev pub decreases-loop-i : goal.decreases-loop-i
-decreases-loop-i l = l.n - l.i
+invariant-loop-i l = Upward l.i l.table

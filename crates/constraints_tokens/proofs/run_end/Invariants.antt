@@ -1,6 +1,6 @@
 -- `constraints_tokens::run_end` meets its contract: what is left from the loop's place on says where the bytes end that pass. Assumes nothing.
 use mathlib.Core.Path.{◌≡◌}
-use Prim.Native.Nat.{◌+◌, ◌-◌}
+use Prim.Native.Nat.{◌+◌}
 use lib.ListN.{length, drop}
 use Rattle.rules.specs.Lists.{lead}
 use Rattle.rules.specs.Tokens.{in_run}
@@ -8,6 +8,3 @@ use Rattle.constraints_tokens.proofs.run_end.Given as goal
 
 abbrev pub invariant-loop-i : goal.invariant-loop-i
 invariant-loop-i l = l.i + length (lead in_run (drop l.i l.s)) ≡ l.at + length (lead in_run (drop l.at l.s))
-
-abbrev pub decreases-loop-i : goal.decreases-loop-i
-decreases-loop-i l = length l.s - l.i

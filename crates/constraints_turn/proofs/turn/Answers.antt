@@ -1,63 +1,35 @@
 -- `constraints_turn::turn` meets its contract: each action by its name. Assumes nothing.
-use mathlib.Core.Path.{ap, refl, sym}
-use Rattle.rules.specs.Answers.{bad_json}
-use Rattle.rules.specs.Constraints.{act, fault, on}
+use borrow.Author.Rules.{rules}
+use mathlib.Core.Path.{ap, refl}
+use Rattle.rules.specs.Constraints.{act, on}
 use Rattle.rules.specs.declared.tokens.State.{State}
-use Rattle.constraints_turn.proofs.ByAction.{by_action, past-found}
+use Rattle.constraints_turn.proofs.ByAction.{by_action, past-found, by_step, told_at}
 use Rattle.constraints_turn.proofs.turn.Goals as goal
-
-pub returns-in-Broken : goal.returns-in-Broken
-unfolding act
-returns-in-Broken c = λ d tied. by_action _ _ _ _ _ _ _ _ _ c.action.ensures c.in-Broken.is refl
+use Rattle.constraints_turn.proofs.turn.Goals.{in-Broken, in-Goes, in-ListName, in-DocumentEnds, in-RecordOpens, in-KeyName, in-RecordEnds, in-StringValue, in-NumberValue, in-TracksOpen, in-TrackNumber, in-Finishes}
 
 pub returns-in-Early : goal.returns-in-Early
 unfolding act
-returns-in-Early c = λ d tied. by_action _ _ _ _ _ _ _ _ _ c.action.ensures c.in-Early.is (ap (fault bad_json) (sym (past-found c.args.text.now c.args.t c.requires.starts)))
-
-pub returns-in-Goes : goal.returns-in-Goes
-unfolding act
-returns-in-Goes c = λ d tied. by_action _ _ _ _ _ _ _ _ _ c.action.ensures c.in-Goes.is (ap (λ (s : State). on s d) c.to_phase.ensures)
-
-pub returns-in-ListName : goal.returns-in-ListName
-unfolding act
-returns-in-ListName c = λ d tied. by_action _ _ _ _ _ _ _ _ _ c.action.ensures c.in-ListName.is (c.list_name.ensures _ _ _ d _ refl)
-
-pub returns-in-DocumentEnds : goal.returns-in-DocumentEnds
-unfolding act
-returns-in-DocumentEnds c = λ d tied. by_action _ _ _ _ _ _ _ _ _ c.action.ensures c.in-DocumentEnds.is (c.document_ends.ensures _ _ _ d _ refl)
-
-pub returns-in-RecordOpens : goal.returns-in-RecordOpens
-unfolding act
-returns-in-RecordOpens c = λ d tied. by_action _ _ _ _ _ _ _ _ _ c.action.ensures c.in-RecordOpens.is (c.record_opens.ensures _ _ d _ refl tied.constraints tied.opened)
-
-pub returns-in-KeyName : goal.returns-in-KeyName
-unfolding act
-returns-in-KeyName c = λ d tied. by_action _ _ _ _ _ _ _ _ _ c.action.ensures c.in-KeyName.is (c.key_name.ensures _ _ _ d _ refl)
-
-pub returns-in-RecordEnds : goal.returns-in-RecordEnds
-unfolding act
-returns-in-RecordEnds c = λ d tied. by_action _ _ _ _ _ _ _ _ _ c.action.ensures c.in-RecordEnds.is (c.record_ends.ensures _ _ _ d _ refl)
-
-pub returns-in-StringValue : goal.returns-in-StringValue
-unfolding act
-returns-in-StringValue c = λ d tied. by_action _ _ _ _ _ _ _ _ _ c.action.ensures c.in-StringValue.is (c.string_value.ensures _ _ _ d _ refl)
+returns-in-Early c = λ d tied. by_action _ _ _ _ _ _ _ _ _ c.action.ensures c.in-Early.is (rw (c.new.ensures, past-found c.args.t c.requires.starts))
 
 pub returns-in-StringCut : goal.returns-in-StringCut
 unfolding act
-returns-in-StringCut c = λ d tied. by_action _ _ _ _ _ _ _ _ _ c.action.ensures c.in-StringCut.is (c.string_cut.ensures _ _ _ d _ refl (past-found c.args.text.now c.args.t c.requires.starts))
+returns-in-StringCut c = λ d tied. by_action _ _ _ _ _ _ _ _ _ c.action.ensures c.in-StringCut.is (c.string_cut.ensures _ _ _ d _ refl (past-found c.args.t c.requires.starts))
 
-pub returns-in-NumberValue : goal.returns-in-NumberValue
+pub returns : goal.returns
 unfolding act
-returns-in-NumberValue c = λ d tied. by_action _ _ _ _ _ _ _ _ _ c.action.ensures c.in-NumberValue.is (c.number_value.ensures _ _ d _ (record { at = refl; number = c.read_whole.ensures }) tied.ids_held)
-
-pub returns-in-TracksOpen : goal.returns-in-TracksOpen
-unfolding act
-returns-in-TracksOpen c = λ d tied. by_action _ _ _ _ _ _ _ _ _ c.action.ensures c.in-TracksOpen.is (c.tracks_open.ensures _ _ _ d _ refl)
-
-pub returns-in-TrackNumber : goal.returns-in-TrackNumber
-unfolding act
-returns-in-TrackNumber c = λ d tied. by_action _ _ _ _ _ _ _ _ _ c.action.ensures c.in-TrackNumber.is (c.track_number.ensures _ _ d _ (record { at = refl; number = c.read_whole-in-TrackNumber.ensures }) tied.tracks_held)
-
-pub returns-in-Finishes : goal.returns-in-Finishes
-unfolding act
-returns-in-Finishes c = λ d tied. by_action _ _ _ _ _ _ _ _ _ c.action.ensures c.in-Finishes.is refl
+returns c = λ d tied.
+    let m = told_at c.match-action.step c.map_err.result c.args.t.place d c.map_err.ensures.cases (λ e f h. search rules) in
+    elim c.match-action.branch [
+      | in-Broken w ↦ by_step _ _ _ _ _ _ _ _ _ _ _ _ m c.action.ensures w.step-is w.in-Broken.is refl
+      | in-Goes w ↦ by_step _ _ _ _ _ _ _ _ _ _ _ _ m c.action.ensures w.step-is w.in-Goes.is (ap (λ (s : State). on s d) w.to_phase.ensures)
+      | in-ListName w ↦ by_step _ _ _ _ _ _ _ _ _ _ _ _ m c.action.ensures w.step-is w.in-ListName.is (w.list_name-step.ensures _ _ _ d _)
+      | in-DocumentEnds w ↦ by_step _ _ _ _ _ _ _ _ _ _ _ _ m c.action.ensures w.step-is w.in-DocumentEnds.is (w.document_ends-step.ensures _ _ _ d _)
+      | in-RecordOpens w ↦ by_step _ _ _ _ _ _ _ _ _ _ _ _ m c.action.ensures w.step-is w.in-RecordOpens.is (w.record_opens-step.ensures _ _ d _ tied.constraints tied.opened)
+      | in-KeyName w ↦ by_step _ _ _ _ _ _ _ _ _ _ _ _ m c.action.ensures w.step-is w.in-KeyName.is (w.key_name-step.ensures _ _ _ d _)
+      | in-RecordEnds w ↦ by_step _ _ _ _ _ _ _ _ _ _ _ _ m c.action.ensures w.step-is w.in-RecordEnds.is (w.record_ends-step.ensures _ _ _ d _)
+      | in-StringValue w ↦ by_step _ _ _ _ _ _ _ _ _ _ _ _ m c.action.ensures w.step-is w.in-StringValue.is (w.string_value-step.ensures _ _ _ d _)
+      | in-NumberValue w ↦ by_step _ _ _ _ _ _ _ _ _ _ _ _ m c.action.ensures w.step-is w.in-NumberValue.is (w.number_value-step.ensures _ _ d _ w.read_whole.ensures tied.ids_held)
+      | in-TracksOpen w ↦ by_step _ _ _ _ _ _ _ _ _ _ _ _ m c.action.ensures w.step-is w.in-TracksOpen.is (w.tracks_open-step.ensures _ _ _ d _)
+      | in-TrackNumber w ↦ by_step _ _ _ _ _ _ _ _ _ _ _ _ m c.action.ensures w.step-is w.in-TrackNumber.is (w.track_number-step.ensures _ _ d _ w.read_whole-in-TrackNumber.ensures tied.tracks_held)
+      | in-Finishes w ↦ by_step _ _ _ _ _ _ _ _ _ _ _ _ m c.action.ensures w.step-is w.in-Finishes.is refl
+    ]

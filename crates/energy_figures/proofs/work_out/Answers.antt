@@ -1,10 +1,7 @@
 -- `energy_figures::work_out` meets its contract: the curves are laid, and the figures worked out of them. Assumes nothing.
-use Rattle.energy_figures.proofs.Figured.{front_long, front_table, worked_out}
+use Rattle.energy_figures.proofs.Figured.{front_table, worked_out}
 use borrow.Author.Rules.{rules}
 use Rattle.energy_figures.proofs.work_out.Goals as goal
-
-pub slice_bounds-figures-end-2 : goal.slice_bounds-figures-end-2
-slice_bounds-figures-end-2 c = front_long _ _ c.requires.0 _ _ c.lay.ensures
 
 pub figures-requires : goal.figures-requires
 figures-requires c =

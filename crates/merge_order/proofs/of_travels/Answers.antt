@@ -4,5 +4,5 @@ use Rattle.rules.specs.declared.answers.Answer.TheVariants.{Refused}
 use Rattle.merge_order.specs.Order.{travel_answer}
 use Rattle.merge_order.proofs.of_travels.Goals as goal
 
-pub returns-in-UnequalAt : goal.returns-in-UnequalAt
-returns-in-UnequalAt c = ap Refused c.row_refusal-refusal.ensures ∙ sym (ap (travel_answer c.args.second.now) c.in-UnequalAt.is)
+pub returns-in-Some : goal.returns-in-Some
+returns-in-Some c = ap Refused c.row_refusal-refusal.ensures ∙ sym (ap (travel_answer c.args.second.now) c.in-Some.is)

@@ -9,9 +9,6 @@ use Rattle.merge_text.proofs.put_rows.Goals as goal
 pub loop-i-init : goal.loop-i-init
 loop-i-init c = growing_none refl (search rules)
 
-pub overflow_add-i : goal.overflow_add-i
-overflow_add-i c = omega (arith, c.loop-i-test.true, c.ranges.n)
-
 pub loop-i-preserved : goal.loop-i-preserved
 loop-i-preserved c =
     let at = c.loop-i in

@@ -1,40 +1,7 @@
--- `profiles_sample::fraction_at` meets its contract. The invariant: the digits up to i lead from the point to the digits as they are. Assumes nothing.
+-- A digit more past the point leads on. Assumes nothing.
 use borrow.Author.Rules.{rules}
-use Rattle.profiles_sample.proofs.Looks.{quick}
+use Rattle.profiles_sample.proofs.Looks.{fractioning_next}
 use Rattle.profiles_sample.proofs.fraction_at.Goals as goal
 
-pub loop-i-init : goal.loop-i-init
-loop-i-init c = search (quick, rules)
-
-pub bounds-part-i : goal.bounds-part-i
-bounds-part-i c = search (quick, rules)
-
-pub space_at-requires : goal.space_at-requires
-space_at-requires c = search (quick, rules)
-
-pub returns-then-b-lt48 : goal.returns-then-b-lt48
-returns-then-b-lt48 c = search (quick, rules)
-
-pub returns-then-b-gt57 : goal.returns-then-b-gt57
-returns-then-b-gt57 c = search (quick, rules)
-
-pub returns-then-digits-ge-MOST_DIGITS : goal.returns-then-digits-ge-MOST_DIGITS
-returns-then-digits-ge-MOST_DIGITS c = search (quick, rules)
-
-pub push-value-requires : goal.push-value-requires
-push-value-requires c = search (quick, rules)
-
-pub overflow_add-digits : goal.overflow_add-digits
-overflow_add-digits c = search (quick, rules)
-
-pub overflow_add-i : goal.overflow_add-i
-overflow_add-i c = search (quick, rules)
-
-pub loop-i-smaller : goal.loop-i-smaller
-loop-i-smaller c = search (quick, rules)
-
 pub loop-i-preserved : goal.loop-i-preserved
-loop-i-preserved c = search (quick, rules)
-
-pub returns : goal.returns
-returns c = search (quick, rules)
+loop-i-preserved c = search (fractioning_next, rules)

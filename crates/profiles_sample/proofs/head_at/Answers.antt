@@ -23,4 +23,4 @@ returns c =
     let opened = c.if-part-from-ne34.false in
     let low = c.if-b-le48.false in
     let high = c.if-b-gt57.false in
-    heads-at _ _ _ _ (search rules) opened (search rules) (search rules) c.digit_run-run.ensures c.join_at.ensures
+    heads-at _ _ _ _ (search rules) opened (search rules) (search rules) (rw c.from.ensures at c.digit_run-run.ensures) c.join_at.ensures

@@ -6,8 +6,8 @@ use Rattle.solution_verdict.proofs.choose.Goals as goal
 pub read_choices-requires : goal.read_choices-requires
 read_choices-requires c = choose_able c.requires
 
-pub returns-in-Fault : goal.returns-in-Fault
-returns-in-Fault c = choose_fault _ _ c.args.counts _ _ _ c.in-Fault.ensures refl c.new.ensures
+pub returns-in-Err : goal.returns-in-Err
+returns-in-Err c = choose_fault _ _ c.args.counts _ _ _ c.in-Err.ensures refl c.new.ensures
 
-pub returns-in-Read : goal.returns-in-Read
-returns-in-Read c = choose_whole _ _ c.args.counts _ _ _ c.in-Read.ensures refl
+pub returns-in-Ok : goal.returns-in-Ok
+returns-in-Ok c = choose_whole _ _ c.args.counts _ _ _ c.in-Ok.ensures refl

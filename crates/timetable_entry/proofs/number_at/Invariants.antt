@@ -1,12 +1,6 @@
 -- A number of digits that fit, where the byte behind them closes it. The loop's invariant: the digits that were passed are the number so far. Assumes nothing.
-use Prim.Native.Nat.{◌+◌, ◌-◌}
-use mathlib.Core.Path.{◌≡◌}
-use Rattle.timetable_entry.specs.Spots.{number_bytes}
 use Rattle.timetable_entry.proofs.Reading.{Reading}
 use Rattle.timetable_entry.proofs.number_at.Given as goal
 
 abbrev pub invariant-loop-i : goal.invariant-loop-i
-invariant-loop-i l = Reading l.part l.from l.v l.i × (l.stop ≡ l.from + number_bytes)
-
-abbrev pub decreases-loop-i : goal.decreases-loop-i
-decreases-loop-i l = l.stop - l.i
+invariant-loop-i l = Reading l.part l.from l.number l.i

@@ -1,18 +1,22 @@
--- `constraints_states::tracks::track_number` meets its contract: a number that no subnet listed. Assumes nothing.
-use Rattle.constraints_states.proofs.Numbers.{not_number, past_limit}
+-- `constraints_states::tracks::track_number` meets its contract: 6 before 7 before 16. Assumes nothing.
+use Rattle.constraints_states.proofs.Numbers.{refused_number, track_full, track_new, track_seen, tracks_many}
 use Rattle.rules.specs.Limits.{most_id}
 use Rattle.rules.specs.Constraints.{track_number}
 use native.Mathlib.Omega.{arith}
-use mathlib.Core.Path.{◌∙◌, sym}
 use Rattle.constraints_states.proofs.tracks.track_number.Goals as goal
 
-pub returns-in-Malformed : goal.returns-in-Malformed
+pub returns-in_err-id : goal.returns-in_err-id
 unfolding track_number
-returns-in-Malformed c = λ legs constraints d t says held. not_number _ _ _ says _ c.in-Malformed.is
+returns-in_err-id c = λ legs constraints d t says held. refused_number d t _ says _ most_id _ _ (omega arith) c.in_err-id.ensures c.from_residual.ensures.1
 
-pub returns-in-Beyond : goal.returns-in-Beyond
-unfolding track_number
-returns-in-Beyond c = λ legs constraints d t says held. past_limit _ _ _ says most_id _ (omega arith) c.in-Beyond.is
+pub returns-then-n-ge-MOST : goal.returns-then-n-ge-MOST
+returns-then-n-ge-MOST c = λ legs constraints d t says held. tracks_many _ _ _ _ _ _ _ says _ c.in_ok-id.ensures _ _ held c.if-n-ge-MOST.true
 
-pub returns-in-Number : goal.returns-in-Number
-returns-in-Number c = λ legs constraints d t says held. c.track_listed.ensures legs constraints d t (record { at = says.at; number = sym c.in-Number.is ∙ says.number }) held
+pub returns-in-At : goal.returns-in-At
+returns-in-At c = λ legs constraints d t says held. track_seen _ _ _ _ _ _ _ says _ c.in_ok-id.ensures _ _ held c.if-n-ge-MOST.false _ c.row_of.ensures _ c.in-At.is
+
+pub returns-then-room-n : goal.returns-then-room-n
+returns-then-room-n c = λ legs constraints d t says held. track_full _ _ _ _ _ _ _ says _ c.in_ok-id.ensures _ _ held c.if-n-ge-MOST.false _ c.row_of.ensures c.in_default.is c.if-room-n.true
+
+pub returns : goal.returns
+returns c = λ legs constraints d t says held. track_new _ _ _ _ _ _ _ says _ c.in_ok-id.ensures _ _ held c.if-n-ge-MOST.false _ c.row_of.ensures _ c.in_default.is c.if-room-n.false c.to_phase.ensures

@@ -1,5 +1,5 @@
 -- `constraints_states::values::leg_value` meets its contract: a number that is the id of a row. Assumes nothing.
-use Rattle.constraints_states.proofs.Numbers.{not_number, past_limit, leg-missing, leg_there}
+use Rattle.constraints_states.proofs.Numbers.{refused_number, leg-missing, leg_there}
 use Rattle.constraints_states.proofs.Words.{row_there}
 use Rattle.tables_ids.specs.Column.{column}
 use Rattle.rules.specs.Limits.{leg_width, most_id}
@@ -11,16 +11,12 @@ use Rattle.constraints_states.proofs.values.leg_value.Goals as goal
 pub overflow_cast-row : goal.overflow_cast-row
 overflow_cast-row c = omega (arith, row_there _ _ (column leg_width c.args.n c.args.legs.now) _ c.numbered.ensures c.in-At.is, column-length leg_width c.args.n c.args.legs.now, c.requires.1)
 
-pub returns-in-Malformed : goal.returns-in-Malformed
+pub returns-in_err-id : goal.returns-in_err-id
 unfolding leg_value
-returns-in-Malformed c = λ constraints tracks d t says. not_number _ _ _ says _ c.in-Malformed.is
-
-pub returns-in-Beyond : goal.returns-in-Beyond
-unfolding leg_value
-returns-in-Beyond c = λ constraints tracks d t says. past_limit _ _ _ says most_id _ (omega arith) c.in-Beyond.is
+returns-in_err-id c = λ constraints tracks d t says. refused_number d t _ says _ most_id _ _ (omega arith) c.in_err-id.ensures c.from_residual.ensures.1
 
 pub returns-in-At : goal.returns-in-At
-returns-in-At c = λ constraints tracks d t says. leg_there _ _ _ _ _ _ _ _ says _ c.in-Number.is _ _ _ c.numbered.ensures c.in-At.is c.given.ensures
+returns-in-At c = λ constraints tracks d t says. leg_there _ _ _ _ _ _ _ says _ c.in_ok-id.ensures _ _ _ c.numbered.ensures c.in-At.is c.given.ensures
 
 pub returns-in-Nothing : goal.returns-in-Nothing
-returns-in-Nothing c = λ constraints tracks d t says. leg-missing _ _ _ _ _ _ _ _ says _ c.in-Number.is _ c.numbered.ensures c.in-Nothing.is
+returns-in-Nothing c = λ constraints tracks d t says. leg-missing _ _ _ _ _ _ _ says _ c.in_ok-id.ensures _ c.numbered.ensures c.in-Nothing.is

@@ -15,7 +15,7 @@ pub loop-k-init : goal.loop-k-init
 loop-k-init c = search (flagged_first, rules)
 
 pub loop-k-preserved : goal.loop-k-preserved
-loop-k-preserved c = search (flagged_step, rules)
+loop-k-preserved c = flagged_step c.loop-k.invariant c.loop-k-test.true
 
 pub returns : goal.returns
 returns c = search (flagged_all, rules)

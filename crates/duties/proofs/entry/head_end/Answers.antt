@@ -3,11 +3,11 @@ use borrow.Author.Rules.{rules}
 use Rattle.duties.proofs.Telling.{head_right, head_short, head_wrong}
 use Rattle.duties.proofs.entry.head_end.Goals as goal
 
-pub returns-then-headed-ge-HEADER_LENGTH : goal.returns-then-headed-ge-HEADER_LENGTH
-returns-then-headed-ge-HEADER_LENGTH c = search (head_right, rules)
+pub returns-in_default : goal.returns-in_default
+returns-in_default c = let wrong = c.in_default.is in search (head_wrong, rules)
 
-pub returns-then-headed : goal.returns-then-headed
-returns-then-headed c = search (head_short, rules)
+pub returns-then-headed-lt-HEADER_LENGTH : goal.returns-then-headed-lt-HEADER_LENGTH
+returns-then-headed-lt-HEADER_LENGTH c = let right = c.in-Ok.ensures in search (head_short, rules)
 
 pub returns : goal.returns
-returns c = search (head_wrong, rules)
+returns c = let right = c.in-Ok.ensures in search (head_right, rules)

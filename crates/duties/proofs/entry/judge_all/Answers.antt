@@ -12,8 +12,8 @@ overflow_cast-row c = search (judged_row, rules)
 pub overflow_cast-place : goal.overflow_cast-place
 overflow_cast-place c = search (judged_place, rules)
 
-pub returns-in-Kept : goal.returns-in-Kept
-returns-in-Kept c = search (judged_kept, rules)
+pub returns-in-Ok : goal.returns-in-Ok
+returns-in-Ok c = search (judged_kept, rules)
 
-pub returns-in-Broken : goal.returns-in-Broken
-returns-in-Broken c = search (judged_broken, rules)
+pub returns-in-Err : goal.returns-in-Err
+returns-in-Err c = search (judged_broken, rules)

@@ -9,8 +9,8 @@ judge_all-requires c = search (read_whole, rules)
 pub overflow_cast-place : goal.overflow_cast-place
 overflow_cast-place c = search (read_place, rules)
 
-pub returns-in-Read : goal.returns-in-Read
-returns-in-Read c = search (read_told, rules)
+pub returns-in-Ok : goal.returns-in-Ok
+returns-in-Ok c = search (read_told, rules)
 
-pub returns-in-Fault : goal.returns-in-Fault
-returns-in-Fault c = search (read_refused, rules)
+pub returns-in-Err : goal.returns-in-Err
+returns-in-Err c = search (read_refused, rules)

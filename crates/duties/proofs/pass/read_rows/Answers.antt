@@ -9,8 +9,8 @@ loop-place-init c = search (begin_holds, rules)
 pub returns-then-text-end : goal.returns-then-text-end
 returns-then-text-end c = search (pass_open, rules)
 
-pub returns-then-fault-ne-NO_FAULT : goal.returns-then-fault-ne-NO_FAULT
-returns-then-fault-ne-NO_FAULT c = search (pass_fault, rules)
+pub returns-then-number-ne-NO_FAULT : goal.returns-then-number-ne-NO_FAULT
+returns-then-number-ne-NO_FAULT c = search (pass_fault, rules)
 
 pub put_both-n-requires : goal.put_both-n-requires
 put_both-n-requires c = search (pass_good, rules)

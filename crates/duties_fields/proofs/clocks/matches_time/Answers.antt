@@ -12,5 +12,5 @@ returns-then-s-lt-PREFIX c = search (time_short, rules)
 pub returns-then-spells : goal.returns-then-spells
 returns-then-spells c = search (time_later, rules)
 
-pub returns : goal.returns
-returns c = search (time_other, rules)
+pub returns-else-spells : goal.returns-else-spells
+returns-else-spells c = search (time_other, rules)

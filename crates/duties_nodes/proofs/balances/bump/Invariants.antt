@@ -1,10 +1,6 @@
 -- `duties_nodes::balances::bump` meets its contract: what is left to look at gives the whole. Assumes nothing.
-use Prim.Native.Nat.{◌-◌}
 use Rattle.duties_nodes.proofs.Bumping.{Bumping}
 use Rattle.duties_nodes.proofs.balances.bump.Given as goal
 
 abbrev pub invariant-loop-i : goal.invariant-loop-i
 invariant-loop-i l = Bumping l.text l.table l.n l.name l.by l.initial.balance l.balance l.i
-
-abbrev pub decreases-loop-i : goal.decreases-loop-i
-decreases-loop-i l = l.n - l.i

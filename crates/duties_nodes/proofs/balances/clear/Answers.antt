@@ -1,13 +1,10 @@
--- `duties_nodes::balances::clear` meets its contract, by the laws of a fill. Assumes nothing.
+-- So many zeros stand at the front, and the rest keeps its numbers. Assumes nothing.
+use mathlib.Core.Path.{◌≡◌}
+use lib.ListN.{replicate}
+use lib.IntN.{pos}
 use borrow.Author.Rules.{rules}
-use Rattle.duties_nodes.proofs.Bumping.{none_cleared, one_cleared, all_cleared}
+use Rattle.duties_nodes.proofs.Bumping.{cleared}
 use Rattle.duties_nodes.proofs.balances.clear.Goals as goal
 
-pub loop-i-init : goal.loop-i-init
-loop-i-init c = search (none_cleared, rules)
-
-pub loop-i-preserved : goal.loop-i-preserved
-loop-i-preserved c = search (one_cleared, rules)
-
 pub returns : goal.returns
-returns c = search (all_cleared, rules)
+returns c = let zeros : c.fill.new.self ≡ replicate c.args.n (pos 0) = search rules in cleared c.args.balance.now c.fill.new.self c.args.n zeros

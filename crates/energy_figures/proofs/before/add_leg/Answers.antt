@@ -5,11 +5,11 @@ use Rattle.energy_figures.proofs.BeforeSteps.{part_short, part_room, whole_fits,
 use borrow.Author.Rules.{rules}
 use Rattle.energy_figures.proofs.before.add_leg.Goals as goal
 
-pub slice_bounds-sides_of-end : goal.slice_bounds-sides_of-end
-slice_bounds-sides_of-end c = omega (arith, part_there _ _ c.requires.0.readable _ _ c.profile_of-profile.ensures)
+pub slice_bounds-run-end : goal.slice_bounds-run-end
+slice_bounds-run-end c = omega (arith, part_there _ _ c.requires.0.readable _ _ c.profile_of-profile.ensures)
 
-pub sides_of-run-requires : goal.sides_of-run-requires
-sides_of-run-requires c =
+pub sides_of-requires : goal.sides_of-requires
+sides_of-requires c =
     let asked = c.requires in
     let configuration-at = c.configuration_at-choice in
     let profile-of = c.profile_of-profile in
@@ -17,9 +17,6 @@ sides_of-run-requires c =
 
 pub overflow_add-whole : goal.overflow_add-whole
 overflow_add-whole c = search (whole_fits, rules)
-
-pub slice_bounds-add_run-end : goal.slice_bounds-add_run-end
-slice_bounds-add_run-end c = omega (arith, part_there _ _ c.requires.0.readable _ _ c.profile_of-profile.ensures)
 
 pub add_run-quarters-requires : goal.add_run-quarters-requires
 add_run-quarters-requires c =

@@ -1,10 +1,7 @@
 -- `energy_figures::laying::lay_whole` meets its contract: zeros, and then all legs, are the curves. Assumes nothing.
-use Rattle.energy_figures.proofs.LegsLaid.{cleared, curves-made}
+use Rattle.energy_figures.proofs.LegsLaid.{curves-made}
 use borrow.Author.Rules.{rules}
 use Rattle.energy_figures.proofs.laying.lay_whole.Goals as goal
-
-pub lay_legs-requires : goal.lay_legs-requires
-lay_legs-requires c = search (cleared, rules)
 
 pub returns : goal.returns
 returns c = search (curves-made, rules)

@@ -6,8 +6,8 @@ use Rattle.files.proofs.parts.read_draft.Goals as goal
 pub returns-in-Refused : goal.returns-in-Refused
 returns-in-Refused c = search (draft-unknown, rules)
 
-pub returns-in-Fault : goal.returns-in-Fault
-returns-in-Fault c = search (draft_fault, rules)
+pub returns-in-Err : goal.returns-in-Err
+returns-in-Err c = search (draft_fault, rules)
 
-pub returns-in-Read : goal.returns-in-Read
-returns-in-Read c = search (draft_right, rules)
+pub returns-in-Ok : goal.returns-in-Ok
+returns-in-Ok c = search (draft_right, rules)

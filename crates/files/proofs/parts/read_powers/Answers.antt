@@ -8,13 +8,13 @@ profile_fault-requires c =
     let given = c.args in
     let asked = c.requires in
     let read-profiles = c.read_profiles in
-    powers_able given.counts _ _ _ _ _ _ _ _ read-profiles.ensures c.in-Read.is asked
+    powers_able given.counts _ _ _ _ _ _ _ _ read-profiles.ensures c.in-Ok.is asked
 
-pub returns-in-Refused : goal.returns-in-Refused
-returns-in-Refused c = search (powers_refused, rules)
+pub returns-in-Err : goal.returns-in-Err
+returns-in-Err c = search (powers_refused, rules)
 
-pub returns-in-Row : goal.returns-in-Row
-returns-in-Row c = search (powers_row, rules)
+pub returns-in-Some : goal.returns-in-Some
+returns-in-Some c = search (powers_row, rules)
 
-pub returns-in-Nothing : goal.returns-in-Nothing
-returns-in-Nothing c = search (powers_whole, rules)
+pub returns-in-None : goal.returns-in-None
+returns-in-None c = search (powers_whole, rules)

@@ -11,10 +11,10 @@ subnet_fault-requires c =
     let start = c in
     let rules = c.rules-rules in
     let read-constraints = c.read_constraints in
-    fifteen_able start.args.stated rules.ensures start.args.counts _ _ _ _ _ _ _ read-constraints.ensures c.in-Whole.is start.requires
+    fifteen_able start.args.stated rules.ensures start.args.counts _ _ _ _ _ _ _ read-constraints.ensures c.in-Ok.is start.requires
 
-pub returns-in-Refused : goal.returns-in-Refused
-returns-in-Refused c = search (rules_refused, rules)
+pub returns-in-Err : goal.returns-in-Err
+returns-in-Err c = search (rules_refused, rules)
 
 pub returns-in-At : goal.returns-in-At
 returns-in-At c = search (rules-row, rules)

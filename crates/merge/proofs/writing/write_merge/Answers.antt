@@ -15,11 +15,11 @@ returns-then-is_accepted c =
     λ k.
     let s = c in
     let small : length s.args.text.now < last_place = omega arith in
-    text_ends k s.args.direction s.args.text.now c.unequal-travels.ensures small c.put_merged-length.ensures c.of_merge-answer.ensures (sym c.is_accepted.ensures ∙ c.if-is_accepted.true) c.written.ensures
+    text_ends k s.args.direction s.args.text.now c.unequal-unequal.ensures small c.put_merged-length.ensures c.of_merge-answer.ensures (sym c.is_accepted.ensures ∙ c.if-is_accepted.true) c.written.ensures
 
 pub returns : goal.returns
 returns c =
     λ k.
     let s = c in
     let small : length s.args.text.now < last_place = omega arith in
-    refusal_ends k s.args.direction s.args.text.now c.unequal-travels.ensures small c.put_merged-length.ensures c.of_merge-answer.ensures (sym c.is_accepted.ensures ∙ c.if-is_accepted.false) c.not_written.ensures
+    refusal_ends k s.args.direction s.args.text.now c.unequal-unequal.ensures small c.put_merged-length.ensures c.of_merge-answer.ensures (sym c.is_accepted.ensures ∙ c.if-is_accepted.false) c.not_written.ensures

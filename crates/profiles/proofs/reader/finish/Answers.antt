@@ -1,6 +1,6 @@
--- `profiles::reader::finish` meets its contract: each state ends as its reading does. Assumes nothing.
-use Rattle.profiles.proofs.Text.{texts}
+-- Each state ends as its reading does. Assumes nothing.
 use borrow.Author.Rules.{rules}
+use Rattle.profiles.proofs.Text.{texts}
 use Rattle.profiles.proofs.reader.finish.Goals as goal
 
 pub returns-then-past-reader : goal.returns-then-past-reader

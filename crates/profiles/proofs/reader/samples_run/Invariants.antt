@@ -4,8 +4,8 @@ use Prim.Native.Nat.{◌-◌}
 use lib.ListN.{length}
 use Rattle.profiles.proofs.reader.samples_run.Given as goal
 
-abbrev pub invariant-loop-i : goal.invariant-loop-i
-invariant-loop-i l = Sampling l.part l.past l.initial.cur l.from l.initial.samples l.cur l.i l.samples
+abbrev pub invariant-loop-read : goal.invariant-loop-read
+invariant-loop-read l = Sampling l.part l.past l.initial.cur l.from l.initial.samples l.cur l.i l.samples
 
-abbrev pub decreases-loop-i : goal.decreases-loop-i
-decreases-loop-i l = length l.part - l.i
+abbrev pub decreases-loop-read : goal.decreases-loop-read
+decreases-loop-read l = length l.part - l.i

@@ -3,11 +3,11 @@ use Rattle.profiles_state.proofs.Steps.{ways}
 use borrow.Author.Rules.{rules}
 use Rattle.profiles_state.proofs.state.id_step.Goals as goal
 
-pub returns-in-Value : goal.returns-in-Value
-returns-in-Value c = search (ways, rules)
+pub returns-in-Some : goal.returns-in-Some
+returns-in-Some c = search (ways, rules)
 
-pub returns-in-Broken : goal.returns-in-Broken
-returns-in-Broken c = search (ways, rules)
+pub returns-in-None : goal.returns-in-None
+returns-in-None c = search (ways, rules)
 
 pub returns-then-b-lt48 : goal.returns-then-b-lt48
 returns-then-b-lt48 c = search (ways, rules)

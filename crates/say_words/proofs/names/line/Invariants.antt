@@ -3,8 +3,5 @@ use Rattle.say_words.proofs.Lines.{Left}
 use Rattle.rules.specs.Bytes.{line_feed}
 use Rattle.say_words.proofs.names.line.Given as goal
 
-abbrev pub invariant-loop-left : goal.invariant-loop-left
-invariant-loop-left l = Left line_feed l.s l.k l.start l.left
-
-abbrev pub decreases-loop-left : goal.decreases-loop-left
-decreases-loop-left l = l.left
+abbrev pub invariant-loop-i : goal.invariant-loop-i
+invariant-loop-i l = Left line_feed l.s l.k l.start l.i

@@ -19,11 +19,11 @@ slice_bounds-turn-count c = search (found_from, found_within, rules)
 pub turn-line-requires : goal.turn-line-requires
 turn-line-requires c = (search (alone, rules), search (earlier, rules))
 
-pub returns-then-line-ne0 : goal.returns-then-line-ne0
-returns-then-line-ne0 c = let g = c.loop-i.invariant in search (gone_fault, rules)
+pub returns-in-Some : goal.returns-in-Some
+returns-in-Some c = let g = c.loop-i.invariant in search (gone_fault, rules)
 
-pub compared_with-compared-requires : goal.compared_with-compared-requires
-compared_with-compared-requires c = let g = c.loop-i.invariant in search (whole, rules)
+pub compared_with-differing-requires : goal.compared_with-differing-requires
+compared_with-differing-requires c = let g = c.loop-i.invariant in search (whole, rules)
 
 pub overflow_add-i : goal.overflow_add-i
 overflow_add-i c =

@@ -1,12 +1,9 @@
 -- `text_read::pieces::find` meets its contract: what is left from the loop's place on says where the first separator stands. Assumes nothing.
-use Prim.Native.Nat.{◌+◌, ◌-◌}
+use Prim.Native.Nat.{◌+◌}
 use mathlib.Core.Path.{◌≡◌}
-use lib.ListN.{length, drop}
+use lib.ListN.{drop}
 use Rattle.text_read.specs.Places.{up_to}
 use Rattle.text_read.proofs.pieces.find.Given as goal
 
 abbrev pub invariant-loop-at : goal.invariant-loop-at
 invariant-loop-at l = l.at + up_to l.sep (drop l.at l.s) ≡ l.from + up_to l.sep (drop l.from l.s)
-
-abbrev pub decreases-loop-at : goal.decreases-loop-at
-decreases-loop-at l = length l.s - l.at

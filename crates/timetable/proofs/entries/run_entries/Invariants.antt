@@ -4,8 +4,8 @@ use lib.ListN.{length}
 use Rattle.timetable.proofs.Listing.{Listing}
 use Rattle.timetable.proofs.entries.run_entries.Given as goal
 
-abbrev pub invariant-loop-i : goal.invariant-loop-i
-invariant-loop-i l = Listing l.h l.part l.from l.initial.configurations l.initial.line l.configurations l.line l.i
+abbrev pub invariant-loop-entry : goal.invariant-loop-entry
+invariant-loop-entry l = Listing l.h l.part l.from l.initial.configurations l.initial.line l.configurations l.line l.next
 
-abbrev pub decreases-loop-i : goal.decreases-loop-i
-decreases-loop-i l = length l.part - l.i
+abbrev pub decreases-loop-entry : goal.decreases-loop-entry
+decreases-loop-entry l = length l.part - l.next

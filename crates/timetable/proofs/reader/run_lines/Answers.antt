@@ -1,4 +1,5 @@
 -- The rows of a part: plain bytes, and then one that is not. Assumes nothing.
+use mathlib.Core.Path.{sym, ◌∙◌}
 use native.Mathlib.Omega.{arith}
 use lib.ListN.{get_or}
 use borrow.Author.Rules.{rules}
@@ -15,27 +16,25 @@ returns-then-part-next c = search (lined_ran, rules)
 pub overflow_add-i : goal.overflow_add-i
 overflow_add-i c =
     let byte = get_or c.args.part.now c.run_rows-ran.result.next 0 in
-    let one = step_most c.loop-i.mark byte c.begins.result c.moved-moved.result c.moved-moved.ensures in
+    let one = step_most c.loop-i.mark byte c.begins.result c.in-Some.moved c.in-Some.ensures in
     let inside = c.if-part-next.false in
     search rules
 
 pub loop-i-smaller : goal.loop-i-smaller
 loop-i-smaller c =
-    let moved = c.moved-moved in
-    let less = line_less c.run_rows-ran.ensures c.if-part-next.false c.begins.result moved.result moved.ensures c.if-moved.true in
+    let less = line_less c.run_rows-ran.ensures c.if-part-next.false c.begins.result c.in-Some.moved c.in-Some.ensures in
     omega (arith, late_freed c.freed-mark.ensures)
 
 pub loop-i-preserved : goal.loop-i-preserved
-loop-i-preserved c = search (lining_on, lining_freed, rules)
+loop-i-preserved c = let moved = c.in-Some.ensures in search (lining_on, lining_freed, rules)
 
-pub returns-else-moved : goal.returns-else-moved
-returns-else-moved c =
+pub returns-in_default : goal.returns-in_default
+returns-in_default c =
     let held = c.loop-i.invariant in
     let ran = c.run_rows-ran.ensures in
     let inside = c.if-part-next.false in
     let begins = c.begins.ensures in
-    let moved = c.moved-moved.ensures in
-    lined_stopped held _ _ _ ran inside _ _ begins moved _ c.if-moved.false c.stopped-line.ensures
+    lined_stopped held _ _ _ ran inside _ begins _ (sym c.in_default.is ∙ c.moved.ensures) c.stopped-line.ensures
 
 pub returns : goal.returns
 returns c = search (lined_over, rules)

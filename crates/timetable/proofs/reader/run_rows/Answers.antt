@@ -10,8 +10,8 @@ run_plain-ran-requires c = search (opening, rules)
 pub run_quoted-quoted-requires : goal.run_quoted-quoted-requires
 run_quoted-quoted-requires c = search (ran_begun, rules)
 
-pub returns-then-contents : goal.returns-then-contents
-returns-then-contents c = search (ran_passed, rules)
+pub returns-then-not-contents : goal.returns-then-not-contents
+returns-then-not-contents c = search (ran_none, rules)
 
 pub returns : goal.returns
-returns c = search (ran_none, rules)
+returns c = search (ran_passed, rules)

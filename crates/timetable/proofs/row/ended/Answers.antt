@@ -6,8 +6,8 @@ use Rattle.timetable.proofs.row.ended.Goals as goal
 pub returns-then-line-ne-LAST : goal.returns-then-line-ne-LAST
 returns-then-line-ne-LAST c = search (ended_short, rules)
 
-pub returns-then-number-ne0 : goal.returns-then-number-ne0
-returns-then-number-ne0 c = search (ended_fault, rules)
+pub returns-in-Some : goal.returns-in-Some
+returns-in-Some c = search (ended_fault, rules)
 
 pub next_row-requires : goal.next_row-requires
 next_row-requires c = search (row_bounds, rules)

@@ -1,13 +1,8 @@
--- Numbers one after the other: what is left to write makes of the table what the whole makes of it. Assumes nothing.
-use borrow.Author.Rules.{rules}
-use Rattle.timetable_row.proofs.RowTests.{writing}
+-- Numbers one after the other: they stand there, and the rest is as it was. Assumes nothing.
+use Rattle.std.proofs.Common.{arith}
+use Rattle.std.proofs.lemmas.Grind.{common_steps}
+use Rattle.std.proofs.lemmas.List.Edits.{sets-eq}
 use Rattle.timetable_row.proofs.line.write.Goals as goal
 
-pub loop-k-init : goal.loop-k-init
-loop-k-init c = search (writing, rules)
-
-pub loop-k-preserved : goal.loop-k-preserved
-loop-k-preserved c = search (writing, rules)
-
 pub returns : goal.returns
-returns c = search (writing, rules)
+returns c = grind (arith, common_steps, sets-eq)

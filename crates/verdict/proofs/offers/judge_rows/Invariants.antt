@@ -1,5 +1,4 @@
 -- `verdict::offers::judge_rows` meets its contract. The loop's invariant: the verdict of all rows is that of the rows left, after those counted. Assumes nothing.
-use Prim.Native.Nat.{◌≤◌, ◌-◌}
 use mathlib.Core.Path.{◌≡◌}
 use Rattle.rules.specs.Tally.{no_tests}
 use Rattle.verdict.specs.Within.{Fair}
@@ -8,8 +7,7 @@ use Rattle.verdict.proofs.offers.judge_rows.Given as goal
 
 abbrev pub invariant-loop-i : goal.invariant-loop-i
 invariant-loop-i l =
-    (l.i ≤ l.n) × Fair l.i l.tally
-    × (rows_left l.n l.legs l.configurations l.choices no_tests 0 ≡ rows_left l.n l.legs l.configurations l.choices l.tally l.i)
-
-abbrev pub decreases-loop-i : goal.decreases-loop-i
-decreases-loop-i l = l.n - l.i
+    record {
+      fair : Fair l.i l.tally;
+      left : rows_left l.n l.legs l.configurations l.choices no_tests 0 ≡ rows_left l.n l.legs l.configurations l.choices l.tally l.i;
+    }

@@ -1,5 +1,5 @@
 -- `verdict::records::judge_records` meets its contract. The loop's invariant: the verdict of all records is that of the records left, after the tests counted. Assumes nothing.
-use Prim.Native.Nat.{◌+◌, ◌*◌, ◌≤◌, ◌-◌}
+use Prim.Native.Nat.{◌+◌, ◌*◌, ◌≤◌}
 use mathlib.Core.Path.{◌≡◌}
 use Rattle.rules.specs.Limits.{most_legs}
 use Rattle.rules.specs.Kinds.{not_offered}
@@ -10,9 +10,10 @@ use Rattle.verdict.proofs.records.judge_records.Given as goal
 
 abbrev pub invariant-loop-i : goal.invariant-loop-i
 invariant-loop-i l =
-    (l.i ≤ l.m) × (l.next ≤ l.i) × Fair (most_legs + 2 * l.i) l.tally
-    × (records_left l.m (constraint_at l.constraints) (configurations_in l.n l.choices) l.initial.tally not_offered 0 0
-    ≡ records_left l.m (constraint_at l.constraints) (configurations_in l.n l.choices) l.tally l.before l.next l.i)
-
-abbrev pub decreases-loop-i : goal.decreases-loop-i
-decreases-loop-i l = l.m - l.i
+    record {
+      follows : l.next ≤ l.i;
+      fair : Fair (most_legs + 2 * l.i) l.tally;
+      left :
+          records_left l.m (constraint_at l.constraints) (configurations_in l.n l.choices) l.initial.tally not_offered 0 0
+          ≡ records_left l.m (constraint_at l.constraints) (configurations_in l.n l.choices) l.tally l.before l.next l.i;
+    }

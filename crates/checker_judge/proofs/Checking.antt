@@ -3,7 +3,7 @@ use Prim.Native.Nat.{ℕ}
 use mathlib.Core.Path.{◌≡◌, refl, sym, ap, ◌∙◌}
 use mathlib.Core.List.{List}
 use lib.ListN.{length}
-use Rattle.std.specs.Prelude.{Some}
+use Rattle.std.specs.Prelude.{Some, Result, Ok, Err}
 use Rattle.rules.specs.Answers.{solution_file, Reading, refused, good}
 use Rattle.rules.specs.Reading.{Texts, files_of, choices_read}
 use Rattle.rules.specs.Entries.{Tables, Whole, rooms_of, written_tables, written_choices, all_read, checked}
@@ -14,12 +14,8 @@ use Rattle.rules.specs.declared.answers.Ruling.{Ruling}
 use Rattle.rules_theorems.proofs.GoodText.{never_good}
 use Rattle.rules_theorems.proofs.GoodFiles.{good_all}
 use Rattle.tables_lent.specs.declared.Counts.{Counts}
-use Rattle.tables_lent.specs.declared.Filed.{Filed}
-use Rattle.tables_lent.specs.declared.Filed.TheVariants as Filings
 use Rattle.tables_lent.proofs.Filing.{WasFiled, was_filed, not_filed}
 use Rattle.files.specs.Promise.{FilesRead}
-use Rattle.solution_verdict.specs.declared.Chosen.{Chosen}
-use Rattle.solution_verdict.specs.declared.Chosen.TheVariants as Choosings
 use Rattle.solution_verdict.specs.Left.{Left, Choosable, Ready, Chooses, Judges}
 use Rattle.solution_verdict.proofs.Choosing.{was_chosen, not_chosen}
 use Rattle.checker_judge.specs.declared.Judged.{Judged}
@@ -33,12 +29,12 @@ module _ (S : Stated) (x : Texts) (s : List ℕ) (t : Tables) (c : List ℕ) whe
   unfolding checked
   stopped r e a = record { answers = a.answer ∙ rw e; tallies = a.tally ∙ rw e; writes = λ w g. never_good r w (sym e ∙ g) }
 
-  module _ {a : Filed} {t' : Tables} (f : FilesRead S x t a t') where
-    pub files_stop : {j : Judged} {t'' : Tables} {c' : List ℕ} {r : Refusal} → a ≡ Filings.Refused r → Stopped r j → ReadAndJudged S x s t c j t'' c'
+  module _ {a : Result Counts Refusal} {t' : Tables} (f : FilesRead S x t a t') where
+    pub files_stop : {j : Judged} {t'' : Tables} {c' : List ℕ} {r : Refusal} → a ≡ Err r → Stopped r j → ReadAndJudged S x s t c j t'' c'
     unfolding all_read
     files_stop {r = r} e b = stopped r (rw (not_filed (files_of S x (rooms_of t)) r (sym e ∙ f.answers))) b
 
-    module _ {k : Counts} (e : a ≡ Filings.Whole k) where
+    module _ {k : Counts} (e : a ≡ Ok k) where
       filed : WasFiled (files_of S x (rooms_of t)) k
       filed = was_filed (files_of S x (rooms_of t)) k (sym e ∙ f.answers)
 
@@ -54,15 +50,15 @@ module _ (S : Stated) (x : Texts) (s : List ℕ) (t : Tables) (c : List ℕ) whe
       pub files_choosable : Choosable S.horizon k t'.legs
       files_choosable = choosable
 
-      module _ {b : Chosen} {c' : List ℕ} (h : Chooses S.horizon solution_file k s t'.legs c b c') where
+      module _ {b : Result (Unit {0}) Refusal} {c' : List ℕ} (h : Chooses S.horizon solution_file k s t'.legs c b c') where
         abbrev choice : Reading (List Configuration)
         choice = choices_read S.horizon filed.files solution_file (length c) s
 
-        pub choice_stop : {j : Judged} {t'' : Tables} {c'' : List ℕ} {r : Refusal} → b ≡ Choosings.Refused r → Stopped r j → ReadAndJudged S x s t c j t'' c''
+        pub choice_stop : {j : Judged} {t'' : Tables} {c'' : List ℕ} {r : Refusal} → b ≡ Err r → Stopped r j → ReadAndJudged S x s t c j t'' c''
         unfolding all_read
         choice_stop {r = r} q d = stopped r (rw (filed.was, not_chosen choice r (sym q ∙ h.answers choosable))) d
 
-        module _ (q : b ≡ Choosings.Whole) where
+        module _ (q : b ≡ (Ok tt)) where
           picked : (cs : List Configuration) × (choice ≡ good cs)
           picked = was_chosen choice (sym q ∙ h.answers choosable)
 

@@ -7,8 +7,7 @@ ghost use Rattle.checker_judge.specs.Promise.{Stopped, judged_as, ReadAndJudged}
 
 use rules::answers::{Answer, File, Refusal, Ruling, Tally};
 use rules::stated::Stated;
-use solution_verdict::Chosen;
-use tables_lent::{Counts, Filed};
+use tables_lent::Counts;
 
 // The answer with its tally, and the counts where nothing is refused.
 #[derive(Clone, Copy)]
@@ -73,8 +72,8 @@ pub fn read_and_judge(
         tracks,
     );
     match filed {
-        Filed::Refused(refusal) => refused(refusal),
-        Filed::Whole(counts) => match solution_verdict::choose(
+        Err(refusal) => refused(refusal),
+        Ok(counts) => match solution_verdict::choose(
             solution,
             stated.horizon,
             File::SOLUTION,
@@ -82,8 +81,8 @@ pub fn read_and_judge(
             legs,
             choices,
         ) {
-            Chosen::Refused(refusal) => refused(refusal),
-            Chosen::Whole => {
+            Err(refusal) => refused(refusal),
+            Ok(()) => {
                 let ruling = solution_verdict::judge_choices(
                     counts,
                     legs,

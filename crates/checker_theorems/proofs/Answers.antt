@@ -4,7 +4,6 @@ use mathlib.Core.Path.{◌≡◌, refl, sym}
 use mathlib.Core.Bool.{Bool, true, false, true≢false, ◌&&◌}
 use mathlib.Core.List.{List}
 use mathlib.Core.Logic.{◌↔◌, ◌⊎◌, inl, inr}
-use mathlib.Core.Option.{Option, none, some}
 use native.Mathlib.Omega.{arith}
 use lib.Dec.{leb}
 use lib.ListN.{length}
@@ -24,6 +23,7 @@ use Rattle.rules.specs.declared.answers.Answer.TheVariants.{Accepted, Violated, 
 use Rattle.rules.proofs.Truth.{missing}
 use Rattle.rules_theorems.specs.Demands.{IsRefused}
 use Rattle.rules_theorems.proofs.DemandOne.{accepted_not_refused, violated_not_refused}
+use Rattle.std.specs.Prelude.{Option, Some, None}
 
 -- three answers are three
 pub refused_not_accepted : {r : Refusal} {A : Type 0} → Refused r ≡ Accepted → A
@@ -178,10 +178,10 @@ module _ (merge : List Configuration → List Configuration → List Configurati
       fitted false written b n = (refl, refl)
 
       travelled : (o : Option ℕ) (b : Both) → Short (merge_travel t c d text s₂ merge o b)
-      travelled none b n =
+      travelled None b n =
           let written = text_of (chosen b.files.rows (merge b.first b.second)) in
           fitted (leb (length written) (length text) && leb (length written) most_text) written b n
-      travelled (some row) b n = (refl, refl)
+      travelled (Some row) b n = (refl, refl)
 
       second : (v : Finding) (n : Tally) (b : Both) → Short (merge_second t c d text s₂ merge v n b)
       second accepted tally b n = travelled (unequal_from 0 b.first b.second) b n
@@ -215,15 +215,15 @@ module _ (merge : List Configuration → List Configuration → List Configurati
     fitted_accepted true e = refl
     fitted_accepted false e = refused_not_accepted e
 
-    travelled_accepted : (o : Option ℕ) → (merge_travel t c d text s₂ merge o b).answer ≡ Accepted → (o ≡ none) × (room ≡ true)
-    travelled_accepted none e = (refl, fitted_accepted room e)
-    travelled_accepted (some row) e = refused_not_accepted e
+    travelled_accepted : (o : Option ℕ) → (merge_travel t c d text s₂ merge o b).answer ≡ Accepted → (o ≡ None) × (room ≡ true)
+    travelled_accepted None e = (refl, fitted_accepted room e)
+    travelled_accepted (Some row) e = refused_not_accepted e
 
-    second_accepted : (v : Finding) (n : Tally) → (merge_second t c d text s₂ merge v n b).answer ≡ Accepted → (v ≡ accepted) × (unequal ≡ none) × (room ≡ true)
+    second_accepted : (v : Finding) (n : Tally) → (merge_second t c d text s₂ merge v n b).answer ≡ Accepted → (v ≡ accepted) × (unequal ≡ None) × (room ≡ true)
     second_accepted accepted tally e = let k = travelled_accepted unequal e in (refl, k.0, k.1)
     second_accepted (violated v) tally e = violated_not_accepted e
 
-    first_accepted : (v : Finding) (n : Tally) → (merge_first t c d text s₂ merge v n b).answer ≡ Accepted → (v ≡ accepted) × (two ≡ accepted) × (unequal ≡ none) × (room ≡ true)
+    first_accepted : (v : Finding) (n : Tally) → (merge_first t c d text s₂ merge v n b).answer ≡ Accepted → (v ≡ accepted) × (two ≡ accepted) × (unequal ≡ None) × (room ≡ true)
     first_accepted accepted tally e = let k = second_accepted two (verdict_of b.files b.second).tally e in (refl, k.0, k.1, k.2)
     first_accepted (violated v) tally e = violated_not_accepted e
 
@@ -232,8 +232,8 @@ module _ (merge : List Configuration → List Configuration → List Configurati
     fitted_violated false y e = refused_not_violated e
 
     travelled_violated : (o : Option ℕ) (y : Violation) {A : Type 0} → (merge_travel t c d text s₂ merge o b).answer ≡ Violated y → A
-    travelled_violated none y e = fitted_violated room y e
-    travelled_violated (some row) y e = refused_not_violated e
+    travelled_violated None y e = fitted_violated room y e
+    travelled_violated (Some row) y e = refused_not_violated e
 
     second_violated : (v : Finding) (n : Tally) (y : Violation) → ((merge_second t c d text s₂ merge v n b).answer ≡ Violated y) ↔ (answer_of second_file v ≡ Violated y)
     second_violated accepted tally y = (λ e. travelled_violated unequal y e, λ e. violated_not_accepted (sym e))
@@ -253,19 +253,19 @@ module _ (merge : List Configuration → List Configuration → List Configurati
         back (inl e) = e
         back (inr e) = let q = e.0 in let o : ◌≡◌ {A = ℕ} 0 1 = cc in absurd (omega arith)
 
-    travelled_decided : (o : Option ℕ) → o ≡ none → room ≡ true → IsRefused (merge_travel t c d text s₂ merge o b).answer → ⊥
-    travelled_decided none e = fitted room
+    travelled_decided : (o : Option ℕ) → o ≡ None → room ≡ true → IsRefused (merge_travel t c d text s₂ merge o b).answer → ⊥
+    travelled_decided None e = fitted room
       where
         fitted : (z : Bool) → z ≡ true → IsRefused (merge_fitted t c d text z written b).answer → ⊥
         fitted true e = accepted_not_refused
         fitted false e = absurd (true≢false (sym e))
-    travelled_decided (some row) e = missing row (sym e)
+    travelled_decided (Some row) e = missing row (sym e)
 
-    second_decided : (v : Finding) (n : Tally) → (v ≡ accepted → (unequal ≡ none) × (room ≡ true)) → IsRefused (merge_second t c d text s₂ merge v n b).answer → ⊥
+    second_decided : (v : Finding) (n : Tally) → (v ≡ accepted → (unequal ≡ None) × (room ≡ true)) → IsRefused (merge_second t c d text s₂ merge v n b).answer → ⊥
     second_decided accepted tally h = travelled_decided unequal (h refl).0 (h refl).1
     second_decided (violated v) tally h = violated_not_refused _
 
-    first_decided : (v : Finding) (n : Tally) → (v ≡ accepted → two ≡ accepted → (unequal ≡ none) × (room ≡ true)) → IsRefused (merge_first t c d text s₂ merge v n b).answer → ⊥
+    first_decided : (v : Finding) (n : Tally) → (v ≡ accepted → two ≡ accepted → (unequal ≡ None) × (room ≡ true)) → IsRefused (merge_first t c d text s₂ merge v n b).answer → ⊥
     first_decided accepted tally h = second_decided two (verdict_of b.files b.second).tally (h refl)
     first_decided (violated v) tally h = violated_not_refused _
 
@@ -292,8 +292,8 @@ module _ (merge : List Configuration → List Configuration → List Configurati
         fitted false n = absurd (n (_, refl))
 
         travelled : (o : Option ℕ) → Stands (merge_travel t c d text s₂ merge o b)
-        travelled none n = fitted room n
-        travelled (some row) n = absurd (n (_, refl))
+        travelled None n = fitted room n
+        travelled (Some row) n = absurd (n (_, refl))
 
         second : (v : Finding) (n : Tally) → Stands (merge_second t c d text s₂ merge v n b)
         second accepted tally n = travelled unequal n
@@ -309,7 +309,7 @@ module _ (merge : List Configuration → List Configuration → List Configurati
       joins = rw e
 
       -- accepted exactly where both verdicts are, no travel times differ, and the text fits
-      pub merge_accepted : ((merged merge S x s₁ s₂ t c d text).answer ≡ Accepted) ↔ ((one ≡ accepted) × (two ≡ accepted) × (unequal ≡ none) × (room ≡ true))
+      pub merge_accepted : ((merged merge S x s₁ s₂ t c d text).answer ≡ Accepted) ↔ ((one ≡ accepted) × (two ≡ accepted) × (unequal ≡ None) × (room ≡ true))
       merge_accepted = (λ h. first_accepted one (verdict_of b.files b.first).tally (rw joins at h), λ h. rw (joins, h.0, h.1, h.2, h.3))
 
       pub merge_written_lem : (merged merge S x s₁ s₂ t c d text).answer ≡ Accepted → merged merge S x s₁ s₂ t c d text ≡ merge_fitted t c d text true written b
@@ -327,7 +327,7 @@ module _ (merge : List Configuration → List Configuration → List Configurati
       merge_counted y = rw joins (first_counted one (verdict_of b.files b.first).tally y)
 
       -- where the travel times are equal and the text fits, nothing is refused
-      pub merge_decided : (one ≡ accepted → two ≡ accepted → (unequal ≡ none) × (room ≡ true)) → IsRefused (merged merge S x s₁ s₂ t c d text).answer → ⊥
+      pub merge_decided : (one ≡ accepted → two ≡ accepted → (unequal ≡ None) × (room ≡ true)) → IsRefused (merged merge S x s₁ s₂ t c d text).answer → ⊥
       merge_decided = rw joins (first_decided one (verdict_of b.files b.first).tally)
 
       pub merge_stands : Stands (merged merge S x s₁ s₂ t c d text)

@@ -4,7 +4,6 @@ use mathlib.Core.Path.{◌≡◌, sym, ap, ap₂, subst, ◌∙◌}
 use mathlib.Core.Bool.{true, ◌&&◌}
 use mathlib.Core.List.{List}
 use mathlib.Core.Logic.{◌↔◌, ◌⊎◌, inl, inr}
-use mathlib.Core.Option.{none}
 use native.Mathlib.Nat.{zero-add}
 use lib.Arith.{digits_lt, digits_div, digits_mod}
 use lib.Dec.{leb}
@@ -43,6 +42,7 @@ use Rattle.rules_theorems.proofs.DemandThree.{over_front}
 use Rattle.checker_theorems.specs.Demands.{CheckOutcome, EnergyOutcome, MergeOutcome, Reads, BothRead, AcceptableIn, FirstFailure, Room, written_by, CheckJudges, EnergyJudges, ReadsBack, MergeJudges, DemandTwo}
 use Rattle.checker_theorems.proofs.Answers.{check-choices, report_accepted_lem, report-laid, report_violated, report_decided, report_stands, merge_accepted, merge_written_lem, merge_violated_lem, merge_counted, merge_decided}
 use Rattle.checker_theorems.proofs.DemandOne.{refused_as_lem}
+use Rattle.std.specs.Prelude.{None}
 
 -- ---- the verdict over the files
 
@@ -195,7 +195,7 @@ module _ {S : Stated} {x : Texts} {f : Files} where
     lengths v w = sym (offered-length f.rows s (are_offered f s v)) ∙ offered-length f.rows r (are_offered f r w)
 
     fits : (verdict_of f s).finding ≡ accepted → (verdict_of f r).finding ≡ accepted → SameTravel s r → HasRoom f (merge_of direction s r) k.lent_text
-        → (unequal_from 0 s r ≡ none) × (leb (length new) (length k.lent_text) && leb (length new) most_text ≡ true)
+        → (unequal_from 0 s r ≡ None) × (leb (length new) (length k.lent_text) && leb (length new) most_text ≡ true)
     fits v w same room = (
       (unequal_none s r (lengths v w)).1 same,
       rw (le-leb (length new) (length k.lent_text) room, le-leb (length new) most_text (short (merge_fair direction f s r same v w))),

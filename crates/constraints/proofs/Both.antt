@@ -24,8 +24,9 @@ use Rattle.rules_theorems.proofs.Documents.{good_is_lawful}
 use Rattle.tables_ids.specs.Column.{Records, Apart, Rising, column}
 use Rattle.constraints_states.specs.declared.Counts.{Counts}
 use Rattle.rules.proofs.Lists.{flat-length, over-length}
-use Rattle.constraints_states.specs.declared.Fault.{Fault}
-use Rattle.constraints_states.specs.Steps.{counts_of, fault_at}
+use Rattle.rules.specs.declared.answers.Fault.{Fault}
+use Rattle.constraints_states.specs.Steps.{counts_of}
+use Rattle.rules.specs.Answers.{fault_at}
 use Rattle.std.proofs.Common.{Result, Ok, Err}
 use Rattle.constraints_tables.specs.Places.{nexts, Upward, before_last, starts_of}
 use Rattle.constraints_tables.proofs.Places.{constraint_long}

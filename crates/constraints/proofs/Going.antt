@@ -30,7 +30,7 @@ use Rattle.constraints_tokens.specs.Seen.{tokens_at, found, is_end, Seen, Within
 use Rattle.constraints_states.specs.declared.Counts.{Counts}
 use Rattle.constraints_states.specs.declared.Step.{Step}
 use Rattle.constraints_states.specs.declared.Step.TheVariants.{On, Emit, Opened, Named, Listed, Finish}
-use Rattle.constraints_states.specs.declared.Fault.{Fault}
+use Rattle.rules.specs.declared.answers.Fault.{Fault}
 use Rattle.std.proofs.Common.{Result, Ok, Err}
 use Rattle.rules.proofs.Lists.{flat_append, flat-length, over-length, over-more}
 use Rattle.rules.specs.declared.sizes.Track.{Track}

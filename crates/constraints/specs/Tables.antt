@@ -8,8 +8,9 @@ use Rattle.rules.specs.Constraints.{Document, empty, start, run, constraints_of,
 use Rattle.rules.specs.declared.tokens.Rules.{Rules}
 use Rattle.tables_ids.specs.Column.{Sought, column}
 use Rattle.constraints_states.specs.declared.Counts.{Counts}
-use Rattle.constraints_states.specs.declared.Fault.{Fault}
-use Rattle.constraints_states.specs.Steps.{counts_of, fault_at}
+use Rattle.rules.specs.declared.answers.Fault.{Fault}
+use Rattle.constraints_states.specs.Steps.{counts_of}
+use Rattle.rules.specs.Answers.{fault_at}
 use Rattle.constraints_tables.specs.Places.{nexts, written}
 
 -- ---- a walk

@@ -6,9 +6,9 @@ ghost use Rattle.rules.specs.Limits.{leg_width, most_legs};
 ghost use Rattle.tables_ids.specs.Column.{Apart};
 ghost use Rattle.constraints.specs.Tables.{reading, Reads};
 
-use constraints_states::{Counts, Fault};
+use constraints_states::Counts;
 use constraints_tables::{PLACES, in_order, starts_of};
-use rules::answers::Refusal;
+use rules::answers::{Fault, Refusal};
 use rules::sizes::{Leg, Text};
 use rules::tokens::Rules;
 use tables_ids::rising_of;

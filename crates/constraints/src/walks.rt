@@ -3,9 +3,10 @@ ghost use Rattle.constraints.specs.Tables.{Able, outcome, Walks};
 
 use crate::effects::{emit, list, name};
 use constraints_states::states::starting;
-use constraints_states::{Counts, Fault, Room, Step};
+use constraints_states::{Counts, Room, Step};
 use constraints_tokens::token_at;
 use constraints_turn::turn;
+use rules::answers::Fault;
 use rules::sizes::Subnet;
 use rules::tokens::Rules;
 

@@ -6,14 +6,14 @@ use Rattle.rules.specs.Bytes.{whole_of}
 use Rattle.rules.specs.Tokens.{Token}
 use Rattle.rules.specs.Constraints.{Document, with_constraint, with_subnet, with_id, with_track, Turn, fault, on, finish}
 use Rattle.text_read.specs.Held.{whole_held}
-use Rattle.text_read.specs.declared.numbers.Whole.{Whole}
-use Rattle.text_read.specs.declared.numbers.Whole.TheVariants.{Number, Beyond, Malformed}
 use Rattle.constraints_tokens.specs.declared.Token.{Token as Found}
 use Rattle.tables_ids.specs.Column.{Records, Sought, column, track_ids_of}
 use Rattle.constraints_states.specs.declared.Step.{Step}
 use Rattle.constraints_states.specs.declared.Step.TheVariants.{On, Emit, Opened, Named, Listed, Finish}
-use Rattle.constraints_states.specs.declared.Fault.{Fault}
+use Rattle.rules.specs.declared.answers.Fault.{Fault}
 use Rattle.constraints_states.specs.declared.Counts.{Counts}
+use Rattle.text_read.specs.declared.numbers.Unread.{Unread}
+use Rattle.text_read.specs.declared.numbers.Unread.TheVariants.{Beyond, Malformed}
 
 -- ---- what a step does
 
@@ -35,9 +35,6 @@ abbrev pub told : Result Step Fault → Document → Turn
 told (Ok step) d = stepped step d
 told (Err f) d = fault f.number f.place
 
-abbrev pub fault_at : (number place : ℕ) → Fault
-fault_at number place = record { number = number; place = place }
-
 -- ---- an action by what it needs to know: the legs, the lent room, the document, the token
 
 abbrev pub Acts : Type 0
@@ -48,14 +45,14 @@ abbrev pub Always : Acts → Result Step ℕ → Type 0
 Always acts r = (legs : List ℕ) (constraints tracks : ℕ) (d : Document) (t : Token) → turned t.place r d ≡ acts legs constraints tracks d t
 
 -- a token whose word was read as a number
-abbrev pub Says : Token → Whole → Type 0
+abbrev pub Says : Token → Result ℕ Unread → Type 0
 Says t n = n ≡ whole_held (whole_of t.word)
 
 -- the number, or the number of the refusal
-abbrev pub said : Whole → Result ℕ ℕ
-said (Number n) = Ok n
-said Beyond = Err out_of_range
-said Malformed = Err bad_json
+abbrev pub said : Result ℕ Unread → Result ℕ ℕ
+said (Ok n) = Ok n
+said (Err Beyond) = Err out_of_range
+said (Err Malformed) = Err bad_json
 
 -- ---- what the code holds of the document: how many records, the ids of tracks and subnets
 

@@ -4,7 +4,7 @@
 ghost use Rattle.std.specs.Prelude.{◌≡◌, ◌/◌};
 ghost use Rattle.rules.specs.Limits.{constraint_width, track_width};
 ghost use Rattle.rules.specs.Constraints as law;
-ghost use Rattle.constraints_states.specs.Steps.{counts_of, fault_at};
+ghost use Rattle.constraints_states.specs.Steps.{counts_of};
 
 use rules::sizes::{Constraint, Track};
 use rules::tokens::State;
@@ -25,21 +25,6 @@ pub enum Step {
     Named(State, u32),
     Listed(State, u32),
     Finish(State),
-}
-
-// What a text is refused for: the refusal's number, and the place.
-#[derive(Clone, Copy)]
-pub struct Fault {
-    pub number: u8,
-    pub place: u32,
-}
-
-impl Fault {
-    pub fn new(number: u8, place: u32) -> Fault
-        ensures { result ≡ fault_at number place }
-    {
-        Fault { number, place }
-    }
 }
 
 // How much has been read: constraints, tracks, subnets that were opened, and ids of subnets.

@@ -14,8 +14,7 @@ use rules::answers::Refusal;
 use rules::kinds::Key;
 use rules::sizes::Track;
 use rules::tokens::{Phase, State};
-use tables_ids::Found;
-use text_read::numbers::Whole;
+use text_read::numbers::Unread;
 
 #[tactic(auto, unfolding(rules::specs::Constraints::tracks_open))]
 pub fn tracks_open(st: State) -> Result<Step, u8>
@@ -32,7 +31,7 @@ pub fn track_number(
     tracks: &[u32],
     n: usize,
     room: usize,
-    number: Whole,
+    number: Result<u32, Unread>,
     st: State,
 ) -> Result<Step, u8>
     requires { Records track_width n tracks.now }
@@ -43,7 +42,7 @@ pub fn track_number(
     if Track::MOST <= n {
         return Err(Refusal::COUNT);
     }
-    if let Found::At(_) = tables_ids::row_of(tracks, Track::WIDTH, n, id) {
+    if let Some(_) = tables_ids::row_of(tracks, Track::WIDTH, n, id) {
         return Err(Refusal::SEEN);
     }
     if room <= n {

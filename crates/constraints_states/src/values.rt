@@ -8,27 +8,26 @@ ghost use Rattle.rules.specs.Tokens.{Token};
 ghost use Rattle.tables_ids.specs.Column.{Records, Sought, column};
 ghost use Rattle.constraints_states.specs.Steps.{turned, said, Always, Says, id_width};
 
+use crate::Step;
 use crate::states::{given, to_phase};
-use crate::{Fault, Step};
 use constraints_tokens::names;
-use rules::answers::Refusal;
+use rules::answers::{Fault, Refusal};
 use rules::kinds::Key;
 use rules::sizes::{Constraint, Leg};
 use rules::tokens::{Phase, State};
-use tables_ids::Found;
-use text_read::numbers::Whole;
+use text_read::numbers::Unread;
 
 // The ids of subnets stand alone in their table.
 const ID_WIDTH: usize = 1;
 
 // The number, or the number of the refusal.
-pub fn number_said(number: Whole) -> Result<u32, u8>
+pub fn number_said(number: Result<u32, Unread>) -> Result<u32, u8>
     ensures { result ≡ said number }
 {
     match number {
-        Whole::Number(n) => Ok(n),
-        Whole::Beyond => Err(Refusal::RANGE),
-        Whole::Malformed => Err(Refusal::JSON_FORM),
+        Ok(n) => Ok(n),
+        Err(Unread::Beyond) => Err(Refusal::RANGE),
+        Err(Unread::Malformed) => Err(Refusal::JSON_FORM),
     }
 }
 
@@ -64,7 +63,7 @@ pub fn leg_value(
     legs: &[u32],
     n: usize,
     rising: usize,
-    number: Whole,
+    number: Result<u32, Unread>,
     st: State,
 ) -> Result<Step, u8>
     requires { Sought leg_width n rising legs.now × (n ≤ most_legs) }
@@ -73,26 +72,31 @@ pub fn leg_value(
 {
     let id = number_said(number)?;
     match tables_ids::numbered(legs, Leg::WIDTH, n, rising, id) {
-        Found::At(row) => Ok(Step::On(given(row as u32, st))),
-        Found::Nothing => Err(Refusal::NOT_THERE),
+        Some(row) => Ok(Step::On(given(row as u32, st))),
+        None => Err(Refusal::NOT_THERE),
     }
 }
 
 // The id of a subnet, which no subnet before it has.
-pub fn subnet_value(ids: &[u32], n: usize, number: Whole, st: State) -> Result<Step, u8>
+pub fn subnet_value(
+    ids: &[u32],
+    n: usize,
+    number: Result<u32, Unread>,
+    st: State,
+) -> Result<Step, u8>
     requires { Records id_width n ids.now }
     ensures { (legs : List ℕ) (constraints tracks : ℕ) (d : Document) (t : Token)
         → Says t number → column id_width n ids.now ≡ d.ids → turned t.place result d ≡ law.subnet_value legs constraints tracks st d t }
 {
     let id = number_said(number)?;
     match tables_ids::row_of(ids, ID_WIDTH, n, id) {
-        Found::At(_) => Err(Refusal::SEEN),
-        Found::Nothing => Ok(Step::Named(to_phase(st, Phase::AfterValue), id)),
+        Some(_) => Err(Refusal::SEEN),
+        None => Ok(Step::Named(to_phase(st, Phase::AfterValue), id)),
     }
 }
 
 #[tactic(auto, unfolding(rules::specs::Constraints::seconds_value))]
-pub fn seconds_value(number: Whole, st: State) -> Result<Step, u8>
+pub fn seconds_value(number: Result<u32, Unread>, st: State) -> Result<Step, u8>
     ensures { (legs : List ℕ) (constraints tracks : ℕ) (d : Document) (t : Token) → Says t number → turned t.place result d ≡ law.seconds_value legs constraints tracks st d t }
 {
     let seconds = number_said(number)?;
@@ -110,7 +114,7 @@ pub fn number_value(
     rising: usize,
     ids: &[u32],
     named: usize,
-    number: Whole,
+    number: Result<u32, Unread>,
     st: State,
 ) -> Result<Step, u8>
     requires { Sought leg_width n rising legs.now × ((n ≤ most_legs) × Records id_width named ids.now) }

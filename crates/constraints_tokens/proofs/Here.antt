@@ -3,7 +3,6 @@ use Prim.Native.Nat.{ℕ, suc, ◌+◌, ◌-◌, ◌≤◌, ◌<◌}
 use mathlib.Core.Path.{◌≡◌, refl, ap, sym, ◌∙◌}
 use mathlib.Core.Bool.{Bool, true, false, not, ◌||◌}
 use mathlib.Core.List.{List, [], ◌∷◌}
-use mathlib.Core.Option.{Option, none, some}
 use native.Mathlib.Omega.{arith}
 use native.Mathlib.Numerals.{add-one}
 use lib.Dec.{eqb}
@@ -11,7 +10,8 @@ use lib.ListN.{length, get_or, drop, drop_of_length-le}
 use lib.Seq.{drop-cons}
 use borrow.Author.Tests.{eq-eqb, ne_eqb}
 use Rattle.rules.specs.Limits.{most_text}
-use Rattle.rules.specs.Lists.{lead, is_some}
+use Rattle.rules.specs.Lists.{lead}
+use Rattle.std.specs.Prelude.{is_some, Option, Some, None}
 use Rattle.rules.specs.Tokens.{Token, token, is_white, quote, sign_of, in_run, in_string, run_token}
 use Rattle.rules.specs.declared.tokens.Class.{Class}
 use Rattle.rules.specs.declared.tokens.Class.TheVariants.{Quoted, Run, End, Unclosed, Forbidden}
@@ -95,17 +95,17 @@ module _ (s : List ℕ) (at e : ℕ) (h : Black s at) (opens : get_or s at 0 ≡
 
 -- ---- runs and signs, by the byte that stands there
 
-unsigned : (white quoted : Bool) (c : Option Class) → not (white || (quoted || is_some c)) ≡ true → c ≡ none
+unsigned : (white quoted : Bool) (c : Option Class) → not (white || (quoted || is_some c)) ≡ true → c ≡ None
 unsigned true quoted c e = cc
 unsigned false true c e = cc
-unsigned false false none e = refl
-unsigned false false (some c) e = cc
+unsigned false false None e = refl
+unsigned false false (Some c) e = cc
 
-signed : (white quoted : Bool) (c : Option Class) → white ≡ false → quoted ≡ false → not (white || (quoted || is_some c)) ≡ false → c ≡ some (sign_or c)
+signed : (white quoted : Bool) (c : Option Class) → white ≡ false → quoted ≡ false → not (white || (quoted || is_some c)) ≡ false → c ≡ Some (sign_or c)
 signed true quoted c w q e = cc
 signed false true c w q e = cc
-signed false false none w q e = cc
-signed false false (some c) w q e = refl
+signed false false None w q e = cc
+signed false false (Some c) w q e = refl
 
 module _ (s : List ℕ) (at : ℕ) (h : Black s at) (other : get_or s at 0 ≡ quote → ⊥) (t : Bool) (q : t ≡ in_run (get_or s at 0)) where
   unquoted : eqb (get_or s at 0) quote ≡ false
@@ -113,7 +113,7 @@ module _ (s : List ℕ) (at : ℕ) (h : Black s at) (other : get_or s at 0 ≡ q
 
   pub run_seen : t ≡ true → (e : ℕ) → e ≡ at + length (lead in_run (drop at s)) → Stands s at Run (part s at e) at e
   run_seen is e ends =
-      let none_there : sign_of (get_or s at 0) ≡ none = unsigned (is_white (get_or s at 0)) (eqb (get_or s at 0) quote) (sign_of (get_or s at 0)) (sym q ∙ is) in
+      let none_there : sign_of (get_or s at 0) ≡ None = unsigned (is_white (get_or s at 0)) (eqb (get_or s at 0) quote) (sign_of (get_or s at 0)) (sym q ∙ is) in
       let first : lead in_run (drop at s) ≡ get_or s at 0 ∷ lead in_run (drop (suc at) s) = rw (add-one at) at (lead-more in_run s at 0 h.here (sym q ∙ is)) in
       let size : length (lead in_run (drop at s)) ≡ e - at = omega arith in
       seen s at h Run (part s at e) e
@@ -126,8 +126,8 @@ module _ (s : List ℕ) (at : ℕ) (h : Black s at) (other : get_or s at 0 ≡ q
 
   pub sign_seen : t ≡ false → (c : Class) → c ≡ sign_or (sign_of (get_or s at 0)) → Stands s at c [] at (at + 1)
   sign_seen is c sign =
-      let there : sign_of (get_or s at 0) ≡ some c =
-      signed (is_white (get_or s at 0)) (eqb (get_or s at 0) quote) (sign_of (get_or s at 0)) h.black unquoted (sym q ∙ is) ∙ ap some (sym sign) in
+      let there : sign_of (get_or s at 0) ≡ Some c =
+      signed (is_white (get_or s at 0)) (eqb (get_or s at 0) quote) (sign_of (get_or s at 0)) h.black unquoted (sym q ∙ is) ∙ ap Some (sym sign) in
       let is-sign : token_of s at ≡ token c [] at 1 = sign_token_lem at (get_or s at 0) (drop (suc at) s) c unquoted there in
       let size : 1 ≡ at + 1 - at = omega arith in
       seen s at h c [] (at + 1)

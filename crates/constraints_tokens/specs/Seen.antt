@@ -1,6 +1,5 @@
 -- What a reader finds at a place of a text: the next token of ../../rules/specs/Tokens.antt, and where the one after it is looked for.
-use Rattle.std.specs.Prelude.{ℕ, ◌-◌, ◌≤◌, ◌<◌, ◌≡◌, Bool, false, cond, List, [], ◌∷◌, eqb, length, get_or, take, drop}
-use Rattle.std.proofs.Math.Option.{Option, none, some}
+use Rattle.std.specs.Prelude.{ℕ, ◌-◌, ◌≤◌, ◌<◌, ◌≡◌, Bool, false, cond, List, [], ◌∷◌, eqb, length, get_or, take, drop, Option, Some, None}
 use Rattle.rules.specs.Limits.{most_text}
 use Rattle.rules.specs.Tokens.{Token, token, is_white, tokens_from}
 use Rattle.rules.specs.Constraints.{class_number}
@@ -18,8 +17,8 @@ part s from end = take (end - from) (drop from s)
 
 -- a sign's class, or a run's
 abbrev pub sign_or : Option Class → Class
-sign_or none = Run
-sign_or (some c) = c
+sign_or None = Run
+sign_or (Some c) = c
 
 -- the token that was found
 abbrev pub found : Found → Token

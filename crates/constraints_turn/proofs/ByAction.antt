@@ -11,8 +11,9 @@ use Rattle.std.proofs.Common.{Result, Ok, Err}
 use Rattle.std.specs.Result.{MatchResult, IsErrAnd}
 use Rattle.std.proofs.lemmas.Result.{err_from_is_err_and}
 use Rattle.constraints_states.specs.declared.Step.{Step}
-use Rattle.constraints_states.specs.declared.Fault.{Fault}
-use Rattle.constraints_states.specs.Steps.{told, turned, fault_at}
+use Rattle.rules.specs.declared.answers.Fault.{Fault}
+use Rattle.constraints_states.specs.Steps.{told, turned}
+use Rattle.rules.specs.Answers.{fault_at}
 use Rattle.constraints_tokens.specs.declared.Token.{Token as Found}
 use Rattle.constraints_tokens.specs.Seen.{found}
 

@@ -12,10 +12,10 @@ use constraints_actions::action;
 use constraints_states::states::to_phase;
 use constraints_states::tracks::{track_number, tracks_open};
 use constraints_states::values::{number_value, string_cut, string_value};
-use constraints_states::{Counts, Fault, Room, Step};
+use constraints_states::{Counts, Room, Step};
 use constraints_tokens::Token;
 use records::{document_ends, key_name, list_name, record_ends, record_opens};
-use rules::answers::Refusal;
+use rules::answers::{Fault, Refusal};
 use rules::tokens::{Action, State};
 use text_read::numbers::read_whole;
 

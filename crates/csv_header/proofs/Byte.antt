@@ -3,16 +3,13 @@ use Prim.Native.Nat.{ℕ, zero, suc, ◌+◌, ◌-◌, ◌≤◌, ◌<◌}
 use mathlib.Core.Path.{◌≡◌, refl, ap, sym, subst, ◌∙◌}
 use mathlib.Core.Bool.{Bool, true, false, cond, false≢true}
 use mathlib.Core.List.{List, [], ◌∷◌, ◌++◌}
-use mathlib.Core.Option.{none, some}
-use mathlib.Core.Option as Math
-use Rattle.std.specs.Prelude.{Option, Some, None}
+use Rattle.std.specs.Prelude.{Option, Some, None, is_some}
 use native.Mathlib.Omega.{arith}
 use native.Mathlib.Numerals.{add-one}
 use lib.Dec.{ltb, eqb}
 use lib.ListN.{length, get_or, drop, length-append, get_or-append}
 use lib.Seq.{drop-cons, drop-length}
 use borrow.Author.Tests.{ltb-true, ltb-false, eqb-true, eqb-false, eq-eqb, ne_eqb}
-use Rattle.rules.specs.Lists.{is_some}
 use Rattle.rules.specs.Bytes.{line_feed, carriage_return, comma, joined}
 use Rattle.rules.specs.Rows.{header_of}
 use Rattle.rules.proofs.Pieces.{Free, joined_free}
@@ -28,10 +25,10 @@ use Rattle.csv_marks.proofs.Follow.{Follows, follows-at}
 use Rattle.csv_header.specs.declared.Stepped.{Stepped}
 use Rattle.csv_header.specs.Heading.{begins_in, stepped_by, stepped_in, name_at}
 
-abbrev pub head_step : Marked Named → ℕ → Math.Option (Marked Named)
+abbrev pub head_step : Marked Named → ℕ → Option (Marked Named)
 head_step = mark_step name_step name_close name_begins
 
-abbrev pub head_close : Marked Named → Math.Option (List ℕ)
+abbrev pub head_close : Marked Named → Option (List ℕ)
 head_close = mark_close name_step name_close name_begins
 
 free_at : (sep : ℕ) (s : List ℕ) (k : ℕ) → Free sep s → k < length s → get_or s k 0 ≡ sep → ⊥
@@ -85,19 +82,19 @@ module _ (names : List (List ℕ)) (can : can_head names ≡ true) where
         let q : k + 1 - 1 ≡ k = omega arith in
         rw (ne_eqb (k + 1) 0 (λ e. omega arith)) (ap (λ (x : ℕ). eqb (get_or header x 0) comma) q)
 
-    name_right : (b : ℕ) → b ≡ get_or header k 0 → name_step (name_at names k) b ≡ some (name_at names (k + 1))
+    name_right : (b : ℕ) → b ≡ get_or header k 0 → name_step (name_at names k) b ≡ Some (name_at names (k + 1))
     name_right b e =
         ap (λ (l : List ℕ). name_step (named (begins_in header k) l) b) left_is
         ∙ (rw (ne_eqb b carriage_return (no_return b e), eq-eqb b (get_or header k 0) e, e, ← begins_next, ← add-one k))
 
-    name_wrong : (b : ℕ) → (b ≡ get_or header k 0 → ⊥) → name_step (name_at names k) b ≡ none
+    name_wrong : (b : ℕ) → (b ≡ get_or header k 0 → ⊥) → name_step (name_at names k) b ≡ None
     name_wrong b n = ap (λ (l : List ℕ). name_step (named (begins_in header k) l) b) left_is ∙ go (eqb b carriage_return)
       where
-        go : (t : Bool) → cond t none (cond (eqb b (get_or header k 0)) (some (named (eqb b comma) (drop (suc k) all))) none) ≡ none
+        go : (t : Bool) → cond t None (cond (eqb b (get_or header k 0)) (Some (named (eqb b comma) (drop (suc k) all))) None) ≡ None
         go true = refl
         go false = rw (ne_eqb b (get_or header k 0) n)
 
-    close_short : name_close (name_at names k) ≡ none
+    close_short : name_close (name_at names k) ≡ None
     close_short = ap (λ (l : List ℕ). name_close (named (begins_in header k) l)) left_is
 
   module _ (k : ℕ) (e : k ≡ length all) where
@@ -110,10 +107,10 @@ module _ (names : List (List ℕ)) (can : can_head names ≡ true) where
     past : length header ≤ k + 1
     past = omega (arith, length-append all (line_feed ∷ []))
 
-    name_past : (b : ℕ) → name_step (name_at names k) b ≡ none
+    name_past : (b : ℕ) → name_step (name_at names k) b ≡ None
     name_past b = ap (λ (l : List ℕ). name_step (named (begins_in header k) l) b) nothing_left
 
-    close_end : name_close (name_at names k) ≡ some []
+    close_end : name_close (name_at names k) ≡ Some []
     close_end = ap (λ (l : List ℕ). name_close (named (begins_in header k) l)) nothing_left
 
   -- ---- a byte
@@ -122,12 +119,12 @@ module _ (names : List (List ℕ)) (can : can_head names ≡ true) where
 
   -- where the byte agrees
   pub record Goes (mark : Mark) (k b : ℕ) (x : Stepped) : Type 0 where
-    pub byte : eqb b line_feed ≡ false → (head_step (marked mark (name_at names k)) b ≡ some (marked x.mark (name_at names x.head))) × (x.head < length header)
+    pub byte : eqb b line_feed ≡ false → (head_step (marked mark (name_at names k)) b ≡ Some (marked x.mark (name_at names x.head))) × (x.head < length header)
     pub end : eqb b line_feed ≡ true → (is_some (head_close (marked mark (name_at names k))) ≡ true) × (length header ≤ x.head) × (x.mark ≡ Bare)
 
   -- where it differs
   pub record Stops (mark : Mark) (k b : ℕ) : Type 0 where
-    pub byte : eqb b line_feed ≡ false → head_step (marked mark (name_at names k)) b ≡ none
+    pub byte : eqb b line_feed ≡ false → head_step (marked mark (name_at names k)) b ≡ None
     pub end : eqb b line_feed ≡ true → is_some (head_close (marked mark (name_at names k))) ≡ false
 
   abbrev pub Compares : Mark → (k b : ℕ) → Option Stepped → Type 0

@@ -4,14 +4,12 @@ use Prim.Native.Nat.{ℕ, suc, ◌+◌, ◌≤◌, ◌<◌}
 use mathlib.Core.Path.{◌≡◌, refl, ap, sym, subst, ◌∙◌}
 use mathlib.Core.Bool.{Bool, true, false, cond, ◌&&◌, true≢false, false≢true}
 use mathlib.Core.List.{List, [], ◌∷◌}
-use mathlib.Core.Option.{none, some}
-use mathlib.Core.Option as Math
-use Rattle.std.specs.Prelude.{Option, Some, None, Result, Ok, Err, is_ok}
+use Rattle.std.specs.Prelude.{Option, Some, None, Result, Ok, Err, is_ok, is_some}
 use native.Mathlib.Omega.{arith}
 use lib.Dec.{leb, eqb}
 use lib.ListN.{length, length-append}
 use borrow.Author.Tests.{lt-ltb, le-leb, lt-leb}
-use Rattle.rules.specs.Lists.{◌>>=◌, is_some}
+use Rattle.rules.specs.Lists.{◌>>=◌}
 use Rattle.rules.specs.Bytes.{line_feed, comma, onto, split_on, joined}
 use Rattle.rules.specs.Rows.{header_of}
 use Rattle.rules.proofs.Pieces.{split_cons}
@@ -30,36 +28,36 @@ use Rattle.csv_header.proofs.Part.{reached, past_header}
 
 -- ---- a line by the names' machine
 
-abbrev runs_to : Math.Option (Marked Named) → List ℕ → Bool
-runs_to none line = false
-runs_to (some m) line = is_some (run head_step m line >>= head_close)
+abbrev runs_to : Option (Marked Named) → List ℕ → Bool
+runs_to None line = false
+runs_to (Some m) line = is_some (run head_step m line >>= head_close)
 
 -- the first line, which another follows
-abbrev heads_in : Math.Option (Marked Named) → List (List ℕ) → Bool
+abbrev heads_in : Option (Marked Named) → List (List ℕ) → Bool
 heads_in x [] = false
 heads_in x (line ∷ []) = false
 heads_in x (line ∷ next ∷ lines) = runs_to x line
 
-heads-none : (ps : List (List ℕ)) → heads_in none ps ≡ false
+heads-none : (ps : List (List ℕ)) → heads_in None ps ≡ false
 heads-none [] = refl
 heads-none (p ∷ []) = refl
 heads-none (p ∷ q ∷ ps) = refl
 
-runs_on : (m : Marked Named) (b : ℕ) (line : List ℕ) → runs_to (some m) (b ∷ line) ≡ runs_to (head_step m b) line
+runs_on : (m : Marked Named) (b : ℕ) (line : List ℕ) → runs_to (Some m) (b ∷ line) ≡ runs_to (head_step m b) line
 runs_on m b line = go (head_step m b)
   where
-    go : (x : Math.Option (Marked Named)) → is_some ((x >>= (λ next. run head_step next line)) >>= head_close) ≡ runs_to x line
-    go none = refl
-    go (some m) = refl
+    go : (x : Option (Marked Named)) → is_some ((x >>= (λ next. run head_step next line)) >>= head_close) ≡ runs_to x line
+    go None = refl
+    go (Some m) = refl
 
-heads_on : (m : Marked Named) (b : ℕ) (ps : List (List ℕ)) → (p : List ℕ) × (more : List (List ℕ)) × (ps ≡ p ∷ more) → heads_in (some m) (onto b ps) ≡ heads_in (head_step m b) ps
-heads_on m b ps c = subst (λ (x : List (List ℕ)). heads_in (some m) (onto b x) ≡ heads_in (head_step m b) x) (sym c.2) (go c.1)
+heads_on : (m : Marked Named) (b : ℕ) (ps : List (List ℕ)) → (p : List ℕ) × (more : List (List ℕ)) × (ps ≡ p ∷ more) → heads_in (Some m) (onto b ps) ≡ heads_in (head_step m b) ps
+heads_on m b ps c = subst (λ (x : List (List ℕ)). heads_in (Some m) (onto b x) ≡ heads_in (head_step m b) x) (sym c.2) (go c.1)
   where
-    go : (more : List (List ℕ)) → heads_in (some m) ((b ∷ c.0) ∷ more) ≡ heads_in (head_step m b) (c.0 ∷ more)
+    go : (more : List (List ℕ)) → heads_in (Some m) ((b ∷ c.0) ∷ more) ≡ heads_in (head_step m b) (c.0 ∷ more)
     go [] = refl
     go (q ∷ more) = runs_on m b c.0
 
-heads-at : (x : Math.Option (Marked Named)) (ps : List (List ℕ)) → (p : List ℕ) × (more : List (List ℕ)) × (ps ≡ p ∷ more) → heads_in x ([] ∷ ps) ≡ runs_to x []
+heads-at : (x : Option (Marked Named)) (ps : List (List ℕ)) → (p : List ℕ) × (more : List (List ℕ)) × (ps ≡ p ∷ more) → heads_in x ([] ∷ ps) ≡ runs_to x []
 heads-at x ps c = ap (λ (y : List (List ℕ)). heads_in x ([] ∷ y)) c.2
 
 abbrev first_long : List (List ℕ) → ℕ
@@ -78,22 +76,22 @@ module _ (names : List (List ℕ)) (can : can_head names ≡ true) where
   abbrev whole : Result Headed Headed → Bool
   whole r = is_ok r && leb (length header) (reached r).head
 
-  record Found (x : Math.Option (Marked Named)) (i : ℕ) (ps : List (List ℕ)) (r : Result Headed Headed) : Type 0 where
+  record Found (x : Option (Marked Named)) (i : ℕ) (ps : List (List ℕ)) (r : Result Headed Headed) : Type 0 where
     is : whole r ≡ heads_in x ps
     at : whole r ≡ true → (reached r).next ≡ i + first_long ps + 1
 
   abbrev onward : (s : List ℕ) (i : ℕ) → Stepped → Result Headed Headed
   onward s i x = compared_from header x.mark x.head (i + 1) s
 
-  found_head : (s : List ℕ) (mark : Mark) (k i : ℕ) → k < length header → Found (some (marked mark (name_at names k))) i (split_on line_feed s) (compared_from header mark k i s)
+  found_head : (s : List ℕ) (mark : Mark) (k i : ℕ) → k < length header → Found (Some (marked mark (name_at names k))) i (split_on line_feed s) (compared_from header mark k i s)
   found_head [] mark k i h = record { is = lt-leb (length header) k h; at = λ e. absurd (true≢false (sym e ∙ lt-leb (length header) k h)) }
   found_head (b ∷ s) mark k i h =
       subst (λ (t : Bool). Found x i (split_on line_feed (b ∷ s)) (cond t (after_step (stepped_in header mark k b) (onward s i) (Err (headed i k mark))) (Ok (headed i k mark))))
       (sym (lt-ltb k (length header) h))
       (go (stepped_in header mark k b) refl (eqb b line_feed) refl (found_head s))
     where
-      x : Math.Option (Marked Named)
-      x = some (marked mark (name_at names k))
+      x : Option (Marked Named)
+      x = Some (marked mark (name_at names k))
 
       ps : List (List ℕ)
       ps = split_on line_feed s
@@ -102,7 +100,7 @@ module _ (names : List (List ℕ)) (can : can_head names ≡ true) where
       cons = split_cons line_feed s
 
       go : (r : Option Stepped) → stepped_in header mark k b ≡ r → (l : Bool) → eqb b line_feed ≡ l
-          → ((m : Mark) (a j : ℕ) → a < length header → Found (some (marked m (name_at names a))) j ps (compared_from header m a j s))
+          → ((m : Mark) (a j : ℕ) → a < length header → Found (Some (marked m (name_at names a))) j ps (compared_from header m a j s))
           → Found x i (cond l ([] ∷ ps) (onto b ps)) (after_step r (onward s i) (Err (headed i k mark)))
       go (Some r) q true l ih =
           let g : Goes names can mark k b r = compares-at names can mark k b h (Some r) q in
@@ -123,19 +121,19 @@ module _ (names : List (List ℕ)) (can : can_head names ≡ true) where
           let w = g.byte l in
           let f = ih r.mark r.head (i + 1) w.1 in
           record {
-            is = f.is ∙ sym (heads_on (marked mark (name_at names k)) b ps cons ∙ ap (λ (y : Math.Option (Marked Named)). heads_in y ps) w.0);
+            is = f.is ∙ sym (heads_on (marked mark (name_at names k)) b ps cons ∙ ap (λ (y : Option (Marked Named)). heads_in y ps) w.0);
             at = λ e. f.at e ∙ omega (arith, first_on b ps cons);
           }
       go None q false l ih =
           let g : Stops names can mark k b = compares-at names can mark k b h None q in
           record {
-            is = sym (heads_on (marked mark (name_at names k)) b ps cons ∙ ap (λ (y : Math.Option (Marked Named)). heads_in y ps) (g.byte l) ∙ heads-none ps);
+            is = sym (heads_on (marked mark (name_at names k)) b ps cons ∙ ap (λ (y : Option (Marked Named)). heads_in y ps) (g.byte l) ∙ heads-none ps);
             at = λ e. absurd (false≢true e);
           }
 
   -- ---- where it ends
 
-  by_names : (ps : List (List ℕ)) (t : Bool) → heads_in (some (on bare (names_start names))) ps ≡ t → end_in names ps ≡ cond t (first_long ps + 1) 0
+  by_names : (ps : List (List ℕ)) (t : Bool) → heads_in (Some (on bare (names_start names))) ps ≡ t → end_in names ps ≡ cond t (first_long ps + 1) 0
   by_names [] true e = absurd (false≢true e)
   by_names [] false e = refl
   by_names (p ∷ []) true e = absurd (false≢true e)
@@ -143,8 +141,8 @@ module _ (names : List (List ℕ)) (can : can_head names ≡ true) where
   by_names (p ∷ q ∷ ps) t e = ap (λ (x : Bool). cond x (length p + 1) 0) (heads-run names can p ∙ e)
 
   module _ (text : List ℕ) (r : Result Headed Headed) (is : r ≡ compared_from header Bare 0 0 text) where
-    found : Found (some (on bare (names_start names))) 0 (split_on line_feed text) r
-    found = subst (λ (x : Result Headed Headed). Found (some (on bare (names_start names))) 0 (split_on line_feed text) x) (sym is)
+    found : Found (Some (on bare (names_start names))) 0 (split_on line_feed text) r
+    found = subst (λ (x : Result Headed Headed). Found (Some (on bare (names_start names))) 0 (split_on line_feed text) x) (sym is)
         (found_head text Bare 0 0 (omega (arith, length-append (joined comma names) (line_feed ∷ []))))
 
     ends_at : whole r ≡ true → (reached r).next ≡ end_in names (split_on line_feed text)

@@ -3,15 +3,13 @@ use Prim.Native.Nat.{ℕ, suc, ◌+◌, ◌≤◌, ◌<◌}
 use mathlib.Core.Path.{◌≡◌, refl, ap, sym, subst, ◌∙◌}
 use mathlib.Core.Bool.{Bool, true, false, cond, true≢false, false≢true}
 use mathlib.Core.List.{List, [], ◌∷◌}
-use mathlib.Core.Option as Math
-use Rattle.std.specs.Prelude.{Option, Some, None, Result, Ok, Err, is_ok}
+use Rattle.std.specs.Prelude.{Option, Some, None, Result, Ok, Err, is_ok, is_some}
 use native.Mathlib.Omega.{arith}
 use native.Mathlib.Nat.{add-zero, zero-add}
 use lib.Dec.{ltb, eqb}
 use lib.ListN.{length, drop}
 use lib.Seq.{drop-length}
 use borrow.Author.Tests.{ltb-true, ltb-false, lt-ltb, le-ltb}
-use Rattle.rules.specs.Lists.{is_some}
 use Rattle.rules.specs.Answers.{bad_header}
 use Rattle.rules.specs.Bytes.{line_feed}
 use Rattle.rules.specs.Rows.{header_of}
@@ -95,7 +93,7 @@ module _ {A O : Type 0} (c : Contents A O) (can : can_head c.names ≡ true) whe
         go : (l : Bool) → eqb b line_feed ≡ l → step (at mark k n) b ≡ state x.mark x.head (suc n)
         go false e =
             at_byte n (marked mark (name_at c.names k)) b e
-            ∙ ap (λ (y : Math.Option (Marked Named)). on_head (machine_of c) n y) (w.byte e).0
+            ∙ ap (λ (y : Option (Marked Named)). on_head (machine_of c) n y) (w.byte e).0
             ∙ sym (state_in x.mark x.head (suc n) (w.byte e).1)
         go true e =
             at-line n (marked mark (name_at c.names k)) b e
@@ -112,7 +110,7 @@ module _ {A O : Type 0} (c : Contents A O) (can : can_head c.names ≡ true) whe
         go : (l : Bool) → eqb b line_feed ≡ l → Faulty bad_header 0 (step (at mark k n) b)
         go false e =
             subst (λ (p : Reached A O). Faulty bad_header 0 p)
-            (sym (at_byte n (marked mark (name_at c.names k)) b e ∙ ap (λ (x : Math.Option (Marked Named)). on_head (machine_of c) n x) (w.byte e))) is_broken
+            (sym (at_byte n (marked mark (name_at c.names k)) b e ∙ ap (λ (x : Option (Marked Named)). on_head (machine_of c) n x) (w.byte e))) is_broken
         go true e =
             subst (λ (p : Reached A O). Faulty bad_header 0 p)
             (sym (at-line n (marked mark (name_at c.names k)) b e

@@ -2,12 +2,12 @@
 use Prim.Native.Nat.{ℕ, ◌+◌, ◌≤◌, ◌<◌}
 use mathlib.Core.Path.{◌≡◌, refl}
 use mathlib.Core.List.{List, [], ◌∷◌, ◌++◌, foldl}
-use mathlib.Core.Option.{Option, none, some}
 use native.Mathlib.Numerals.{add-one}
 use lib.ListN.{length, get_or, drop, drop_of_length-le}
 use lib.Seq.{drop-cons}
 use Rattle.rules.specs.Lists.{◌>>=◌, flat}
 use Rattle.csv_machine.specs.Fold.{fold, run}
+use Rattle.std.specs.Prelude.{Option, Some, None}
 
 -- the text that parts make, one after the other
 abbrev pub whole : List (List ℕ) → List ℕ
@@ -40,5 +40,5 @@ module _ {S : Type 0} (step : S → ℕ → Option S) where
     where
       go : (o : Option S) → ((next : S) → run step next (s ++ t) ≡ run step next s >>= (λ last. run step last t))
           → o >>= (λ next. run step next (s ++ t)) ≡ o >>= (λ next. run step next s) >>= (λ next. run step next t)
-      go none rest = refl
-      go (some next) rest = rest next
+      go None rest = refl
+      go (Some next) rest = rest next

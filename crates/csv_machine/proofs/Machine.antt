@@ -4,7 +4,6 @@ use Prim.Native.Nat.{ℕ, suc, ◌+◌, ◌≤◌}
 use mathlib.Core.Path.{◌≡◌, refl, ap, sym, ◌∙◌}
 use mathlib.Core.Bool.{Bool, true, false, cond}
 use mathlib.Core.List.{List, [], ◌∷◌, ◌++◌, foldl}
-use mathlib.Core.Option.{Option, none, some}
 use native.Mathlib.Omega.{arith}
 use native.Mathlib.Numerals.{add-one}
 use native.Mathlib.Nat.{add-zero, zero-add}
@@ -12,7 +11,8 @@ use lib.Dec.{eqb}
 use lib.ListN.{length}
 use borrow.Author.Tests.{le-leb, eq-eqb, ne_eqb}
 use Rattle.rules.specs.Limits.{most_text}
-use Rattle.rules.specs.Lists.{◌>>=◌, is_some}
+use Rattle.rules.specs.Lists.{◌>>=◌}
+use Rattle.std.specs.Prelude.{is_some, Option, Some, None}
 use Rattle.rules.specs.Answers.{refusal, bad_header, bad_row, Reading, refused, Judged, wrong, right}
 use Rattle.rules.specs.Bytes.{line_feed, less_return}
 use Rattle.rules.specs.Rows.{heads, on_row, last_line, rows_from, headed, csv_of}
@@ -49,8 +49,8 @@ module _ {A K O : Type 0} (m : Machine A K O) where
   -- ---- the open line, after bytes of its own, none of them LF
 
   abbrev pub opened : (place at : ℕ) → List A → Option O → Progress A K O
-  opened place at before none = broken bad_row place
-  opened place at before (some o) = in_row place at before o
+  opened place at before None = broken bad_row place
+  opened place at before (Some o) = in_row place at before o
 
   pub in_line : (place at : ℕ) (before : List A) (o : O) (line : List ℕ) → Unbroken line
       → fold (progress m) (in_row place at before o) line ≡ opened place (at + length line) before (run m.step o line)
@@ -60,12 +60,12 @@ module _ {A K O : Type 0} (m : Machine A K O) where
     where
       go : (r : Option O) → ((o' : O) → fold (progress m) (in_row place (suc at) before o') line ≡ opened place (suc at + length line) before (run m.step o' line))
           → fold (progress m) (on_byte m place at before r) line ≡ opened place (at + suc (length line)) before (r >>= (λ o'. run m.step o' line))
-      go none rest = broken_stays bad_row place line u.1
-      go (some o') rest = let q : suc at + length line ≡ at + suc (length line) = omega arith in rw q at (rest o')
+      go None rest = broken_stays bad_row place line u.1
+      go (Some o') rest = let q : suc at + length line ≡ at + suc (length line) = omega arith in rw q at (rest o')
 
   abbrev pub heading : (at : ℕ) → Option K → Progress A K O
-  heading at none = broken bad_header 0
-  heading at (some k) = in_header at k
+  heading at None = broken bad_header 0
+  heading at (Some k) = in_header at k
 
   pub in_header_lem : (at : ℕ) (k : K) (line : List ℕ) → Unbroken line
       → fold (progress m) (in_header at k) line ≡ heading (at + length line) (run m.head_step k line)
@@ -75,14 +75,14 @@ module _ {A K O : Type 0} (m : Machine A K O) where
     where
       go : (r : Option K) → ((k' : K) → fold (progress m) (in_header (suc at) k') line ≡ heading (suc at + length line) (run m.head_step k' line))
           → fold (progress m) (on_head m at r) line ≡ heading (at + suc (length line)) (r >>= (λ k'. run m.head_step k' line))
-      go none rest = broken_stays bad_header 0 line u.1
-      go (some k') rest = let q : suc at + length line ≡ at + suc (length line) = omega arith in rw q at (rest k')
+      go None rest = broken_stays bad_header 0 line u.1
+      go (Some k') rest = let q : suc at + length line ≡ at + suc (length line) = omega arith in rw q at (rest k')
 
   -- ---- lines
   module _ (names : List (List ℕ)) (form_of : List ℕ → Option A)
       (head_run_lem : (line : List ℕ) → Unbroken line → heads names line ≡ head_run m line)
       (form_run_lem : (line : List ℕ) → Unbroken line → form_of (less_return line) ≡ form_run m line)
-      (judge-none : (before : List A) → m.judge before none ≡ wrong bad_row) where
+      (judge-none : (before : List A) → m.judge before None ≡ wrong bad_row) where
     abbrev row_of : List A → List ℕ → Judged A
     row_of before line = m.judge before (form_of line)
 
@@ -93,8 +93,8 @@ module _ {A K O : Type 0} (m : Machine A K O) where
     last_line_lem place before (b ∷ line) = go (run m.step m.start (b ∷ line))
       where
         go : (r : Option O) → refused (refusal bad_row m.file place) ≡ finished m (opened place (place + suc (length line)) before r)
-        go none = refl
-        go (some o) = rw (ne_eqb place (place + suc (length line)) (λ q. omega arith))
+        go None = refl
+        go (Some o) = rw (ne_eqb place (place + suc (length line)) (λ q. omega arith))
 
     -- from any place on, after any rows, the machine over a text says what its lines say
     abbrev Agree : List ℕ → List (List ℕ) → Type 0
@@ -116,31 +116,31 @@ module _ {A K O : Type 0} (m : Machine A K O) where
 
         go : (o : Option O) → Agree rest (second ∷ others)
             → on_row m.file row_of place (m.judge before (o >>= m.close)) onward ≡ finished m (fold (progress m) (progress m (opened place (place + length line) before o) line_feed) rest)
-        go none on = rw (judge-none before, stopped_stays bad_row place rest)
-        go (some o) on = judged (m.judge before (m.close o)) on
+        go None on = rw (judge-none before, stopped_stays bad_row place rest)
+        go (Some o) on = judged (m.judge before (m.close o)) on
 
     -- from the first byte on
     by_lines : {s : List ℕ} {lines : List (List ℕ)} → Lines s lines → headed m.file row_of names lines ≡ finished m (fold (progress m) (begun m) s)
     by_lines (last {line} u) = rw (in_header_lem 0 m.head line u) (go (run m.head_step m.head line))
       where
         go : (r : Option K) → refused (refusal bad_header m.file 0) ≡ finished m (heading (0 + length line) r)
-        go none = refl
-        go (some k) = refl
+        go None = refl
+        go (Some k) = refl
     by_lines (more {line} {rest} {second} {others} u r) =
         rw (fold-append (progress m) (begun m) line (line_feed ∷ rest), in_header_lem 0 m.head line u, head_run_lem line u, zero-add (length line))
         (go (run m.head_step m.head line) (λ at rows. by_rows r at rows))
       where
         told : (t : Bool) → Agree rest (second ∷ others) → (k : K)
-            → cond (is_some (cond t (some k) none)) (rows_from m.file row_of (length line + 1) [] (second ∷ others)) (refused (refusal bad_header m.file 0))
+            → cond (is_some (cond t (Some k) None)) (rows_from m.file row_of (length line + 1) [] (second ∷ others)) (refused (refusal bad_header m.file 0))
             ≡ finished m (fold (progress m) (cond t (in_row (suc (length line)) (suc (length line)) [] m.start) (stopped bad_header 0)) rest)
         told true on k = rw (← add-one (length line)) (on (length line + 1) [])
         told false on k = rw (stopped_stays bad_header 0 rest)
 
         go : (k : Option K) → Agree rest (second ∷ others)
-            → cond (is_some (k >>= (λ k. cond (m.head_close k) (some k) none))) (rows_from m.file row_of (length line + 1) [] (second ∷ others)) (refused (refusal bad_header m.file 0))
+            → cond (is_some (k >>= (λ k. cond (m.head_close k) (Some k) None))) (rows_from m.file row_of (length line + 1) [] (second ∷ others)) (refused (refusal bad_header m.file 0))
             ≡ finished m (fold (progress m) (progress m (heading (length line) k) line_feed) rest)
-        go none on = rw (stopped_stays bad_header 0 rest)
-        go (some k) on = told (m.head_close k) on k
+        go None on = rw (stopped_stays bad_header 0 rest)
+        go (Some k) on = told (m.head_close k) on k
 
     -- the rows of a text, or its first fault in file order, byte by byte
     pub csv_by_bytes : (s : List ℕ) → length s ≤ most_text

@@ -3,11 +3,11 @@ use Prim.Native.Nat.{ℕ}
 use mathlib.Core.Path.{◌≡◌, refl, ap, sym, ◌∙◌}
 use mathlib.Core.Bool.{Bool, true, false, cond, ◌&&◌, true≢false, false≢true}
 use mathlib.Core.List.{List, [], ◌∷◌}
-use mathlib.Core.Option.{Option, none, some}
 use native.Mathlib.Omega.{arith}
 use lib.Dec.{eqb}
 use borrow.Author.Tests.{eqb-true, ne_eqb}
-use Rattle.rules.specs.Lists.{◌>>=◌, is_some, every, same_list, same_lists}
+use Rattle.rules.specs.Lists.{◌>>=◌, every, same_list, same_lists}
+use Rattle.std.specs.Prelude.{is_some, Option, Some, None}
 use Rattle.rules.specs.Bytes.{carriage_return, comma, split_on, joined, less_return, contents_of}
 use Rattle.rules.specs.Rows.{are_names, heads}
 use Rattle.rules.specs.Verdict.{All}
@@ -35,36 +35,36 @@ names_free sep f (name ∷ names) e = every_all (every name_byte) (Free sep) (λ
 
 -- ---- the names' machine
 
-at-comma : (o o' : Named) → name_step o comma ≡ some o' → name_begins o' ≡ true
+at-comma : (o o' : Named) → name_step o comma ≡ Some o' → name_begins o' ≡ true
 at-comma (named f []) o' e = never o' e
 at-comma (named f (c ∷ left)) o' e = go (eqb comma c) e
   where
-    go : (t : Bool) → cond t (some (named true left)) none ≡ some o' → name_begins o' ≡ true
+    go : (t : Bool) → cond t (Some (named true left)) None ≡ Some o' → name_begins o' ≡ true
     go true e = let q : named true left ≡ o' = cc in ap name_begins (sym q)
     go false e = never o' e
 
-past-byte : (o o' : Named) (b : ℕ) → (b ≡ comma → ⊥) → name_step o b ≡ some o' → name_begins o' ≡ false
+past-byte : (o o' : Named) (b : ℕ) → (b ≡ comma → ⊥) → name_step o b ≡ Some o' → name_begins o' ≡ false
 past-byte (named f []) o' b n e = never o' e
 past-byte (named f (c ∷ left)) o' b n e = go (eqb b carriage_return) (eqb b c) e
   where
-    go : (r t : Bool) → cond r none (cond t (some (named (eqb b comma) left)) none) ≡ some o' → name_begins o' ≡ false
+    go : (r t : Bool) → cond r None (cond t (Some (named (eqb b comma) left)) None) ≡ Some o' → name_begins o' ≡ false
     go true t e = never o' e
     go false true e = let q : named (eqb b comma) left ≡ o' = cc in ap name_begins (sym q) ∙ ne_eqb b comma n
     go false false e = never o' e
 
-no_return : (o : Named) → name_step o carriage_return ≡ none
+no_return : (o : Named) → name_step o carriage_return ≡ None
 no_return (named f []) = refl
 no_return (named f (c ∷ left)) = refl
 
 -- ---- the names, where no CR is among them
-names-run : (s left : List ℕ) (f : Bool) → Free carriage_return left → (run name_step (named f left) s >>= name_close) ≡ cond (same_list s left) (some []) none
+names-run : (s left : List ℕ) (f : Bool) → Free carriage_return left → (run name_step (named f left) s >>= name_close) ≡ cond (same_list s left) (Some []) None
 names-run [] [] f h = refl
 names-run [] (c ∷ left) f h = refl
 names-run (b ∷ s) [] f h = refl
 names-run (b ∷ s) (c ∷ left) f h = go (eqb b carriage_return) refl (eqb b c) refl (names-run s left (eqb b comma) h.1)
   where
-    go : (r : Bool) → eqb b carriage_return ≡ r → (t : Bool) → eqb b c ≡ t → (run name_step (named (eqb b comma) left) s >>= name_close) ≡ cond (same_list s left) (some []) none
-        → ((cond r none (cond t (some (named (eqb b comma) left)) none) >>= (λ x. run name_step x s)) >>= name_close) ≡ cond (t && same_list s left) (some []) none
+    go : (r : Bool) → eqb b carriage_return ≡ r → (t : Bool) → eqb b c ≡ t → (run name_step (named (eqb b comma) left) s >>= name_close) ≡ cond (same_list s left) (Some []) None
+        → ((cond r None (cond t (Some (named (eqb b comma) left)) None) >>= (λ x. run name_step x s)) >>= name_close) ≡ cond (t && same_list s left) (Some []) None
     go true p true q ih = absurd (h.0 (sym (eqb-true b c q) ∙ eqb-true b carriage_return p))
     go true p false q ih = refl
     go false p true q ih = ih
@@ -95,17 +95,17 @@ heads-run (n ∷ ns) e line =
     by_form (contents_of (less_return line)) ∙ ap is_some (marks_form name_step name_close name_begins at-comma past-byte no_return (names_start (n ∷ ns)) refl form form_run_lem line)
   where
     form : List (List ℕ) → Option (List ℕ)
-    form ps = cond (same_lists ps (n ∷ ns)) (some []) none
+    form ps = cond (same_lists ps (n ∷ ns)) (Some []) None
 
     form_run_lem : (p : List ℕ) (ps : List (List ℕ)) → All (Free comma) (p ∷ ps) → (run name_step (names_start (n ∷ ns)) (joined comma (p ∷ ps)) >>= name_close) ≡ form (p ∷ ps)
     form_run_lem p ps h =
         names-run (joined comma (p ∷ ps)) (joined comma (n ∷ ns)) true (joined_free comma carriage_return (n ∷ ns) (omega arith) (names_free carriage_return refl (n ∷ ns) e))
-        ∙ ap (λ (t : Bool). cond t (some []) none) (same-joined p ps n ns h (names_free comma refl (n ∷ ns) e))
+        ∙ ap (λ (t : Bool). cond t (Some []) None) (same-joined p ps n ns h (names_free comma refl (n ∷ ns) e))
 
-    when : (t : Bool) → t ≡ is_some {A = List ℕ} (cond t (some []) none)
+    when : (t : Bool) → t ≡ is_some {T = List ℕ} (cond t (Some []) None)
     when true = refl
     when false = refl
 
     by_form : (x : Option (List (List ℕ))) → are_names (n ∷ ns) x ≡ is_some (x >>= form)
-    by_form none = refl
-    by_form (some ps) = when (same_lists ps (n ∷ ns))
+    by_form None = refl
+    by_form (Some ps) = when (same_lists ps (n ∷ ns))

@@ -1,7 +1,5 @@
 -- A CSV text by the contents of its lines: what a file has of its own. Quotes and CR are the same for every file.
-use Rattle.std.specs.Prelude.{ℕ, Bool, List}
-use Rattle.std.proofs.Math.Option.{Option}
-use Rattle.rules.specs.Lists.{is_some}
+use Rattle.std.specs.Prelude.{ℕ, Bool, List, is_some, Option}
 use Rattle.rules.specs.Answers.{Judged}
 use Rattle.csv_machine.specs.Marks.{bare, Marked, on, mark_step, mark_close}
 use Rattle.csv_machine.specs.Names.{Named, name_step, name_close, name_begins, names_start}

@@ -1,6 +1,5 @@
 -- A machine that takes bytes one by one.
-use Rattle.std.specs.Prelude.{ℕ, List, [], ◌∷◌}
-use Rattle.std.proofs.Math.Option.{Option, some}
+use Rattle.std.specs.Prelude.{ℕ, List, [], ◌∷◌, Option, Some}
 use Rattle.rules.specs.Lists.{◌>>=◌}
 
 abbrev pub fold : {S : Type 0} → (S → ℕ → S) → S → List ℕ → S
@@ -9,5 +8,5 @@ fold step st (b ∷ bs) = fold step (step st b) bs
 
 -- one that may stop: nothing comes after a byte that may not stand there
 abbrev pub run : {S : Type 0} → (S → ℕ → Option S) → S → List ℕ → Option S
-run step st [] = some st
+run step st [] = Some st
 run step st (b ∷ bs) = step st b >>= (λ next. run step next bs)

@@ -1,7 +1,6 @@
 -- A CSV text byte by byte: its header, then rows; each line by a machine of its own. A line at fault is refused when it ends.
-use Rattle.std.specs.Prelude.{ℕ, suc, Bool, cond, List, [], ◌∷◌, ◌++◌, eqb}
-use Rattle.std.proofs.Math.Option.{Option, none, some}
-use Rattle.rules.specs.Lists.{◌>>=◌, is_some}
+use Rattle.std.specs.Prelude.{ℕ, suc, Bool, cond, List, [], ◌∷◌, ◌++◌, eqb, is_some, Option, Some, None}
+use Rattle.rules.specs.Lists.{◌>>=◌}
 use Rattle.rules.specs.Answers.{refusal, bad_header, bad_row, Reading, refused, good, Judged, wrong, right}
 use Rattle.rules.specs.Bytes.{line_feed}
 use Rattle.rules.specs.declared.answers.Refusal.{Refusal}
@@ -33,12 +32,12 @@ pub record Machine (A K O : Type 0) : Type 0 where
 
 module _ {A K O : Type 0} (m : Machine A K O) where
   abbrev pub on_head : (next : ℕ) → Option K → Progress A K O
-  on_head next none = broken bad_header 0
-  on_head next (some k) = in_header (suc next) k
+  on_head next None = broken bad_header 0
+  on_head next (Some k) = in_header (suc next) k
 
   abbrev pub on_byte : (place next : ℕ) → List A → Option O → Progress A K O
-  on_byte place next before none = broken bad_row place
-  on_byte place next before (some o) = in_row place (suc next) before o
+  on_byte place next before None = broken bad_row place
+  on_byte place next before (Some o) = in_row place (suc next) before o
 
   abbrev pub on_line : (place next : ℕ) → List A → Judged A → Progress A K O
   on_line place next before (wrong n) = stopped n place
@@ -64,14 +63,14 @@ module _ {A K O : Type 0} (m : Machine A K O) where
 
   -- what the lines that are over already refuse
   abbrev pub refused_so : Progress A K O → Option Refusal
-  refused_so (in_header next k) = none
-  refused_so (in_row place next before o) = none
-  refused_so (broken n place) = none
-  refused_so (stopped n place) = some (refusal n m.file place)
+  refused_so (in_header next k) = None
+  refused_so (in_row place next before o) = None
+  refused_so (broken n place) = None
+  refused_so (stopped n place) = Some (refusal n m.file place)
 
   -- a line as the machines see it
   abbrev pub head_run : List ℕ → Bool
-  head_run line = is_some (run m.head_step m.head line >>= (λ k. cond (m.head_close k) (some k) none))
+  head_run line = is_some (run m.head_step m.head line >>= (λ k. cond (m.head_close k) (Some k) None))
 
   abbrev pub form_run : List ℕ → Option A
   form_run line = run m.step m.start line >>= m.close

@@ -1,6 +1,5 @@
 -- A header's names byte by byte, with commas between: what is left of them, and whether a name begins.
-use Rattle.std.specs.Prelude.{ℕ, Bool, true, false, not, cond, ◌||◌, List, [], ◌∷◌, eqb}
-use Rattle.std.proofs.Math.Option.{Option, none, some}
+use Rattle.std.specs.Prelude.{ℕ, Bool, true, false, not, cond, ◌||◌, List, [], ◌∷◌, eqb, Option, Some, None}
 use Rattle.rules.specs.Lists.{every}
 use Rattle.rules.specs.Bytes.{line_feed, carriage_return, comma, joined}
 
@@ -16,12 +15,12 @@ pub data Named : Type 0 where
   named : (begins : Bool) (left : List ℕ) → Named
 
 abbrev pub name_step : Named → ℕ → Option Named
-name_step (named begins []) b = none
-name_step (named begins (c ∷ left)) b = cond (eqb b carriage_return) none (cond (eqb b c) (some (named (eqb b comma) left)) none)
+name_step (named begins []) b = None
+name_step (named begins (c ∷ left)) b = cond (eqb b carriage_return) None (cond (eqb b c) (Some (named (eqb b comma) left)) None)
 
 abbrev pub name_close : Named → Option (List ℕ)
-name_close (named begins []) = some []
-name_close (named begins (c ∷ left)) = none
+name_close (named begins []) = Some []
+name_close (named begins (c ∷ left)) = None
 
 abbrev pub name_begins : Named → Bool
 name_begins (named begins left) = begins

@@ -2,7 +2,6 @@
 use Prim.Native.Nat.{ℕ}
 use mathlib.Core.Path.{◌≡◌, refl, ap, sym, subst, ◌∙◌}
 use mathlib.Core.Bool.{Bool, true, false, cond, true≢false, false≢true}
-use mathlib.Core.Option.{Option, none, some}
 use lib.Dec.{eqb}
 use borrow.Author.Tests.{eqb-true}
 use Rattle.rules.specs.Bytes.{line_feed, carriage_return, quote, comma}
@@ -12,6 +11,7 @@ use Rattle.csv_marks.specs.declared.Mark.TheVariants.{Bare, Within, Behind, Retu
 use Rattle.csv_marks.specs.declared.Act.{Act}
 use Rattle.csv_marks.specs.declared.Act.TheVariants.{To, Content, Broken}
 use Rattle.csv_marks.specs.Turns.{marked, marked_step, takes, plain_in, plain_under, on_quote, on_return, on_end, on_comma, on_other, turned}
+use Rattle.std.specs.Prelude.{Option, Some, None}
 
 -- ---- the bytes that are told apart
 
@@ -37,20 +37,20 @@ kind b = go (eqb b quote) refl (eqb b carriage_return) refl (eqb b line_feed) re
 module _ {A O : Type 0} (step : O → ℕ → Option O) (close : O → Option A) (begins : O → Bool) where
   -- what a turn says of the machine at a byte
   abbrev pub Follows : Mark → O → ℕ → Act → Type 0
-  Follows mark o b (To m) = (eqb b line_feed ≡ false) × (mark_step step close begins (marked mark o) b ≡ some (marked m o))
+  Follows mark o b (To m) = (eqb b line_feed ≡ false) × (mark_step step close begins (marked mark o) b ≡ Some (marked m o))
   Follows mark o b (Content m) =
       (eqb b line_feed ≡ false → mark_step step close begins (marked mark o) b ≡ marked_step m (step o b))
       × (eqb b line_feed ≡ true → (m ≡ Bare) × (mark_close step close begins (marked mark o) ≡ close o))
   Follows mark o b Broken =
-      (eqb b line_feed ≡ false → mark_step step close begins (marked mark o) b ≡ none) × (eqb b line_feed ≡ true → mark_close step close begins (marked mark o) ≡ none)
+      (eqb b line_feed ≡ false → mark_step step close begins (marked mark o) b ≡ None) × (eqb b line_feed ≡ true → mark_close step close begins (marked mark o) ≡ None)
 
   bare_under : (x : Option O) → under step close begins bare x ≡ marked_step Bare x
-  bare_under none = refl
-  bare_under (some o) = refl
+  bare_under None = refl
+  bare_under (Some o) = refl
 
   within_under : (x : Option O) → under step close begins within x ≡ marked_step Within x
-  within_under none = refl
-  within_under (some o) = refl
+  within_under None = refl
+  within_under (Some o) = refl
 
   at-quote : (mark : Mark) (o : O) → Follows mark o quote (on_quote mark (begins o))
   at-quote Bare o = go (begins o) refl

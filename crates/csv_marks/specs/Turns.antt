@@ -1,7 +1,5 @@
 -- A mark as the code has it, and what a byte does under it.
 use Rattle.std.specs.Prelude.{ℕ, Bool, true, false, not, cond, Option, Some, None, eqb}
-use Rattle.std.proofs.Math.Option as Math
-use Rattle.std.proofs.Math.Option.{none, some}
 use Rattle.rules.specs.Bytes.{line_feed, carriage_return, quote, comma}
 use Rattle.csv_machine.specs.Marks.{bare, within, behind, Marked, on, returned}
 use Rattle.csv_marks.specs.declared.Mark.{Mark}
@@ -17,9 +15,9 @@ marked Within o = on within o
 marked Behind o = on behind o
 marked Returned o = returned o
 
-abbrev pub marked_step : {O : Type 0} → Mark → Math.Option O → Math.Option (Marked O)
-marked_step mark none = none
-marked_step mark (some o) = some (marked mark o)
+abbrev pub marked_step : {O : Type 0} → Mark → Option O → Option (Marked O)
+marked_step mark None = None
+marked_step mark (Some o) = Some (marked mark o)
 
 abbrev pub takes : Mark → Bool
 takes Bare = true

@@ -1,10 +1,9 @@
 -- The loop of the second pass: each way through its body. Assumes nothing.
-use Rattle.std.specs.Prelude.{Ok, Err}
+use Rattle.std.specs.Prelude.{Ok, Err, Option, Some, None}
 use Prim.Native.Nat.{ℕ, suc, ◌+◌, ◌*◌, ◌-◌, ◌≤◌, ◌<◌, min}
 use mathlib.Core.Path.{◌≡◌, refl, sym, ap, ap₂, subst, ◌∙◌}
 use mathlib.Core.Bool.{Bool, true, false, not, cond, ◌&&◌, ◌||◌}
 use mathlib.Core.List.{List, [], ◌∷◌, ◌++◌, map}
-use mathlib.Core.Option.{Option, none, some}
 use native.Mathlib.Omega.{arith}
 use native.Mathlib.Numerals.{add-one}
 use lib.Dec.{ltb, eqb}
@@ -40,7 +39,7 @@ use Rattle.duties.proofs.Owing.{Like, first, later, turned-at, last-at, ended_pa
 
 -- none, where its number is 0
 six_kept : (a b c d e f : Bool) → or_none (lowest (later_rule needs a ∷ stays_rule needs b ∷ together_rule needs c ∷ sequence_rule needs d ∷ meets_rule needs e ∷ texts_rule needs f ∷ [])) ≡ 0
-    → lowest (later_rule needs a ∷ stays_rule needs b ∷ together_rule needs c ∷ sequence_rule needs d ∷ meets_rule needs e ∷ texts_rule needs f ∷ []) ≡ none
+    → lowest (later_rule needs a ∷ stays_rule needs b ∷ together_rule needs c ∷ sequence_rule needs d ∷ meets_rule needs e ∷ texts_rule needs f ∷ []) ≡ None
 six_kept false b c d e f z = absurd (omega arith)
 six_kept true false c d e f z = absurd (omega arith)
 six_kept true true false d e f z = absurd (omega arith)
@@ -49,7 +48,7 @@ six_kept true true true true false f z = absurd (omega arith)
 six_kept true true true true true false z = absurd (omega arith)
 six_kept true true true true true true z = refl
 
-rule_kept : (b : Before) (e : Event) → or_none (lowest (rules b e)) ≡ 0 → lowest (rules b e) ≡ none
+rule_kept : (b : Before) (e : Event) → or_none (lowest (rules b e)) ≡ 0 → lowest (rules b e) ≡ None
 rule_kept b e z =
     six_kept
     (ltb e.start e.end)
@@ -60,9 +59,9 @@ rule_kept b e z =
     (same_list (time_text e.start) e.start_text && same_list (time_text e.end) e.end_text)
     z
 
-rule_broken : (o : Option ℕ) (r : ℕ) → r ≡ or_none o → (r ≡ 0 → ⊥) → o ≡ some r
-rule_broken none r e n = absurd (n e)
-rule_broken (some k) r e n = ap some (sym e)
+rule_broken : (o : Option ℕ) (r : ℕ) → r ≡ or_none o → (r ≡ 0 → ⊥) → o ≡ Some r
+rule_broken None r e n = absurd (n e)
+rule_broken (Some k) r e n = ap Some (sym e)
 
 -- ---- the loop's invariant: what the rows before left, and what the rows that are left will give
 
@@ -80,7 +79,7 @@ pub record Judging (text table : List ℕ) (n : ℕ) (d₀ : List ℕ) (z₀ : L
   pub duties_few : m ≤ row
   pub long_d : length d ≡ length d₀
   pub long_z : length z ≡ length z₀
-  pub owed : (k : ℕ) → k < n → get_or z k (pos 0) +ℤ balance_from prev (rest_at text place) (get_or (view text table n) k []) ≡ balance_from none (rest_at text from) (get_or (view text table n) k [])
+  pub owed : (k : ℕ) → k < n → get_or z k (pos 0) +ℤ balance_from prev (rest_at text place) (get_or (view text table n) k []) ≡ balance_from None (rest_at text from) (get_or (view text table n) k [])
   pub past : (k : ℕ) → n ≤ k → get_or z k (pos 0) ≡ get_or z₀ k (pos 0)
   pub low : (k : ℕ) → k < n → nat_abs (get_or z k (pos 0)) ≤ row * 2
 
@@ -98,14 +97,14 @@ module _ (text table : List ℕ) (n : ℕ) (d₀ : List ℕ) (z₀ : List ℤ) (
         count = refl;
         rows_at = g.rows_at;
         within = g.within;
-        prev = none;
-        like = subst (λ (x : List ℕ). Like none x) (sym (line-none text)) first;
+        prev = None;
+        like = subst (λ (x : List ℕ). Like None x) (sym (line-none text)) first;
         exact_last = subst Exact (sym (line-none text)) exact_none;
         rules_left = refl;
         duties_few = omega arith;
         long_d = refl;
         long_z = refl;
-        owed = λ k h. ap (λ (x : ℤ). x +ℤ balance_from none (rest_at text from) (get_or (view text table n) k [])) (g.zeros k h) ∙ +ℤ_idl (balance_from none (rest_at text from) (get_or (view text table n) k []));
+        owed = λ k h. ap (λ (x : ℤ). x +ℤ balance_from None (rest_at text from) (get_or (view text table n) k [])) (g.zeros k h) ∙ +ℤ_idl (balance_from None (rest_at text from) (get_or (view text table n) k []));
         past = λ k h. refl;
         low = λ k h. omega (arith, ap nat_abs (g.zeros k h));
       }
@@ -146,17 +145,17 @@ module _ (text table : List ℕ) (n : ℕ) (d₀ : List ℕ) (z₀ : List ℤ) (
         let none_left : rest_at text place ≡ [] = rest_end text place l in
         let names = view text table n in
         let long : length names ≡ n = names_long text table 0 n in
-        let wide : length (map (balance_from none es) names) ≡ n = length-map names (balance_from none es) ∙ long in
+        let wide : length (map (balance_from None es) names) ≡ n = length-map names (balance_from None es) ∙ long in
         all_kept
         (sym h.rules_left ∙ ap (broken_from row (record { seen = view text d m; last = h.prev })) none_left)
-        (over_is (pos 0) (map (balance_from none es) names) z₀ z' (omega (arith, g.places)) (ap length e ∙ ended_long text table n z B ∙ h.long_z)
+        (over_is (pos 0) (map (balance_from None es) names) z₀ z' (omega (arith, g.places)) (ap length e ∙ ended_long text table n z B ∙ h.long_z)
         (λ k w.
         let v : k < n = omega arith in
         ap (λ (x : List ℤ). get_or x k (pos 0)) e
         ∙ sym (last-at text table n h.prev B h.like z (omega (arith, g.places, h.long_z)) k v)
         ∙ ap (λ (x : List Event). get_or z k (pos 0) +ℤ balance_from h.prev x (get_or names k [])) (sym none_left)
         ∙ h.owed k v
-        ∙ sym (map_at (balance_from none es) names k (pos 0) (omega arith)))
+        ∙ sym (map_at (balance_from None es) names k (pos 0) (omega arith)))
         (λ k w. ap (λ (x : List ℤ). get_or x k (pos 0)) e ∙ ended_past text table n B z k (omega arith) ∙ h.past k (omega arith)))
 
     module _ (w : place < length text) where
@@ -210,7 +209,7 @@ module _ (text table : List ℕ) (n : ℕ) (d₀ : List ℕ) (z₀ : List ℤ) (
         lowest_like : (p : Option Event) (B : List ℕ) → Like p B → Exact B → rule_in (ltb m r.duties) B line ≡ or_none (lowest (rules (record { seen = seen; last = p }) (event_in line)))
         lowest_like p B (later k) x = rule_is seen B line (ltb m r.duties) fresh x here.range
         lowest_like p B first x =
-            rule_is seen [] line (ltb m r.duties) fresh x here.range ∙ ap or_none (alike (follows (some (event_in [])) (event_in line)) none-follows)
+            rule_is seen [] line (ltb m r.duties) fresh x here.range ∙ ap or_none (alike (follows (Some (event_in [])) (event_in line)) none-follows)
           where
             none-follows : same_list [] (content_in duty_column line) ≡ false
             none-follows = go (content_in duty_column line) here.duty
@@ -224,11 +223,11 @@ module _ (text table : List ℕ) (n : ℕ) (d₀ : List ℕ) (z₀ : List ℤ) (
                 (later_rule needs ltb (event_in line).start (event_in line).end
                 ∷ stays_rule needs (is_train (event_in line).type || same_list (event_in line).from (event_in line).to)
                 ∷ together_rule needs (b || not (any (same_list (event_in line).duty) seen))
-                ∷ sequence_rule needs eqb (event_in line).seq (cond b (seq_after (some (event_in []))) 1)
-                ∷ meets_rule needs cond b (meets (some (event_in [])) (event_in line)) true
+                ∷ sequence_rule needs eqb (event_in line).seq (cond b (seq_after (Some (event_in []))) 1)
+                ∷ meets_rule needs cond b (meets (Some (event_in [])) (event_in line)) true
                 ∷ texts_rule needs (same_list (time_text (event_in line).start) (event_in line).start_text && same_list (time_text (event_in line).end) (event_in line).end_text)
                 ∷ [])
-                ≡ lowest (rules (record { seen = seen; last = none }) (event_in line))
+                ≡ lowest (rules (record { seen = seen; last = None }) (event_in line))
             alike b e = rw e
 
         lowest_is : r.rule ≡ or_none (lowest (rules so_far (event_in line)))
@@ -241,7 +240,7 @@ module _ (text table : List ℕ) (n : ℕ) (d₀ : List ℕ) (z₀ : List ℤ) (
         judge-broken n =
             let a : row ≤ most_events = omega (arith, judge_few) in
             let b : place ≤ most_text = omega (arith, g.short) in
-            let c : lowest (rules so_far (event_in line)) ≡ some r.rule = rule_broken _ r.rule lowest_is n in
+            let c : lowest (rules so_far (event_in line)) ≡ Some r.rule = rule_broken _ r.rule lowest_is n in
             let z0 : row + 0 ≡ row = omega arith in
             let p : place_of_row text row ≡ place + 0 = ap (place_of_row text) (sym z0) ∙ h.rows_at 0 in
             one_broken {b = record { row = row; rule = r.rule; place = place }} a b
@@ -251,7 +250,7 @@ module _ (text table : List ℕ) (n : ℕ) (d₀ : List ℕ) (z₀ : List ℤ) (
         module _ (k : r.rule ≡ 0) (z' : List ℤ) (e : z' ≡ turned_in B line (view text table n) z) where
           kept : broken_from (suc row) (after so_far (event_in line)) (rest_at text (end + 1)) ≡ broken es
           kept =
-              let c : lowest (rules so_far (event_in line)) ≡ none = rule_kept so_far (event_in line) (sym lowest_is ∙ k) in
+              let c : lowest (rules so_far (event_in line)) ≡ None = rule_kept so_far (event_in line) (sym lowest_is ∙ k) in
               sym (ap (λ (o : Option ℕ). or_else row o (broken_from (suc row) (after so_far (event_in line)) (rest_at text (end + 1)))) c) ∙ one_row_lem
 
           most : r.duties ≤ m + 1
@@ -289,17 +288,17 @@ module _ (text table : List ℕ) (n : ℕ) (d₀ : List ℕ) (z₀ : List ℤ) (
                 count = omega (arith, h.count, length-append h.before (event_in line ∷ []));
                 rows_at = rows_next text row place end h.within refl here.ends h.rows_at;
                 within = omega (arith, here.ends);
-                prev = some (event_in line);
+                prev = Some (event_in line);
                 like = later long_line;
                 exact_last = exact line here.range;
                 rules_left =
-                    ap₂ (λ (j : ℕ) (s : List (List ℕ)). broken_from j (record { seen = s; last = some (event_in line) }) (rest_at text (end + 1))) (add-one row) shows
+                    ap₂ (λ (j : ℕ) (s : List (List ℕ)). broken_from j (record { seen = s; last = Some (event_in line) }) (rest_at text (end + 1))) (add-one row) shows
                     ∙ kept;
                 duties_few = omega (arith, most, h.duties_few);
                 long_d = ap length t.puts.table ∙ length-sets d (m * node_width) (seen_at seen (content_in duty_column line) (place + place_in duty_column line)) ∙ h.long_d;
                 long_z = ap length e ∙ turned_long text table n z B line ∙ h.long_z;
                 owed = λ j v.
-                    ap (λ (x : List ℤ). get_or x j (pos 0) +ℤ balance_from (some (event_in line)) (rest_at text (end + 1)) (get_or (view text table n) j [])) e
+                    ap (λ (x : List ℤ). get_or x j (pos 0) +ℤ balance_from (Some (event_in line)) (rest_at text (end + 1)) (get_or (view text table n) j [])) e
                     ∙ sym (turned-at text table n h.prev B h.like line here.duty (rest_at text (end + 1)) z (omega (arith, g.places, h.long_z)) j v)
                     ∙ ap (λ (x : List Event). get_or z j (pos 0) +ℤ balance_from h.prev x (get_or (view text table n) j [])) (sym here.rest)
                     ∙ h.owed j v;

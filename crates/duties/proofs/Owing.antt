@@ -3,7 +3,6 @@ use Prim.Native.Nat.{ℕ, zero, suc, ◌+◌, ◌-◌, ◌≤◌, ◌<◌}
 use mathlib.Core.Path.{◌≡◌, refl, sym, ap, ap₂, ◌∙◌}
 use mathlib.Core.Bool.{Bool, true, false, cond, true≢false}
 use mathlib.Core.List.{List, [], ◌∷◌, ◌++◌, map}
-use mathlib.Core.Option.{Option, none, some}
 use native.Mathlib.Omega.{arith}
 use lib.Dec.{ltb, eqb}
 use lib.ListN.{length, get_or, drop, get_or-append}
@@ -21,6 +20,7 @@ use Rattle.duties_nodes.specs.Balances.{bumped_at}
 use Rattle.duties_nodes.proofs.Walking.{names_long}
 use Rattle.duties_nodes.proofs.Bumping.{bumped_long, bumped_in, bumped-past}
 use Rattle.duties.specs.Turns.{ended_in, turned_in}
+use Rattle.std.specs.Prelude.{Option, Some, None}
 
 same_swap : (a b : List ℕ) → same_list a b ≡ same_list b a
 same_swap a b = go (same_list a b) refl (same_list b a) refl
@@ -57,8 +57,8 @@ on_front x e s true =
 -- ---- the event before, and its line
 
 pub data Like : Option Event → List ℕ → Type 0 where
-  first : Like none []
-  later : {line : List ℕ} → 1 ≤ length line → Like (some (event_in line)) line
+  first : Like None []
+  later : {line : List ℕ} → 1 ≤ length line → Like (Some (event_in line)) line
 
 pub follows_like : (p : Option Event) (before line : List ℕ) → Like p before → 1 ≤ length (content_in duty_column line) → follows_in before line ≡ follows p (event_in line)
 unfolding follows_in
@@ -116,22 +116,22 @@ module _ (text table : List ℕ) (n : ℕ) where
           go true = refl
           go false = bumped_long (content_in to_column before) (pos 1) 0 names z
 
-      pub turned-at : (k : ℕ) → k < n → get_or z k (pos 0) +ℤ balance_from p (e ∷ rest) (node k) ≡ get_or (turned_in before line names z) k (pos 0) +ℤ balance_from (some e) rest (node k)
+      pub turned-at : (k : ℕ) → k < n → get_or z k (pos 0) +ℤ balance_from p (e ∷ rest) (node k) ≡ get_or (turned_in before line names z) k (pos 0) +ℤ balance_from (Some e) rest (node k)
       unfolding turned_in
       turned-at k h = go (follows p e) (follows_like p before line like duty)
         where
           E : ℕ
-          E = times (node k) (ends_from (some e) rest)
+          E = times (node k) (ends_from (Some e) rest)
 
           S : ℕ
-          S = times (node k) (starts_from (some e) rest)
+          S = times (node k) (starts_from (Some e) rest)
 
           go : (b : Bool) → follows_in before line ≡ b
-              → get_or z k (pos 0) +ℤ (pos (times (node k) (cond b (ends_from (some e) rest) (end_of p (ends_from (some e) rest)))) -ℤ pos (times (node k) (cond b (starts_from (some e) rest) (content_in from_column line ∷ starts_from (some e) rest))))
+              → get_or z k (pos 0) +ℤ (pos (times (node k) (cond b (ends_from (Some e) rest) (end_of p (ends_from (Some e) rest)))) -ℤ pos (times (node k) (cond b (starts_from (Some e) rest) (content_in from_column line ∷ starts_from (Some e) rest))))
               ≡ get_or (cond (follows_in before line) z (bumped_at (content_in from_column line) (negsuc 0) 0 names (ended_in before names z))) k (pos 0) +ℤ (pos E -ℤ pos S)
           go true q = ap (λ (b : Bool). get_or (cond b z (bumped_at (content_in from_column line) (negsuc 0) 0 names (ended_in before names z))) k (pos 0) +ℤ (pos E -ℤ pos S)) (sym q)
           go false q =
-              ended_at z E (cond (same_list (node k) (content_in from_column line)) 1 0 + S) k h l (ends_from (some e) rest) refl
+              ended_at z E (cond (same_list (node k) (content_in from_column line)) 1 0 + S) k h l (ends_from (Some e) rest) refl
               ∙ off_front (get_or (ended_in before names z) k (pos 0)) E S (same_list (node k) (content_in from_column line))
               ∙ ap (λ (x : ℤ). x +ℤ (pos E -ℤ pos S)) (sym (bump_at (content_in from_column line) (negsuc 0) (ended_in before names z) k h (omega (arith, ended_length))))
               ∙ ap (λ (b : Bool). get_or (cond b z (bumped_at (content_in from_column line) (negsuc 0) 0 names (ended_in before names z))) k (pos 0) +ℤ (pos E -ℤ pos S)) (sym q)

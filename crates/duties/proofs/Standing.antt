@@ -3,13 +3,12 @@ use Prim.Native.Nat.{ℕ, zero, suc, ◌+◌, ◌-◌, ◌≤◌, min}
 use mathlib.Core.Path.{◌≡◌, refl, sym, ap, ◌∙◌}
 use mathlib.Core.Bool.{Bool, true, false, cond}
 use mathlib.Core.List.{List, [], ◌∷◌}
-use mathlib.Core.Option.{Option, none, some}
 use native.Mathlib.Omega.{arith}
 use lib.Dec.{leb, eqb}
 use lib.ListN.{length, take, drop, length-take, length-drop}
 use lib.Seq.{take-take, drop-drop, length-take-le}
 use borrow.Author.Tests.{leb-true, leb-false}
-use Rattle.rules.specs.Lists.{is_some}
+use Rattle.std.specs.Prelude.{is_some, Option, Some, None}
 use Rattle.rules.specs.Limits.{most_text}
 use Rattle.rules.specs.Bytes.{comma, split_on, start_of, content_of, carriage_return, less_return}
 use Rattle.text_read.specs.Places.{up_to, is_other}
@@ -52,8 +51,8 @@ module _ (line : List ℕ) (k : ℕ) (some_byte : 1 ≤ length (content_in k lin
   has = go (content_of f) some_byte
     where
       go : (o : Option (List ℕ)) → 1 ≤ length (or_empty o) → is_some o ≡ true
-      go none h = absurd (omega arith)
-      go (some c) h = refl
+      go None h = absurd (omega arith)
+      go (Some c) h = refl
 
   abbrev u : ℕ
   u = up_to comma (drop start line)

@@ -1,9 +1,8 @@
 -- Both passes together, as the entry has them. Assumes nothing.
-use Rattle.std.specs.Prelude.{Result, Ok, Err}
+use Rattle.std.specs.Prelude.{Result, Ok, Err, Some, None}
 use Prim.Native.Nat.{ℕ, ◌*◌, ◌/◌, ◌≤◌, ◌<◌, ◌^◌, min}
 use mathlib.Core.Path.{◌≡◌, refl, sym, ap, ap₂, subst, ◌∙◌}
 use mathlib.Core.List.{List, [], ◌∷◌, ◌++◌, map}
-use mathlib.Core.Option.{none, some}
 use native.Mathlib.Omega.{arith}
 use lib.ListN.{length, get_or, drop, replicate, length-map, length-replicate, get_or-replicate, get_or-append}
 use lib.IntN.{ℤ, pos}
@@ -93,19 +92,19 @@ module _ (text table : List ℕ) (n : ℕ) (z : List ℤ) (from : ℕ) (g : Whol
         where
           go : Judges text table n u from (Ok tt) z' → Judged text table n z from (Accepted n) z'
           go (all_kept a b) =
-              let same : length (map (balance_from none (rest_at text from)) (view text table n)) ≡ length (replicate n (pos 0)) =
-              length-map (view text table n) (balance_from none (rest_at text from)) ∙ names_long text table 0 n ∙ sym (length-replicate n (pos 0)) in
+              let same : length (map (balance_from None (rest_at text from)) (view text table n)) ≡ length (replicate n (pos 0)) =
+              length-map (view text table n) (balance_from None (rest_at text from)) ∙ names_long text table 0 n ∙ sym (length-replicate n (pos 0)) in
               keeps a
               (b
-              ∙ ap (over (map (balance_from none (rest_at text from)) (view text table n))) e
-              ∙ over-over (map (balance_from none (rest_at text from)) (view text table n)) (replicate n (pos 0)) z same)
+              ∙ ap (over (map (balance_from None (rest_at text from)) (view text table n))) e
+              ∙ over-over (map (balance_from None (rest_at text from)) (view text table n)) (replicate n (pos 0)) z same)
 
       module _ (b : Breach) (q : f ≡ Err b) where
-        found : (b.row ≤ most_events) × (b.place ≤ most_text) × (broken (rest_at text from) ≡ some (record { row = b.row; number = b.rule })) × (b.place ≡ place_of_row text b.row)
+        found : (b.row ≤ most_events) × (b.place ≤ most_text) × (broken (rest_at text from) ≡ Some (record { row = b.row; number = b.rule })) × (b.place ≡ place_of_row text b.row)
         found = go (rw q at j)
           where
             go : Judges text table n u from (Err b) z'
-                → (b.row ≤ most_events) × (b.place ≤ most_text) × (broken (rest_at text from) ≡ some (record { row = b.row; number = b.rule })) × (b.place ≡ place_of_row text b.row)
+                → (b.row ≤ most_events) × (b.place ≤ most_text) × (broken (rest_at text from) ≡ Some (record { row = b.row; number = b.rule })) × (b.place ≡ place_of_row text b.row)
             go (one_broken most far first there) = (most, far, first, there)
 
         -- both fit the answer
@@ -163,7 +162,7 @@ module _ (room : ℕ) (text t₀ : List ℕ) (z : List ℤ) (from : ℕ) (g : Pa
       read_told a z' (keeps k b) =
           let count : length (nodes_of all.0) ≡ n = ap length (sym read.seen) ∙ names_long text t 0 n in
           let sums : over (balances all.0) z ≡ z' =
-          ap₂ (λ (x : List Event) (y : List (List ℕ)). over (map (balance_from none x) y) z) events (sym read.seen) ∙ sym b in
+          ap₂ (λ (x : List Event) (y : List (List ℕ)). over (map (balance_from None x) y) z) events (sym read.seen) ∙ sym b in
           accepts
           (checked_good
           ∙ ap (duties_judged text t₀ z all.0) (ap broken events ∙ k)

@@ -1,6 +1,5 @@
 -- The entry: what both passes answer, and what an answer leaves in the two tables.
-use Rattle.std.specs.Prelude.{ℕ, ◌*◌, ◌≤◌, ◌≡◌, List, [], map, length, ℤ}
-use Rattle.std.proofs.Math.Option.{none, some}
+use Rattle.std.specs.Prelude.{ℕ, ◌*◌, ◌≤◌, ◌≡◌, List, [], map, length, ℤ, Some, None}
 use Rattle.rules.specs.Limits.{most_text, most_events, most_nodes, node_width, unsigned_fill, signed_fill}
 use Rattle.rules.specs.Lists.{over}
 use Rattle.rules.specs.Answers.{good, broken_rule}
@@ -29,8 +28,8 @@ pub record Whole (text table : List ℕ) (n : ℕ) (z : List ℤ) (from : ℕ) :
 
 -- the rows judged: accepted with the balances, or broken
 pub data Judged (text table : List ℕ) (n : ℕ) (z₀ : List ℤ) (from : ℕ) : Told → List ℤ → Type 0 where
-  keeps : {z : List ℤ} → broken (rest_at text from) ≡ none → z ≡ over (map (balance_from none (rest_at text from)) (view text table n)) z₀ → Judged text table n z₀ from (Accepted n) z
-  breaks : {row rule place : ℕ} {z : List ℤ} → broken (rest_at text from) ≡ some (record { row = row; number = rule }) → place ≡ place_of_row text row
+  keeps : {z : List ℤ} → broken (rest_at text from) ≡ None → z ≡ over (map (balance_from None (rest_at text from)) (view text table n)) z₀ → Judged text table n z₀ from (Accepted n) z
+  breaks : {row rule place : ℕ} {z : List ℤ} → broken (rest_at text from) ≡ Some (record { row = row; number = rule }) → place ≡ place_of_row text row
       → Judged text table n z₀ from (Broken (broken_rule row rule place)) z
 
 -- the header is passed, and so many nodes have room

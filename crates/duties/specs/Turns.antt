@@ -1,6 +1,5 @@
 -- The second pass: a line by its place, the rows that are left, and the balances after a row.
-use Rattle.std.specs.Prelude.{ℕ, ◌+◌, ◌*◌, ◌≤◌, ◌<◌, ◌≡◌, cond, List, [], ◌∷◌, map, ltb, eqb, length, get_or, take, drop, ℤ, pos, negsuc, nat_abs, Result, Ok, Err}
-use Rattle.std.proofs.Math.Option.{none, some}
+use Rattle.std.specs.Prelude.{ℕ, ◌+◌, ◌*◌, ◌≤◌, ◌<◌, ◌≡◌, cond, List, [], ◌∷◌, map, ltb, eqb, length, get_or, take, drop, ℤ, pos, negsuc, nat_abs, Result, Ok, Err, Some, None}
 use Rattle.rules.specs.Limits.{most_text, most_events, node_width}
 use Rattle.rules.specs.Lists.{over}
 use Rattle.rules.specs.Answers.{good}
@@ -64,6 +63,6 @@ pub record Starts (text table : List ℕ) (n : ℕ) (d : List ℕ) (z : List ℤ
 
 -- the answer of the second pass
 pub data Judges (text table : List ℕ) (n : ℕ) (z₀ : List ℤ) (from : ℕ) : Result Unit Breach → List ℤ → Type 0 where
-  all_kept : {z : List ℤ} → broken (rest_at text from) ≡ none → z ≡ over (map (balance_from none (rest_at text from)) (view text table n)) z₀ → Judges text table n z₀ from (Ok tt) z
-  one_broken : {b : Breach} {z : List ℤ} → b.row ≤ most_events → b.place ≤ most_text → broken (rest_at text from) ≡ some (record { row = b.row; number = b.rule })
+  all_kept : {z : List ℤ} → broken (rest_at text from) ≡ None → z ≡ over (map (balance_from None (rest_at text from)) (view text table n)) z₀ → Judges text table n z₀ from (Ok tt) z
+  one_broken : {b : Breach} {z : List ℤ} → b.row ≤ most_events → b.place ≤ most_text → broken (rest_at text from) ≡ Some (record { row = b.row; number = b.rule })
       → b.place ≡ place_of_row text b.row → Judges text table n z₀ from (Err b) z

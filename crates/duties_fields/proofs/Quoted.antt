@@ -3,13 +3,13 @@ use Prim.Native.Nat.{ℕ, suc, ◌+◌, ◌-◌, ◌≤◌, ◌<◌}
 use mathlib.Core.Path.{◌≡◌, refl, sym, ap, ap₂, ◌∙◌}
 use mathlib.Core.Bool.{Bool, true, false, not, cond, true≢false}
 use mathlib.Core.List.{List, [], ◌∷◌}
-use mathlib.Core.Option.{Option, none, some}
 use native.Mathlib.Omega.{arith}
 use lib.Dec.{leb, eqb}
 use lib.ListN.{length, take, drop, length-drop, length-take, drop_of_length-le}
 use lib.Seq.{take_all}
 use borrow.Author.Tests.{eqb-true, eqb-false, leb-true, leb-false}
-use Rattle.rules.specs.Lists.{is_some, lead}
+use Rattle.rules.specs.Lists.{lead}
+use Rattle.std.specs.Prelude.{is_some, Option, Some, None}
 use Rattle.rules.specs.Bytes.{quote, split_on, onto, between, content_of}
 use Rattle.text_read.specs.Places.{up_to, is_other}
 use Rattle.text_read.proofs.Laws.{split_more, split_last}
@@ -28,45 +28,45 @@ one_piece P sep (b ∷ s) k = go (eqb b sep) (split_on sep s)
     go false [] = k (b ∷ []) []
     go false (p ∷ ps) = k (b ∷ p) ps
 
-between_late : (b : ℕ) (p : List ℕ) (ps : List (List ℕ)) (q : List ℕ) → between ((b ∷ p) ∷ q ∷ ps) ≡ none
+between_late : (b : ℕ) (p : List ℕ) (ps : List (List ℕ)) (q : List ℕ) → between ((b ∷ p) ∷ q ∷ ps) ≡ None
 between_late b p [] q = refl
 between_late b p (r ∷ []) q = refl
 between_late b p (r ∷ x ∷ more) q = refl
 
-between_more : (q : List ℕ) (b : ℕ) (r : List ℕ) (ps : List (List ℕ)) → between ([] ∷ q ∷ (b ∷ r) ∷ ps) ≡ none
+between_more : (q : List ℕ) (b : ℕ) (r : List ℕ) (ps : List (List ℕ)) → between ([] ∷ q ∷ (b ∷ r) ∷ ps) ≡ None
 between_more q b r [] = refl
 between_more q b r (x ∷ ps) = refl
 
-between-four : (q : List ℕ) (ps : List (List ℕ)) (r : List ℕ) (x : List ℕ) → between ([] ∷ q ∷ r ∷ x ∷ ps) ≡ none
+between-four : (q : List ℕ) (ps : List (List ℕ)) (r : List ℕ) (x : List ℕ) → between ([] ∷ q ∷ r ∷ x ∷ ps) ≡ None
 between-four q ps r x = refl
 
 -- something stands behind the second quote
-behind : (q s : List ℕ) → 0 < length s → between ([] ∷ q ∷ split_on quote s) ≡ none
+behind : (q s : List ℕ) → 0 < length s → between ([] ∷ q ∷ split_on quote s) ≡ None
 behind q [] h = absurd (omega arith)
 behind q (b ∷ s) h = go (eqb b quote)
   where
-    go : (t : Bool) → between ([] ∷ q ∷ cond t ([] ∷ split_on quote s) (onto b (split_on quote s))) ≡ none
-    go true = one_piece (λ ps. between ([] ∷ q ∷ [] ∷ ps) ≡ none) quote s (λ p ps. refl)
-    go false = one_piece (λ ps. between ([] ∷ q ∷ onto b ps) ≡ none) quote s (λ p ps. between_more q b p ps)
+    go : (t : Bool) → between ([] ∷ q ∷ cond t ([] ∷ split_on quote s) (onto b (split_on quote s))) ≡ None
+    go true = one_piece (λ ps. between ([] ∷ q ∷ [] ∷ ps) ≡ None) quote s (λ p ps. refl)
+    go false = one_piece (λ ps. between ([] ∷ q ∷ onto b ps) ≡ None) quote s (λ p ps. between_more q b p ps)
 
 -- ---- no quote
 
 module _ (f : List ℕ) where
-  plain_content : length f ≤ up_to quote f → content_of f ≡ some f
+  plain_content : length f ≤ up_to quote f → content_of f ≡ Some f
   plain_content h = ap between (split_last quote f h)
 
   -- a quote that is not the first byte
-  late_content : up_to quote f < length f → (up_to quote f ≡ 0 → ⊥) → content_of f ≡ none
+  late_content : up_to quote f < length f → (up_to quote f ≡ 0 → ⊥) → content_of f ≡ None
   late_content h k = go (take (up_to quote f) f) refl
     where
       long : length (take (up_to quote f) f) ≡ up_to quote f
       long = simp length-take (omega arith)
 
-      go : (p : List ℕ) → take (up_to quote f) f ≡ p → content_of f ≡ none
+      go : (p : List ℕ) → take (up_to quote f) f ≡ p → content_of f ≡ None
       go [] e = absurd (k (sym long ∙ ap length e))
       go (b ∷ p) e =
           ap between (split_more quote f h ∙ ap (λ (x : List ℕ). x ∷ split_on quote (drop (up_to quote f + 1) f)) e)
-          ∙ one_piece (λ ps. between ((b ∷ p) ∷ ps) ≡ none) quote (drop (up_to quote f + 1) f) (λ q ps. between_late b p ps q)
+          ∙ one_piece (λ ps. between ((b ∷ p) ∷ ps) ≡ None) quote (drop (up_to quote f + 1) f) (λ q ps. between_late b p ps q)
 
 -- ---- a quote first, and then g
 
@@ -74,23 +74,23 @@ module _ (g : List ℕ) where
   opened : content_of (quote ∷ g) ≡ between ([] ∷ split_on quote g)
   opened = refl
 
-  unclosed : length g ≤ up_to quote g → content_of (quote ∷ g) ≡ none
+  unclosed : length g ≤ up_to quote g → content_of (quote ∷ g) ≡ None
   unclosed h = ap (λ (ps : List (List ℕ)). between ([] ∷ ps)) (split_last quote g h)
 
-  closed : up_to quote g + 1 ≡ length g → content_of (quote ∷ g) ≡ some (take (up_to quote g) g)
+  closed : up_to quote g + 1 ≡ length g → content_of (quote ∷ g) ≡ Some (take (up_to quote g) g)
   closed h =
       ap (λ (ps : List (List ℕ)). between ([] ∷ ps)) (split_more quote g (omega arith))
       ∙ ap (λ (s : List ℕ). between ([] ∷ take (up_to quote g) g ∷ split_on quote s)) (drop_of_length-le g {i = up_to quote g + 1} (omega arith))
 
-  followed : up_to quote g + 1 < length g → content_of (quote ∷ g) ≡ none
+  followed : up_to quote g + 1 < length g → content_of (quote ∷ g) ≡ None
   followed h =
       ap (λ (ps : List (List ℕ)). between ([] ∷ ps)) (split_more quote g (omega arith))
       ∙ behind (take (up_to quote g) g) (drop (up_to quote g + 1) g) (simp length-drop (omega arith))
 
-  shut : (up_to quote g + 1 ≡ length g → ⊥) → content_of (quote ∷ g) ≡ none
+  shut : (up_to quote g + 1 ≡ length g → ⊥) → content_of (quote ∷ g) ≡ None
   shut h = go (leb (length g) (up_to quote g)) refl
     where
-      go : (t : Bool) → leb (length g) (up_to quote g) ≡ t → content_of (quote ∷ g) ≡ none
+      go : (t : Bool) → leb (length g) (up_to quote g) ≡ t → content_of (quote ∷ g) ≡ None
       go true e = unclosed (leb-true (length g) (up_to quote g) e)
       go false e = let l : up_to quote g < length g = leb-false (length g) (up_to quote g) e in followed (ne_lt l h)
         where
@@ -178,8 +178,8 @@ module _ (f : List ℕ) (t : Bool) (p : t ≡ is_some (content_of f)) where
   content_none n = go (content_of f) (sym p ∙ n)
     where
       go : (o : Option (List ℕ)) → is_some o ≡ false → [] ≡ or_empty o
-      go none e = refl
-      go (some c) e = absurd (true≢false e)
+      go None e = refl
+      go (Some c) e = absurd (true≢false e)
 
   module _ (y : t ≡ true) (m : ℕ) (q : m ≡ quoted_by f) where
     here : Inner f m

@@ -1,15 +1,14 @@
 -- The fields of a line by their numbers, and parts of a text.
-use Rattle.std.specs.Prelude.{ℕ, ◌+◌, Bool, ◌&&◌, List, [], leb, eqb, length, take, drop}
-use Rattle.std.proofs.Math.Option.{Option, none, some}
-use Rattle.rules.specs.Lists.{is_some, every, same_list}
+use Rattle.std.specs.Prelude.{ℕ, ◌+◌, Bool, ◌&&◌, List, [], leb, eqb, length, take, drop, is_some, Option, Some, None}
+use Rattle.rules.specs.Lists.{every, same_list}
 use Rattle.rules.specs.Bytes.{comma, split_on, content_of}
 use Rattle.rules.specs.Limits.{most_time}
 use Rattle.rules.specs.Duties.{columns, field_in, time_text}
 
 -- a field's content; nothing where it has none
 abbrev pub or_empty : Option (List ℕ) → List ℕ
-or_empty none = []
-or_empty (some c) = c
+or_empty None = []
+or_empty (Some c) = c
 
 abbrev pub content_in : ℕ → List ℕ → List ℕ
 content_in k line = or_empty (content_of (field_in k line))

@@ -1,6 +1,5 @@
 // A field's content: all of it, or what stands in its pair of quotes.
-ghost use Rattle.std.specs.Prelude.{◌≡◌};
-ghost use Rattle.rules.specs.Lists.{is_some};
+ghost use Rattle.std.specs.Prelude.{◌≡◌, is_some};
 ghost use Rattle.rules.specs.Bytes.{content_of};
 ghost use Rattle.rules.specs.Duties.{quoted_by};
 ghost use Rattle.duties_fields.specs.Fields.{or_empty};

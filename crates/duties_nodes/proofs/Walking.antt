@@ -1,19 +1,18 @@
 -- The walk over the nodes, and their count with names more. Assumes nothing.
-use Rattle.std.specs.Prelude.{Option as Place, Some, None}
+use Rattle.std.specs.Prelude.{Option, Some, None, is_some}
 use Prim.Native.Nat.{ℕ, zero, suc, ◌+◌, ◌*◌, ◌-◌, ◌≤◌, ◌<◌}
 use mathlib.Core.Path.{◌≡◌, refl, sym, ap, ap₂, ◌∙◌}
 use mathlib.Core.Bool.{Bool, true, false, cond, ◌||◌}
 use mathlib.Core.List.{List, [], ◌∷◌, ◌++◌}
-use mathlib.Core.Option.{Option, none, some}
 use native.Mathlib.Omega.{arith}
 use native.Mathlib.Numerals.{add-one}
 use lib.ListN.{length, get_or, set, length-append}
 use Rattle.rules.specs.Limits.{node_width}
-use Rattle.rules.specs.Lists.{any, is_some, same_list, place_from}
+use Rattle.rules.specs.Lists.{any, same_list, place_from}
 use Rattle.rules.specs.Duties.{with_name}
 use Rattle.rules.proofs.Lists.{any-more}
 use Rattle.duties_fields.specs.Fields.{part_of}
-use Rattle.duties_nodes.specs.Nodes.{name_at, names_from, view, found, place_of, with_both, Puts}
+use Rattle.duties_nodes.specs.Nodes.{name_at, names_from, view, place_of, with_both, Puts}
 
 module _ (text table : List ℕ) where
   pub names_long : (i n : ℕ) → length (names_from text table i n) ≡ n
@@ -26,30 +25,30 @@ module _ (text table : List ℕ) where
   pub one_off : (n i : ℕ) → i < n → names_from text table i (n - i) ≡ name_at text table i ∷ names_from text table (i + 1) (n - (i + 1))
   one_off n i h = let e : n - i ≡ suc (n - (i + 1)) = omega arith in rw e
 
-  module _ (name : List ℕ) (n i : ℕ) (e : found (rest name n i) ≡ found (rest name n 0)) where
-    abbrev answer : Place ℕ
+  module _ (name : List ℕ) (n i : ℕ) (e : (rest name n i) ≡ (rest name n 0)) where
+    abbrev answer : Option ℕ
     answer = place_of name (view text table n)
 
-    all : found (rest name n 0) ≡ answer
-    all = let z : n - 0 ≡ n = omega arith in ap (λ (m : ℕ). found (place_from 0 (same_list name) (names_from text table 0 m))) z
+    all : (rest name n 0) ≡ answer
+    all = let z : n - 0 ≡ n = omega arith in ap (λ (m : ℕ). (place_from 0 (same_list name) (names_from text table 0 m))) z
 
     module _ (h : i < n) (t : Bool) (p : t ≡ same_list name (name_at text table i)) where
       pub walk_hit : t ≡ true → Some i ≡ answer
       walk_hit y =
-          let w : rest name n i ≡ some i = rw (one_off n i h, sym p ∙ y) in
-          ap found (sym w) ∙ e ∙ all
+          let w : rest name n i ≡ Some i = rw (one_off n i h, sym p ∙ y) in
+          (sym w) ∙ e ∙ all
 
-      pub walk_on : t ≡ false → found (rest name n (i + 1)) ≡ found (rest name n 0)
+      pub walk_on : t ≡ false → (rest name n (i + 1)) ≡ (rest name n 0)
       walk_on y =
           let w : rest name n i ≡ place_from (suc i) (same_list name) (names_from text table (i + 1) (n - (i + 1))) = rw (one_off n i h, sym p ∙ y) in
           let v : rest name n (i + 1) ≡ rest name n i = ap (λ (k : ℕ). place_from k (same_list name) (names_from text table (i + 1) (n - (i + 1)))) (add-one i) ∙ sym w in
-          ap found v ∙ e
+          v ∙ e
 
     pub walk_end : n ≤ i → None ≡ answer
     walk_end h =
         let z : n - i ≡ 0 = omega arith in
-        let w : rest name n i ≡ none = ap (λ (k : ℕ). place_from i (same_list name) (names_from text table i k)) z in
-        ap found (sym w) ∙ e ∙ all
+        let w : rest name n i ≡ None = ap (λ (k : ℕ). place_from i (same_list name) (names_from text table i k)) z in
+        (sym w) ∙ e ∙ all
 
 -- ---- whether a name is new
 
@@ -57,7 +56,7 @@ place_from_lem : (p : List ℕ → Bool) (i : ℕ) (N : List (List ℕ)) → any
 place_from_lem p i [] = refl
 place_from_lem p i (x ∷ N) = go (p x) (place_from_lem p (suc i) N)
   where
-    go : (t : Bool) → any p N ≡ is_some (place_from (suc i) p N) → t || any p N ≡ is_some (cond t (some i) (place_from (suc i) p N))
+    go : (t : Bool) → any p N ≡ is_some (place_from (suc i) p N) → t || any p N ≡ is_some (cond t (Some i) (place_from (suc i) p N))
     go true e = refl
     go false e = e
 
@@ -65,16 +64,16 @@ module _ (name : List ℕ) (N : List (List ℕ)) where
   known : (i : ℕ) → place_of name N ≡ Some i → any (same_list name) N ≡ true
   known i e = place_from_lem (same_list name) 0 N ∙ go (place_from 0 (same_list name) N) e
     where
-      go : (o : Option ℕ) → found o ≡ Some i → is_some o ≡ true
-      go none q = let z : ◌≡◌ {A = ℕ} 0 1 = cc in absurd (omega arith)
-      go (some j) q = refl
+      go : (o : Option ℕ) → o ≡ Some i → is_some o ≡ true
+      go None q = let z : ◌≡◌ {A = ℕ} 0 1 = cc in absurd (omega arith)
+      go (Some j) q = refl
 
   new : place_of name N ≡ None → any (same_list name) N ≡ false
   new e = place_from_lem (same_list name) 0 N ∙ go (place_from 0 (same_list name) N) e
     where
-      go : (o : Option ℕ) → found o ≡ None → is_some o ≡ false
-      go none q = refl
-      go (some j) q = let z : ◌≡◌ {A = ℕ} 0 1 = cc in absurd (omega arith)
+      go : (o : Option ℕ) → o ≡ None → is_some o ≡ false
+      go None q = refl
+      go (Some j) q = let z : ◌≡◌ {A = ℕ} 0 1 = cc in absurd (omega arith)
 
   known_same : any (same_list name) N ≡ true → with_name N name ≡ N
   known_same e = rw e
@@ -87,7 +86,7 @@ one_longer N x = length-append N (x ∷ [])
 
 -- ---- `with_both`
 
-module _ (text table : List ℕ) (n : ℕ) (from to : List ℕ) (a b : Place ℕ) (p : a ≡ place_of from (view text table n)) (q : b ≡ place_of to (view text table n)) where
+module _ (text table : List ℕ) (n : ℕ) (from to : List ℕ) (a b : Option ℕ) (p : a ≡ place_of from (view text table n)) (q : b ≡ place_of to (view text table n)) where
   abbrev N : List (List ℕ)
   N = view text table n
 
@@ -145,7 +144,7 @@ module _ (text table : List ℕ) (n : ℕ) (from to : List ℕ) (a b : Place ℕ
 
 -- ---- `put_node`
 
-module _ (text t : List ℕ) (n : ℕ) (name : List ℕ) (place : Place ℕ) (at : ℕ) (p : place ≡ place_of name (view text t n)) where
+module _ (text t : List ℕ) (n : ℕ) (name : List ℕ) (place : Option ℕ) (at : ℕ) (p : place ≡ place_of name (view text t n)) where
   stays : length (view text t n) ≡ n
   stays = names_long text t 0 n
 

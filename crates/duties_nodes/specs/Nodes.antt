@@ -1,6 +1,5 @@
 -- The nodes so far: two numbers for each, where its name stands in the text and how long it is.
-use Rattle.std.specs.Prelude.{ℕ, zero, suc, ◌+◌, ◌*◌, ◌≡◌, List, [], ◌∷◌, length, get_or, Option as Place, Some, None}
-use Rattle.std.proofs.Math.Option.{Option, none, some}
+use Rattle.std.specs.Prelude.{ℕ, zero, suc, ◌+◌, ◌*◌, ◌≡◌, List, [], ◌∷◌, length, get_or, Option}
 use Rattle.std.proofs.lemmas.List.Edits.{sets}
 use Rattle.rules.specs.Limits.{node_width}
 use Rattle.rules.specs.Lists.{same_list, place_from}
@@ -18,13 +17,8 @@ names_from text table i (suc n) = name_at text table i ∷ names_from text table
 abbrev pub view : (text table : List ℕ) → ℕ → List (List ℕ)
 view text table n = names_from text table 0 n
 
--- a place as the code tells it
-abbrev pub found : Option ℕ → Place ℕ
-found none = None
-found (some i) = Some i
-
-abbrev pub place_of : List ℕ → List (List ℕ) → Place ℕ
-place_of name nodes = found (place_from 0 (same_list name) nodes)
+abbrev pub place_of : List ℕ → List (List ℕ) → Option ℕ
+place_of name nodes = (place_from 0 (same_list name) nodes)
 
 abbrev pub with_both : List (List ℕ) → List ℕ → List ℕ → List (List ℕ)
 with_both nodes from to = with_name (with_name nodes from) to

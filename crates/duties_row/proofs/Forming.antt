@@ -3,11 +3,11 @@ use Prim.Native.Nat.{ℕ, zero, suc, ◌+◌}
 use mathlib.Core.Path.{◌≡◌, refl, sym, ap, ◌∙◌}
 use mathlib.Core.Bool.{Bool, true, false, cond, ◌&&◌}
 use mathlib.Core.List.{List, [], ◌∷◌, map}
-use mathlib.Core.Option.{Option, none, some}
 use native.Mathlib.Omega.{arith}
 use lib.Dec.{leb, ltb, eqb}
 use lib.ListN.{length, get_or}
-use Rattle.rules.specs.Lists.{◌>>=◌, each, every, is_some}
+use Rattle.rules.specs.Lists.{◌>>=◌, each, every}
+use Rattle.std.specs.Prelude.{is_some, Option, Some, None}
 use Rattle.rules.specs.Answers.{wrong, right, bad_row, out_of_range, too_many, unknown_name, no_room}
 use Rattle.rules.specs.Bytes.{comma, split_on, content_of, whole_of}
 use Rattle.rules.specs.Limits.{most_events, most_nodes}
@@ -20,15 +20,15 @@ inside f = or_empty (content_of f)
 
 -- ---- contents
 
-each-sound : (ps : List (List ℕ)) → each content_of ps ≡ cond (every sound ps) (some (map inside ps)) none
+each-sound : (ps : List (List ℕ)) → each content_of ps ≡ cond (every sound ps) (Some (map inside ps)) None
 each-sound [] = refl
 each-sound (p ∷ ps) = go (content_of p) (each content_of ps) (every sound ps) (each-sound ps)
   where
-    go : (o : Option (List ℕ)) (r : Option (List (List ℕ))) (t : Bool) → r ≡ cond t (some (map inside ps)) none
-        → (o >>= (λ y. r >>= (λ ys. some (y ∷ ys)))) ≡ cond (is_some o && t) (some (or_empty o ∷ map inside ps)) none
-    go none r t e = refl
-    go (some y) r true e = rw e
-    go (some y) r false e = rw e
+    go : (o : Option (List ℕ)) (r : Option (List (List ℕ))) (t : Bool) → r ≡ cond t (Some (map inside ps)) None
+        → (o >>= (λ y. r >>= (λ ys. Some (y ∷ ys)))) ≡ cond (is_some o && t) (Some (or_empty o ∷ map inside ps)) None
+    go None r t e = refl
+    go (Some y) r true e = rw e
+    go (Some y) r false e = rw e
 
 map_at : (ps : List (List ℕ)) (k : ℕ) → get_or (map inside ps) k [] ≡ inside (get_or ps k [])
 map_at [] zero = refl
@@ -46,7 +46,7 @@ module _ (line : List ℕ) where
   abbrev made : Option ℕ → Option ℕ → Option ℕ → Option Event
   made a b c =
       a >>= (λ seq. b >>= (λ start. c >>= (λ end.
-      some
+      Some
       (record {
         duty = content_in duty_column line;
         seq = seq;
@@ -62,10 +62,10 @@ module _ (line : List ℕ) where
       }))))
 
   ten : ten_of line (map inside (split_on comma line))
-      ≡ cond (eqb (length (split_on comma line)) columns && is_named line) (made (whole_of (content_in seq_column line)) (whole_of (content_in start_column line)) (whole_of (content_in end_column line))) none
+      ≡ cond (eqb (length (split_on comma line)) columns && is_named line) (made (whole_of (content_in seq_column line)) (whole_of (content_in start_column line)) (whole_of (content_in end_column line))) None
   ten = simp (map_at, map_long)
 
-  pub form_of_lem : form_of line ≡ cond (is_row line) (some (event_in line)) none
+  pub form_of_lem : form_of line ≡ cond (is_row line) (Some (event_in line)) None
   form_of_lem =
       ap (λ (o : Option (List (List ℕ))). o >>= ten_of line) (each-sound (split_on comma line))
       ∙ go (every sound (split_on comma line))
@@ -74,8 +74,8 @@ module _ (line : List ℕ) where
       zero_add n = omega arith
 
       fin : (l n : Bool) (a b c : Option ℕ)
-          → cond (l && n) (made a b c) none
-          ≡ cond (l && (n && (is_some a && (is_some b && is_some c)))) (some (record {
+          → cond (l && n) (made a b c) None
+          ≡ cond (l && (n && (is_some a && (is_some b && is_some c)))) (Some (record {
             duty = content_in duty_column line;
             seq = or_zero a;
             start = or_zero b;
@@ -87,21 +87,21 @@ module _ (line : List ℕ) where
             type = content_in type_column line;
             from_at = place_in from_column line;
             to_at = place_in to_column line;
-          })) none
+          })) None
       fin false n a b c = refl
       fin true false a b c = refl
-      fin true true none b c = refl
-      fin true true (some x) none c = refl
-      fin true true (some x) (some y) none = refl
-      fin true true (some x) (some y) (some z) = refl
+      fin true true None b c = refl
+      fin true true (Some x) None c = refl
+      fin true true (Some x) (Some y) None = refl
+      fin true true (Some x) (Some y) (Some z) = refl
 
-      go : (t : Bool) → (cond t (some (map inside (split_on comma line))) none >>= ten_of line)
-          ≡ cond ((t && eqb (0 + length (split_on comma line)) columns) && (is_named line && has_wholes line)) (some (event_in line)) none
+      go : (t : Bool) → (cond t (Some (map inside (split_on comma line))) None >>= ten_of line)
+          ≡ cond ((t && eqb (0 + length (split_on comma line)) columns) && (is_named line && has_wholes line)) (Some (event_in line)) None
       go false = refl
       go true =
           ten
           ∙ fin (eqb (length (split_on comma line)) columns) (is_named line) (whole_of (content_in seq_column line)) (whole_of (content_in start_column line)) (whole_of (content_in end_column line))
-          ∙ ap (λ (n : ℕ). cond (eqb n columns && (is_named line && has_wholes line)) (some (event_in line)) none) (sym (zero_add (length (split_on comma line))))
+          ∙ ap (λ (n : ℕ). cond (eqb n columns && (is_named line && has_wholes line)) (Some (event_in line)) None) (sym (zero_add (length (split_on comma line))))
 
 -- ---- the judgement: the lowest fault of the line, then of the counts
 
@@ -112,7 +112,7 @@ module _ (room : ℕ) (before : List Event) (line : List ℕ) where
   pub row_judged : row_of room before line ≡ judged_by (or_fault (line_fault line) (count_fault line (length before) after room)) (event_in line)
   row_judged = ap (judge_form room before) (form_of_lem line) ∙ go (is_row line) (in_range line) (ltb (length before) most_events && leb after most_nodes) (is_known (content_in type_column line)) (leb after room)
     where
-      go : (f r c k n : Bool) → judge_form room before (cond f (some (event_in line)) none) ≡ judged_by (or_fault (cond f (cond (in_range line) 0 out_of_range) bad_row) (count_fault line (length before) after room)) (event_in line)
+      go : (f r c k n : Bool) → judge_form room before (cond f (Some (event_in line)) None) ≡ judged_by (or_fault (cond f (cond (in_range line) 0 out_of_range) bad_row) (count_fault line (length before) after room)) (event_in line)
       go false r c k n = refl
       go true r c k n = on (in_range line) (ltb (length before) most_events && leb after most_nodes) (is_known (content_in type_column line)) (leb after room)
         where

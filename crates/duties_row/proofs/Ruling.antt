@@ -3,7 +3,6 @@ use Prim.Native.Nat.{ℕ, ◌+◌, ◌≤◌}
 use mathlib.Core.Path.{◌≡◌, refl, ap, ap₂, ◌∙◌}
 use mathlib.Core.Bool.{Bool, true, false, cond, not, ◌&&◌, ◌||◌}
 use mathlib.Core.List.{List, [], ◌∷◌}
-use mathlib.Core.Option.{Option, none, some}
 use native.Mathlib.Omega.{arith}
 use lib.Dec.{ltb, eqb}
 use borrow.Author.Tests.{leb-true}
@@ -15,6 +14,7 @@ use Rattle.rules.proofs.Truth.{and_first, and_second}
 use Rattle.duties_fields.specs.Fields.{content_in, time_is}
 use Rattle.duties_row.specs.Rowed.{value_of, held_in, is_time, in_range, event_in, or_fault}
 use Rattle.duties_row.specs.Ruled.{follows_in, later_in, stays_in, sequence_in, meets_in, texts_in, rule_in}
+use Rattle.std.specs.Prelude.{Option, Some, None}
 
 pub text_at : (n m : ℕ) (s t : List ℕ) → n ≡ m → s ≡ t → (r : Bool) → r ≡ time_is n s → r ≡ time_is m t
 text_at n m s t p q r e = e ∙ ap₂ time_is p q
@@ -22,8 +22,8 @@ text_at n m s t p q r e = e ∙ ap₂ time_is p q
 -- ---- THE LAW: within the limits it is the lowest of the definition's rules
 
 abbrev pub or_none : Option ℕ → ℕ
-or_none none = 0
-or_none (some k) = k
+or_none None = 0
+or_none (Some k) = k
 
 -- a line whose numbers are not held
 pub record Exact (line : List ℕ) : Type 0 where
@@ -61,7 +61,7 @@ six a b c d e f a' b' c' d' e' f' p q r s t u = rw (p, q, r, s, t, u) (go a' b' 
 
 module _ (seen : List (List ℕ)) (before line : List ℕ) (new : Bool) (fresh : new ≡ not (any (same_list (content_in duty_column line)) seen)) (x : Exact before) (e : in_range line ≡ true) where
   abbrev so_far : Before
-  so_far = record { seen = seen; last = some (event_in before) }
+  so_far = record { seen = seen; last = Some (event_in before) }
 
   abbrev here : Exact line
   here = exact line e

@@ -1,7 +1,5 @@
 -- A row by its line: its form, its event, its faults.
-use Rattle.std.specs.Prelude.{ℕ, suc, zero, min, Bool, cond, ◌&&◌, List, leb, ltb}
-use Rattle.std.proofs.Math.Option.{Option, none, some}
-use Rattle.rules.specs.Lists.{is_some}
+use Rattle.std.specs.Prelude.{ℕ, suc, zero, min, Bool, cond, ◌&&◌, List, leb, ltb, is_some, Option, Some, None}
 use Rattle.rules.specs.Answers.{Judged, wrong, right, bad_row, out_of_range, too_many, unknown_name, no_room}
 use Rattle.rules.specs.Bytes.{whole_of}
 use Rattle.text_read.specs.Held.{past_id}
@@ -10,8 +8,8 @@ use Rattle.rules.specs.Duties.{Event, is_name, is_course, is_known, place_in, du
 use Rattle.duties_fields.specs.Fields.{content_in, is_ten}
 
 abbrev pub or_zero : Option ℕ → ℕ
-or_zero none = 0
-or_zero (some v) = v
+or_zero None = 0
+or_zero (Some v) = v
 
 abbrev pub is_whole : List ℕ → Bool
 is_whole s = is_some (whole_of s)

@@ -7,14 +7,14 @@ ghost use Rattle.duties_row.specs.Rowed.{held_in, is_whole, value_of, is_time, h
 use duties_fields::fields;
 use rules::sizes::{Column, Event, Id};
 use text_read::numbers;
-use text_read::numbers::Whole;
+use text_read::numbers::Unread;
 
 fn is_whole(s: &[u8]) -> bool
     ensures { result ≡ is_whole s.now }
 {
     match numbers::read_whole(s) {
-        Whole::Number(_) | Whole::Beyond => true,
-        Whole::Malformed => false,
+        Ok(_) | Err(Unread::Beyond) => true,
+        Err(Unread::Malformed) => false,
     }
 }
 
@@ -23,9 +23,9 @@ fn value(s: &[u8]) -> u32
     ensures { result ≡ min (value_of s.now) past_id }
 {
     match numbers::read_whole(s) {
-        Whole::Number(v) => v,
-        Whole::Beyond => Id::MOST + 1,
-        Whole::Malformed => 0,
+        Ok(v) => v,
+        Err(Unread::Beyond) => Id::MOST + 1,
+        Err(Unread::Malformed) => 0,
     }
 }
 

@@ -4,7 +4,6 @@ use native.Mathlib.Omega.{arith}
 use mathlib.Core.Path.{◌≡◌, refl, sym, ap, ap₂, ◌∙◌}
 use mathlib.Core.Bool.{Bool, true, false, cond, ◌||◌, true≢false}
 use mathlib.Core.List.{List, [], ◌∷◌, ◌++◌}
-use mathlib.Core.Option.{Option, none, some}
 use lib.ListN.{length}
 use lib.IntN.{pos, ◌+ℤ◌, ◌-ℤ◌, neg_ℤ, neg_ℤ-+ℤ, +ℤ_invr}
 use Rattle.rules.specs.Lists.{any, same_list, sum_of}
@@ -15,6 +14,7 @@ use Rattle.rules_theorems.specs.Sized.{sum_of_z}
 use Rattle.rules_theorems.proofs.Parts.{interchange}
 use Rattle.rules_theorems.proofs.Sums.{list_add, sum-append}
 use Rattle.rules.specs.Duties.{Event, with_name, with_nodes, nodes_from, nodes_of, follows, starts_from, end_of, ends_from, times, balance_from}
+use Rattle.std.specs.Prelude.{Option, Some, None}
 
 -- ---- names
 
@@ -111,23 +111,23 @@ module _ (W : List (List ℕ)) where
   starts_among : (p : Option Event) (es : List Event) → All (λ e. Among W e.from × Among W e.to) es → All (Among W) (starts_from p es)
   starts_among p [] h = tt
   starts_among p (e ∷ es) h =
-      by_case (All (Among W)) (follows p e) (starts_from (some e) es) (e.from ∷ starts_from (some e) es)
-      (λ q. starts_among (some e) es h.1) (λ q. (h.0.0, starts_among (some e) es h.1))
+      by_case (All (Among W)) (follows p e) (starts_from (Some e) es) (e.from ∷ starts_from (Some e) es)
+      (λ q. starts_among (Some e) es h.1) (λ q. (h.0.0, starts_among (Some e) es h.1))
 
   -- the event before, where there is one
   abbrev AmongLast : Option Event → Type 0
-  AmongLast none = Unit {0}
-  AmongLast (some p) = Among W p.to
+  AmongLast None = Unit {0}
+  AmongLast (Some p) = Among W p.to
 
   end-among : (p : Option Event) → AmongLast p → (L : List (List ℕ)) → All (Among W) L → All (Among W) (end_of p L)
-  end-among none h L k = k
-  end-among (some p) h L k = (h, k)
+  end-among None h L k = k
+  end-among (Some p) h L k = (h, k)
 
   ends_among : (p : Option Event) → AmongLast p → (es : List Event) → All (λ e. Among W e.from × Among W e.to) es → All (Among W) (ends_from p es)
   ends_among p l [] h = end-among p l [] tt
   ends_among p l (e ∷ es) h =
-      by_case (All (Among W)) (follows p e) (ends_from (some e) es) (end_of p (ends_from (some e) es))
-      (λ q. ends_among (some e) h.0.1 es h.1) (λ q. end-among p l (ends_from (some e) es) (ends_among (some e) h.0.1 es h.1))
+      by_case (All (Among W)) (follows p e) (ends_from (Some e) es) (end_of p (ends_from (Some e) es))
+      (λ q. ends_among (Some e) h.0.1 es h.1) (λ q. end-among p l (ends_from (Some e) es) (ends_among (Some e) h.0.1 es h.1))
 
   -- each is counted at one node
   zeros : (N : List (List ℕ)) → sum_of (λ n. times n []) N ≡ 0
@@ -143,16 +143,16 @@ module _ (W : List (List ℕ)) where
       a ∙ omega arith
 
 -- as many duties end as start, and one more where one was open
-many_after : (p : Event) (es : List Event) → length (ends_from (some p) es) ≡ suc (length (starts_from (some p) es))
+many_after : (p : Event) (es : List Event) → length (ends_from (Some p) es) ≡ suc (length (starts_from (Some p) es))
 many_after p [] = refl
 many_after p (e ∷ es) = go (same_list p.duty e.duty) (many_after e es)
   where
-    go : (b : Bool) → length (ends_from (some e) es) ≡ suc (length (starts_from (some e) es))
-        → length (cond b (ends_from (some e) es) (p.to ∷ ends_from (some e) es)) ≡ suc (length (cond b (starts_from (some e) es) (e.from ∷ starts_from (some e) es)))
+    go : (b : Bool) → length (ends_from (Some e) es) ≡ suc (length (starts_from (Some e) es))
+        → length (cond b (ends_from (Some e) es) (p.to ∷ ends_from (Some e) es)) ≡ suc (length (cond b (starts_from (Some e) es) (e.from ∷ starts_from (Some e) es)))
     go true ih = ih
     go false ih = ap suc ih
 
-as_many : (es : List Event) → length (ends_from none es) ≡ length (starts_from none es)
+as_many : (es : List Event) → length (ends_from None es) ≡ length (starts_from None es)
 as_many [] = refl
 as_many (e ∷ es) = many_after e es
 
@@ -164,11 +164,11 @@ sub_sums f g (n ∷ N) =
     ∙ ap (λ z. pos (f n + sum_of f N) +ℤ z) (sym (neg_ℤ-+ℤ (pos (g n)) (pos (sum_of g N))))
 
 -- THE BALANCE
-pub balanced : (es : List Event) → sum_of_z (balance_from none es) (nodes_of es) ≡ pos 0
+pub balanced : (es : List Event) → sum_of_z (balance_from None es) (nodes_of es) ≡ pos 0
 balanced es =
     let W = nodes_of es in
     let once = from_once [] es (λ m e. absurd (true≢false (sym e))) in
     let rows = rows-among [] es in
-    sub_sums (λ n. times n (ends_from none es)) (λ n. times n (starts_from none es)) W
-    ∙ ap₂ (λ a b. pos a -ℤ pos b) (counted W once (ends_from none es) (ends_among W none tt es rows) ∙ as_many es) (counted W once (starts_from none es) (starts_among W none es rows))
-    ∙ +ℤ_invr (pos (length (starts_from none es)))
+    sub_sums (λ n. times n (ends_from None es)) (λ n. times n (starts_from None es)) W
+    ∙ ap₂ (λ a b. pos a -ℤ pos b) (counted W once (ends_from None es) (ends_among W None tt es rows) ∙ as_many es) (counted W once (starts_from None es) (starts_among W None es rows))
+    ∙ +ℤ_invr (pos (length (starts_from None es)))

@@ -3,7 +3,6 @@ use Prim.Native.Nat.{ℕ, suc, ◌+◌}
 use mathlib.Core.Path.{◌≡◌, refl, sym, ap, ap₂, ◌∙◌}
 use mathlib.Core.Bool.{Bool, true, false, not, cond, ◌&&◌, ◌||◌, true≢false, false≢true}
 use mathlib.Core.List.{List, [], ◌∷◌}
-use mathlib.Core.Option.{Option, none, some}
 use lib.Dec.{ltb, eqb}
 use borrow.Author.Tests.{ltb-true, lt-ltb, eqb-true, eq-eqb}
 use Rattle.rules.specs.Lists.{any, same_list}
@@ -13,14 +12,15 @@ use Rattle.rules.specs.Duties.{later_rule, stays_rule, together_rule, sequence_r
 use Rattle.rules.proofs.Truth.{and_first, and_second, missing}
 use Rattle.rules.proofs.Lists.{same_self, same_equal}
 use Rattle.duties_theorems.specs.Kept.{Keeps, AllKeep}
+use Rattle.std.specs.Prelude.{Option, Some, None}
 
 -- ---- six tests
 
-some_none : {k : ℕ} {A : Type 0} → some k ≡ none → A
+some_none : {k : ℕ} {A : Type 0} → Some k ≡ None → A
 some_none e = missing _ (sym e)
 
 six_true : (a b c d e f : Bool)
-    → lowest (later_rule needs a ∷ stays_rule needs b ∷ together_rule needs c ∷ sequence_rule needs d ∷ meets_rule needs e ∷ texts_rule needs f ∷ []) ≡ none
+    → lowest (later_rule needs a ∷ stays_rule needs b ∷ together_rule needs c ∷ sequence_rule needs d ∷ meets_rule needs e ∷ texts_rule needs f ∷ []) ≡ None
     → (a ≡ true) × (b ≡ true) × (c ≡ true) × (d ≡ true) × (e ≡ true) × (f ≡ true)
 six_true false b c d e f z = some_none z
 six_true true false c d e f z = some_none z
@@ -31,7 +31,7 @@ six_true true true true true true false z = some_none z
 six_true true true true true true true z = (refl, refl, refl, refl, refl, refl)
 
 six-none : (a b c d e f : Bool) → a ≡ true → b ≡ true → c ≡ true → d ≡ true → e ≡ true → f ≡ true
-    → lowest (later_rule needs a ∷ stays_rule needs b ∷ together_rule needs c ∷ sequence_rule needs d ∷ meets_rule needs e ∷ texts_rule needs f ∷ []) ≡ none
+    → lowest (later_rule needs a ∷ stays_rule needs b ∷ together_rule needs c ∷ sequence_rule needs d ∷ meets_rule needs e ∷ texts_rule needs f ∷ []) ≡ None
 six-none a b c d e f p q r s t u = rw (p, q, r, s, t, u)
 
 or_second : (a b : Bool) → a || b ≡ true → a ≡ false → b ≡ true
@@ -71,13 +71,13 @@ module _ (b : Before) (e : Event) where
   six = same_list (time_text e.start) e.start_text && same_list (time_text e.end) e.end_text
 
   -- the event before, where it is of the same duty
-  of_duty : (p : Event) → b.last ≡ some p → p.duty ≡ e.duty → follows b.last e ≡ true
+  of_duty : (p : Event) → b.last ≡ Some p → p.duty ≡ e.duty → follows b.last e ≡ true
   of_duty p l d = ap (λ (o : Option Event). follows o e) l ∙ same-made p.duty e.duty d
 
-  pub row_keeps : lowest (rules b e) ≡ none → Keeps b e
+  pub row_keeps : lowest (rules b e) ≡ None → Keeps b e
   row_keeps z =
       let t = six_true one two three four five six z in
-      let met : (p : Event) → b.last ≡ some p → p.duty ≡ e.duty → eqb e.start p.end && same_list p.to e.from ≡ true =
+      let met : (p : Event) → b.last ≡ Some p → p.duty ≡ e.duty → eqb e.start p.end && same_list p.to e.from ≡ true =
       λ p l d. ap (λ (o : Option Event). meets o e) (sym l) ∙ sym (ap (λ (x : Bool). cond x (meets b.last e) true) (of_duty p l d)) ∙ t.4 in
       record {
         later = ltb-true e.start e.end t.0;
@@ -93,7 +93,7 @@ module _ (b : Before) (e : Event) where
         end_text_lem = same_equal (time_text e.end) e.end_text (and_second (same_list (time_text e.start) e.start_text) (same_list (time_text e.end) e.end_text) t.5);
       }
 
-  pub keeps_none : Keeps b e → lowest (rules b e) ≡ none
+  pub keeps_none : Keeps b e → lowest (rules b e) ≡ None
   keeps_none k =
       six-none one two three four five six
       (lt-ltb e.start e.end k.later)
@@ -105,35 +105,35 @@ module _ (b : Before) (e : Event) where
     where
       sequence : (o : Option Event) → b.last ≡ o → (x : Bool) → follows b.last e ≡ x → eqb e.seq (cond x (seq_after b.last) 1) ≡ true
       sequence o l false n = eq-eqb e.seq 1 (k.begins n)
-      sequence none l true n = absurd (false≢true (ap (λ (o : Option Event). follows o e) (sym l) ∙ n))
-      sequence (some p) l true n =
+      sequence None l true n = absurd (false≢true (ap (λ (o : Option Event). follows o e) (sym l) ∙ n))
+      sequence (Some p) l true n =
           ap (λ (o : Option Event). eqb e.seq (seq_after o)) l ∙ eq-eqb e.seq (p.seq + 1) (k.goes_on p l (same_equal p.duty e.duty (ap (λ (o : Option Event). follows o e) (sym l) ∙ n)))
 
       chain : (o : Option Event) → b.last ≡ o → (x : Bool) → follows b.last e ≡ x → cond x (meets b.last e) true ≡ true
       chain o l false n = refl
-      chain none l true n = absurd (false≢true (ap (λ (o : Option Event). follows o e) (sym l) ∙ n))
-      chain (some p) l true n =
+      chain None l true n = absurd (false≢true (ap (λ (o : Option Event). follows o e) (sym l) ∙ n))
+      chain (Some p) l true n =
           let d : p.duty ≡ e.duty = same_equal p.duty e.duty (ap (λ (o : Option Event). follows o e) (sym l) ∙ n) in
           ap (λ (o : Option Event). meets o e) l ∙ ap₂ ◌&&◌ (eq-eqb e.start p.end (k.time p l d)) (same-made p.to e.from (k.node p l d))
 
 -- ---- all rows
 
-all_keep : (n : ℕ) (b : Before) (es : List Event) → broken_from n b es ≡ none → AllKeep b es
+all_keep : (n : ℕ) (b : Before) (es : List Event) → broken_from n b es ≡ None → AllKeep b es
 all_keep n b [] z = tt
 all_keep n b (e ∷ es) z = go (lowest (rules b e)) refl z (all_keep (suc n) (after b e) es)
   where
-    go : (o : Option ℕ) → lowest (rules b e) ≡ o → or_else n o (broken_from (suc n) (after b e) es) ≡ none → (broken_from (suc n) (after b e) es ≡ none → AllKeep (after b e) es)
+    go : (o : Option ℕ) → lowest (rules b e) ≡ o → or_else n o (broken_from (suc n) (after b e) es) ≡ None → (broken_from (suc n) (after b e) es ≡ None → AllKeep (after b e) es)
         → Keeps b e × AllKeep (after b e) es
-    go none l z ih = (row_keeps b e l, ih z)
-    go (some k) l z ih = missing _ (sym z)
+    go None l z ih = (row_keeps b e l, ih z)
+    go (Some k) l z ih = missing _ (sym z)
 
-none-broken : (n : ℕ) (b : Before) (es : List Event) → AllKeep b es → broken_from n b es ≡ none
+none-broken : (n : ℕ) (b : Before) (es : List Event) → AllKeep b es → broken_from n b es ≡ None
 none-broken n b [] k = refl
 none-broken n b (e ∷ es) k = ap (λ (o : Option ℕ). or_else n o (broken_from (suc n) (after b e) es)) (keeps_none b e k.0) ∙ none-broken (suc n) (after b e) es k.1
 
 -- THE RULES
-pub broken-none : (es : List Event) → broken es ≡ none → AllKeep nothing_before es
+pub broken-none : (es : List Event) → broken es ≡ None → AllKeep nothing_before es
 broken-none = all_keep 0 nothing_before
 
-pub kept_none : (es : List Event) → AllKeep nothing_before es → broken es ≡ none
+pub kept_none : (es : List Event) → AllKeep nothing_before es → broken es ≡ None
 kept_none = none-broken 0 nothing_before

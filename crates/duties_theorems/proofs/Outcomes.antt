@@ -3,7 +3,6 @@ use Prim.Native.Nat.{ℕ, ◌/◌, min}
 use mathlib.Core.Path.{◌≡◌, refl, sym, ap, ap₂, ◌∙◌}
 use mathlib.Core.List.{List, [], ◌∷◌, map}
 use mathlib.Core.Logic.{◌↔◌}
-use mathlib.Core.Option.{Option, none, some}
 use native.Mathlib.Omega.{arith}
 use lib.ListN.{length, take, drop, length-map}
 use lib.Seq.{take-append_seam}
@@ -21,6 +20,7 @@ use Rattle.duties_theorems.specs.Kept.{AllKeep}
 use Rattle.duties_theorems.specs.Outcomes.{Outcome}
 use Rattle.duties_theorems.proofs.Balance.{balanced}
 use Rattle.duties_theorems.proofs.Keeping.{broken-none, kept_none}
+use Rattle.std.specs.Prelude.{Option, Some, None}
 
 -- ---- an answer is one of three, and they differ
 
@@ -44,14 +44,14 @@ module _ (text t : List ℕ) (z : List ℤ) where
   judged_answer t' z' (good es) = go (broken es)
     where
       go : (f : Option RowFault) → (duties_judged text t z es f).answer ≡ (duties_judged text t' z' es f).answer
-      go none = refl
-      go (some f) = refl
+      go None = refl
+      go (Some f) = refl
 
   -- accepted: all rows are read, and none breaks a rule
   record Taken (n : ℕ) : Type 0 where
     rows : List Event
     read : events ≡ good rows
-    kept : broken rows ≡ none
+    kept : broken rows ≡ None
     count : length (nodes_of rows) ≡ n
 
   taken : (n : ℕ) → (duties_checked text t z).answer ≡ Accepted n → Taken n
@@ -59,14 +59,14 @@ module _ (text t : List ℕ) (z : List ℤ) where
   taken n e = go events refl e
     where
       on : (es : List Event) → events ≡ good es → (f : Option RowFault) → broken es ≡ f → (duties_judged text t z es f).answer ≡ Accepted n → Taken n
-      on es r none k e = record { rows = es; read = r; kept = k; count = cc }
-      on es r (some f) k e = broken-not_accepted e
+      on es r None k e = record { rows = es; read = r; kept = k; count = cc }
+      on es r (Some f) k e = broken-not_accepted e
 
       go : (r : Reading (List Event)) → events ≡ r → (duties_from text t z r).answer ≡ Accepted n → Taken n
       go (refused r) q e = refused_not_accepted e
       go (good es) q e = on es q (broken es) refl e
 
-  from_rows : (es : List Event) → events ≡ good es → broken es ≡ none → duties_checked text t z ≡ duties_judged text t z es none
+  from_rows : (es : List Event) → events ≡ good es → broken es ≡ None → duties_checked text t z ≡ duties_judged text t z es None
   unfolding duties_checked
   from_rows es r k = ap (duties_from text t z) r ∙ ap (duties_judged text t z es) k
 
@@ -92,10 +92,10 @@ module _ (text t : List ℕ) (z : List ℤ) where
       let w = taken n e in
       let es = w.rows in
       let b : (duties_checked text t z).balance ≡ over (balances es) z = ap (λ (x : DutiesChecked). x.balance) (from_rows es w.read w.kept) in
-      let l : n ≡ length (balances es) = sym w.count ∙ sym (length-map (nodes_of es) (balance_from none es)) in
+      let l : n ≡ length (balances es) = sym w.count ∙ sym (length-map (nodes_of es) (balance_from None es)) in
       ap₂ (λ (k : ℕ) (x : List ℤ). sum_of_z (λ y. y) (take k x)) l b
       ∙ ap (sum_of_z (λ y. y)) (front (balances es))
-      ∙ sum-map (balance_from none es) (nodes_of es)
+      ∙ sum-map (balance_from None es) (nodes_of es)
       ∙ balanced es
 
   -- all but acceptance fills both
@@ -105,8 +105,8 @@ module _ (text t : List ℕ) (z : List ℤ) where
     where
       on : (es : List Event) (f : Option RowFault) → (IsAccepted (duties_judged text t z es f).answer → ⊥)
           → ((duties_judged text t z es f).nodes ≡ filled unsigned_fill t) × ((duties_judged text t z es f).balance ≡ filled signed_fill z)
-      on es none n = absurd (n (length (nodes_of es), refl))
-      on es (some f) n = (refl, refl)
+      on es None n = absurd (n (length (nodes_of es), refl))
+      on es (Some f) n = (refl, refl)
 
       go : (r : Reading (List Event)) → (IsAccepted (duties_from text t z r).answer → ⊥)
           → ((duties_from text t z r).nodes ≡ filled unsigned_fill t) × ((duties_from text t z r).balance ≡ filled signed_fill z)

@@ -3,7 +3,6 @@ use Prim.Native.Nat.{ℕ, ◌+◌}
 use mathlib.Core.Path.{◌≡◌, refl, sym, ap, ◌∙◌}
 use mathlib.Core.Bool.{Bool, true, false, cond, ◌&&◌}
 use mathlib.Core.List.{List, [], ◌∷◌, ◌++◌}
-use mathlib.Core.Option.{Option, none, some}
 use native.Mathlib.Omega.{arith}
 use lib.Dec.{leb, ltb, eqb}
 use lib.ListN.{length}
@@ -18,6 +17,7 @@ use Rattle.rules.specs.declared.answers.Refusal.{Refusal}
 use Rattle.rules.specs.declared.answers.Told.TheVariants.{Refused}
 use Rattle.duties_theorems.specs.Refusals.{numbers, OfDuties}
 use Rattle.duties_theorems.specs.Outcomes.{Outcome}
+use Rattle.std.specs.Prelude.{Option, Some, None}
 
 by : (k n : ℕ) → any (eqb k) numbers ≡ true → ◌≡◌ {A = Judged Event} (wrong k) (wrong n) → any (eqb n) numbers ≡ true
 by k n h e = let q : k ≡ n = cc in ap (λ (x : ℕ). any (eqb x) numbers) (sym q) ∙ h
@@ -28,8 +28,8 @@ not_right q = let z : ◌≡◌ {A = ℕ} 0 1 = cc in absurd (omega arith)
 module _ (room : ℕ) where
   -- a row's
   row_number : (before : List Event) (o : Option Event) (n : ℕ) → judge_form room before o ≡ wrong n → any (eqb n) numbers ≡ true
-  row_number before none n q = by bad_row n refl q
-  row_number before (some e) n q =
+  row_number before None n q = by bad_row n refl q
+  row_number before (Some e) n q =
       tests
       (leb e.seq most_time && (leb e.start most_time && leb e.end most_time))
       (ltb (length before) most_events && leb (length (with_nodes (nodes_of before) e)) most_nodes)
@@ -81,8 +81,8 @@ unfolding duties_checked
 checked_refused text t z r e = go (events_of (node_room text t z) text) (events_fine (node_room text t z) text) e
   where
     on : (es : List Event) (f : Option RowFault) → (duties_judged text t z es f).answer ≡ Refused r → OfDuties r
-    on es none e = let w : ◌≡◌ {A = ℕ} 0 1 = cc in absurd (omega arith)
-    on es (some f) e = let w : ◌≡◌ {A = ℕ} 0 1 = cc in absurd (omega arith)
+    on es None e = let w : ◌≡◌ {A = ℕ} 0 1 = cc in absurd (omega arith)
+    on es (Some f) e = let w : ◌≡◌ {A = ℕ} 0 1 = cc in absurd (omega arith)
 
     go : (x : Reading (List Event)) → Fine (node_room text t z) x → (duties_from text t z x).answer ≡ Refused r → OfDuties r
     go (refused q) h e = let w : q ≡ r = cc in record { file = ap (λ (x : Refusal). x.file) (sym w) ∙ h.file; number = ap (λ (x : Refusal). any (eqb x.number) numbers) (sym w) ∙ h.number }

@@ -4,9 +4,8 @@ use native.Mathlib.Omega.{arith}
 use mathlib.Core.Path.{◌≡◌, refl, sym, ap, ap₂, ◌∙◌, subst}
 use mathlib.Core.Bool.{true, false, true≢false}
 use mathlib.Core.List.{List}
-use mathlib.Core.Option.{some}
 use lib.ListN.{set}
-use Rattle.std.specs.Prelude.{Option as StdOption, Some, None}
+use Rattle.std.specs.Prelude.{Option, Some, None}
 use Rattle.rules.specs.Limits.{most_listed}
 use Rattle.rules.specs.Earliest.{soonest}
 use Rattle.rules.specs.declared.sizes.Configuration.{Configuration}
@@ -26,7 +25,7 @@ module _ (legs configurations : List ℕ) (row by : ℕ) (k : Raisable legs conf
   pub least_fits : x.departure + by < 2 ^ 32
   least_fits = rw present_is k.early
 
-  module _ (r : StdOption ℕ) (s : Sought configurations leg x.travel (x.departure + by) r) where
+  module _ (r : Option ℕ) (s : Sought configurations leg x.travel (x.departure + by) r) where
     found_is : soonest (x.departure + by) (timed_part configurations x.travel leg) ≡ next_of legs configurations row by
     found_is = ap₂ (λ (y : Configuration) (l : Leg). soonest (y.departure + by) (timed_part configurations y.travel l)) present_is el
 
@@ -54,7 +53,7 @@ module _ (legs configurations : List ℕ) (row by : ℕ) (k : Raisable legs conf
                 record {
                   place = place;
                   listed = subst (λ (l : Leg). place < l.count) el (s.found place e).0;
-                  next = sym found_is ∙ (s.found place e).1 ∙ ap (λ (l : Leg). some (offer_at configurations l place)) el;
+                  next = sym found_is ∙ (s.found place e).1 ∙ ap (λ (l : Leg). Some (offer_at configurations l place)) el;
                   stores = q ∙ ap (λ (l : Leg). set legs (last_at row) (packed (l.nominal % most_listed) place)) el;
                 };
           }

@@ -5,7 +5,6 @@ use mathlib.Core.Path.{◌≡◌, refl, sym, ap, ap₂, ◌∙◌}
 use mathlib.Core.Logic.{◌≢◌}
 use mathlib.Core.Bool.{Bool, true, false, cond, true≢false}
 use mathlib.Core.List.{List, ◌∷◌}
-use mathlib.Core.Option.{Option, none, some}
 use lib.Dec.{leb}
 use lib.ListN.{drop}
 use borrow.Author.Tests.{eq-eqb, ne_eqb, le-leb, lt-leb, leb-true}
@@ -15,7 +14,7 @@ use Rattle.rules.specs.declared.sizes.Configuration.{Configuration}
 use Rattle.rules.specs.declared.sizes.Leg.{Leg}
 use Rattle.tables_views.specs.View.{configuration_at}
 use Rattle.tables_views.proofs.Tabulated.{tabulate_from, tabulate-past}
-use Rattle.std.specs.Prelude.{Option as StdOption, Some, None, IsTrue, MatchOption, ◌↔◌}
+use Rattle.std.specs.Prelude.{Option, Some, None, IsTrue, MatchOption, ◌↔◌}
 use Rattle.earliest_offer.specs.declared.Best.{Best}
 use Rattle.earliest_offer.specs.Offer.{Sought}
 
@@ -27,10 +26,10 @@ module _ (table : List ℕ) (first count travel least : ℕ) where
   abbrev pub best_from : ℕ → Option Configuration
   best_from j = soonest least (timed_of travel (drop j (tabulate count at)))
 
-  pub record Seeking (best : StdOption Best) (j : ℕ) : Type 0 where
+  pub record Seeking (best : Option Best) (j : ℕ) : Type 0 where
     pub within : j ≤ count
-    pub found : (b : Best) → best ≡ Some b → (b.place < count) × (best_from j ≡ some (at b.place)) × (b.departure ≡ (at b.place).departure)
-    pub missing : best ≡ None → best_from j ≡ none
+    pub found : (b : Best) → best ≡ Some b → (b.place < count) × (best_from j ≡ Some (at b.place)) × (b.departure ≡ (at b.place).departure)
+    pub missing : best ≡ None → best_from j ≡ None
 
   pub seeking_begins : Seeking None count
   seeking_begins =
@@ -40,7 +39,7 @@ module _ (table : List ℕ) (first count travel least : ℕ) where
         missing = λ e. ap (λ l. soonest least (timed_of travel l)) (tabulate-past count at count (omega arith));
       }
 
-  module _ (best : StdOption Best) (j : ℕ) (s : Seeking best j) (h : 0 < j) (x : Configuration) (ex : x ≡ at (j - 1)) where
+  module _ (best : Option Best) (j : ℕ) (s : Seeking best j) (h : 0 < j) (x : Configuration) (ex : x ≡ at (j - 1)) where
     -- the offer before those looked at
     next : best_from (j - 1) ≡ soonest least (timed_of travel (x ∷ drop j (tabulate count at)))
     next =
@@ -70,13 +69,13 @@ module _ (table : List ℕ) (first count travel least : ℕ) where
         taken : best_from (j - 1) ≡ sooner_than x (best_from j)
         taken = here ∙ ap (λ b. cond b (sooner_than x (best_from j)) (best_from j)) (le-leb least x.departure k)
 
-        mine : best_from (j - 1) ≡ some x → Seeking (Some (record { place = j - 1; departure = x.departure })) (j - 1)
+        mine : best_from (j - 1) ≡ Some x → Seeking (Some (record { place = j - 1; departure = x.departure })) (j - 1)
         mine e =
             record {
               within = omega (arith, s.within);
               found = λ b q.
                   let one : record { place = j - 1; departure = x.departure } ≡ b = cc in
-                  rw (← one) (omega (arith, s.within), e ∙ ap some ex, ap (λ (y : Configuration). y.departure) ex);
+                  rw (← one) (omega (arith, s.within), e ∙ ap Some ex, ap (λ (y : Configuration). y.departure) ex);
               missing = λ q. (cc);
             }
 
@@ -85,29 +84,29 @@ module _ (table : List ℕ) (first count travel least : ℕ) where
           pub sooner-found : b ≡ true → Seeking (Some (record { place = j - 1; departure = x.departure })) (j - 1)
           sooner-found q = go best refl sooner
             where
-              go : (o : StdOption Best) → best ≡ o → MatchOption o (IsTrue b) (λ a. IsTrue b ↔ (x.departure ≤ a.departure))
+              go : (o : Option Best) → best ≡ o → MatchOption o (IsTrue b) (λ a. IsTrue b ↔ (x.departure ≤ a.departure))
                   → Seeking (Some (record { place = j - 1; departure = x.departure })) (j - 1)
               go None e k = mine (taken ∙ ap (sooner_than x) (s.missing e))
               go (Some a) e k =
                   let f = s.found a e in
-                  mine (taken ∙ ap (sooner_than x) f.1 ∙ ap (λ t. some (cond t x (at a.place))) (le-leb x.departure (at a.place).departure (rw (← f.2) (k.0 q))))
+                  mine (taken ∙ ap (sooner_than x) f.1 ∙ ap (λ t. Some (cond t x (at a.place))) (le-leb x.departure (at a.place).departure (rw (← f.2) (k.0 q))))
 
           pub later-passed : b ≡ false → Seeking best (j - 1)
           later-passed q = go best refl sooner
             where
-              go : (o : StdOption Best) → best ≡ o → MatchOption o (IsTrue b) (λ a. IsTrue b ↔ (x.departure ≤ a.departure)) → Seeking best (j - 1)
+              go : (o : Option Best) → best ≡ o → MatchOption o (IsTrue b) (λ a. IsTrue b ↔ (x.departure ≤ a.departure)) → Seeking best (j - 1)
               go None e k = absurd (true≢false (sym k ∙ q))
               go (Some a) e k =
                   let f = s.found a e in
                   let later : leb x.departure (at a.place).departure ≡ false = rw (← f.2) (not_soon (leb x.departure a.departure) refl) in
-                  same (taken ∙ ap (sooner_than x) f.1 ∙ ap (λ t. some (cond t x (at a.place))) later ∙ sym f.1)
+                  same (taken ∙ ap (sooner_than x) f.1 ∙ ap (λ t. Some (cond t x (at a.place))) later ∙ sym f.1)
                 where
                   not_soon : (t : Bool) → leb x.departure a.departure ≡ t → leb x.departure a.departure ≡ false
                   not_soon false z = z
                   not_soon true z = absurd (true≢false (sym (k.1 (leb-true x.departure a.departure z)) ∙ q))
 
 -- all of them looked at
-module _ (table : List ℕ) (leg : Leg) (travel least : ℕ) (best : StdOption Best) (j : ℕ) (s : Seeking table leg.first leg.count travel least best j) (h : j ≤ 0) where
+module _ (table : List ℕ) (leg : Leg) (travel least : ℕ) (best : Option Best) (j : ℕ) (s : Seeking table leg.first leg.count travel least best j) (h : j ≤ 0) where
   whole : best_from table leg.first leg.count travel least j ≡ best_from table leg.first leg.count travel least 0
   whole = let e : j ≡ 0 = omega arith in ap (best_from table leg.first leg.count travel least) e
 

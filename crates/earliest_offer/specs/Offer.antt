@@ -1,6 +1,5 @@
 -- The offers of a leg in the tables, and the choice that stands beside its nominal.
-use Rattle.std.specs.Prelude.{ℕ, ◌+◌, ◌*◌, ◌/◌, ◌%◌, ◌≤◌, ◌<◌, ◌^◌, ◌≡◌, Bool, true, false, Option as StdOption, Some, None, List, length, set}
-use Rattle.std.proofs.Math.Option.{Option, none, some}
+use Rattle.std.specs.Prelude.{ℕ, ◌+◌, ◌*◌, ◌/◌, ◌%◌, ◌≤◌, ◌<◌, ◌^◌, ◌≡◌, Bool, true, false, Option, Some, None, List, length, set}
 use Rattle.rules.specs.Limits.{leg_width, most_listed}
 use Rattle.rules.specs.Earliest.{timed_of, soonest}
 use Rattle.rules.specs.declared.sizes.Configuration.{Configuration}
@@ -18,9 +17,9 @@ abbrev pub timed_part : (configurations : List ℕ) → (travel : ℕ) → Leg �
 timed_part configurations travel l = timed_of travel (part_of (configuration_at configurations) l)
 
 -- the place of the soonest of them at a second or after it, where there is one
-pub record Sought (configurations : List ℕ) (l : Leg) (travel least : ℕ) (r : StdOption ℕ) : Type 0 where
-  pub found : (j : ℕ) → r ≡ Some j → (j < l.count) × (soonest least (timed_part configurations travel l) ≡ some (offer_at configurations l j))
-  pub missing : r ≡ None → soonest least (timed_part configurations travel l) ≡ none
+pub record Sought (configurations : List ℕ) (l : Leg) (travel least : ℕ) (r : Option ℕ) : Type 0 where
+  pub found : (j : ℕ) → r ≡ Some j → (j < l.count) × (soonest least (timed_part configurations travel l) ≡ Some (offer_at configurations l j))
+  pub missing : r ≡ None → soonest least (timed_part configurations travel l) ≡ None
 
 -- ---- the choice: where a leg's last number stands, which is its nominal's place below the number of places there are, and the choice's above it
 
@@ -51,9 +50,9 @@ pub record Raisable (legs configurations : List ℕ) (row by : ℕ) : Type 0 whe
 pub record Stored (legs configurations : List ℕ) (row by : ℕ) (legs' : List ℕ) : Type 0 where
   pub place : ℕ
   pub listed : place < (leg_at legs row).count
-  pub next : next_of legs configurations row by ≡ some (offer_at configurations (leg_at legs row) place)
+  pub next : next_of legs configurations row by ≡ Some (offer_at configurations (leg_at legs row) place)
   pub stores : legs' ≡ set legs (last_at row) (packed ((leg_at legs row).nominal % most_listed) place)
 
 pub record Raised (legs configurations : List ℕ) (row by : ℕ) (r : Bool) (legs' : List ℕ) : Type 0 where
-  pub none_left : r ≡ false → (next_of legs configurations row by ≡ none) × (legs' ≡ legs)
+  pub none_left : r ≡ false → (next_of legs configurations row by ≡ None) × (legs' ≡ legs)
   pub one_left : r ≡ true → Stored legs configurations row by legs'

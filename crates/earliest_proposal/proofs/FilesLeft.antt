@@ -4,7 +4,6 @@ use native.Mathlib.Omega.{arith}
 use native.Mathlib.Nat.{zero-add}
 use mathlib.Core.Path.{◌≡◌, refl, sym, ap, ap₂, ◌∙◌, subst}
 use mathlib.Core.List.{List, [], ◌∷◌}
-use mathlib.Core.Option.{some}
 use lib.Dec.{T}
 use lib.ListN.{length, get_or}
 use Rattle.rules.specs.Limits.{leg_width, most_listed, constraint_width, track_width}
@@ -43,12 +42,13 @@ use Rattle.earliest_theorems.proofs.OfFiles.{files_named}
 use Rattle.earliest_search.specs.Searching.{timed_at, timed_in, Based}
 use Rattle.earliest_search.proofs.Moving.{tabulate_within, every_tabulated}
 use Rattle.earliest_search.specs.Starting.{Nominal, Readable}
+use Rattle.std.specs.Prelude.{Some}
 
 -- a nominal that is listed has its place within the list
 place_within : (r : Row) → T (offers r.list r.nominal) → nominal_place r < length r.list
 place_within r h = settle (place_found no_choice 0 (same r.nominal) r.list h)
   where
-    settle : (i : ℕ) × (first_place (same r.nominal) r.list ≡ some (0 + i)) × (i < length r.list) × T (same r.nominal (get_or r.list i no_choice)) → nominal_place r < length r.list
+    settle : (i : ℕ) × (first_place (same r.nominal) r.list ≡ Some (0 + i)) × (i < length r.list) × T (same r.nominal (get_or r.list i no_choice)) → nominal_place r < length r.list
     settle k = rw (k.1, zero-add k.0) k.2
 
 legs_nominal : (H first : ℕ) (rows : List Row) → All (KeptRow H) rows → All Nominal (legs_from first rows)

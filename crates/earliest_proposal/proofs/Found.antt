@@ -4,7 +4,6 @@ use native.Mathlib.Omega.{arith}
 use mathlib.Core.Path.{◌≡◌, sym, ap, ◌∙◌, subst}
 use mathlib.Core.Bool.{Bool}
 use mathlib.Core.List.{List}
-use mathlib.Core.Option.{none, some}
 use lib.ListN.{length, get_or}
 use Rattle.rules.specs.Limits.{most_listed}
 use Rattle.rules.specs.Constraints.{ordered}
@@ -23,6 +22,7 @@ use Rattle.earliest_search.specs.Starting.{Readable, Begun}
 use Rattle.earliest_proposal.specs.Left.{Left, earliest_of}
 use Rattle.earliest_proposal.specs.Proposal.{FoundOf, Finds}
 use Rattle.earliest_proposal.proofs.FilesLeft.{records_seen, files_readable, files_based, timed_seen}
+use Rattle.std.specs.Prelude.{Some, None}
 
 module _ (n m : ℕ) (legs configurations constraints : List ℕ) (k : Left n m legs configurations constraints) where
   carry : (P : ℕ → ℕ → List ℕ → List ℕ → List ℕ → Type 0)
@@ -56,7 +56,7 @@ module _ (n m : ℕ) (legs configurations constraints : List ℕ) (k : Left n m 
     begun_moved : Moved n legs legs₁
     begun_moved = record { long = b.long; same = b.same; places = λ i l. b.places i l ∙ sym (nominal_small i l) }
 
-    soonest-row : (i : ℕ) → i < n → soonest 0 (timed_at legs configurations i) ≡ some (chosen_at legs₁ configurations i)
+    soonest-row : (i : ℕ) → i < n → soonest 0 (timed_at legs configurations i) ≡ Some (chosen_at legs₁ configurations i)
     soonest-row i l =
         ap (λ (p : ℕ). soonest 0 (timed_of (configuration_at configurations ((leg_at legs i).first + p)).travel (list_in legs configurations i))) (nominal_small i l) ∙ b.soonests i l
 
@@ -71,7 +71,7 @@ module _ (n m : ℕ) (legs configurations constraints : List ℕ) (k : Left n m 
         }
 
     module _ (r : Bool) (legs' : List ℕ) (s : Sorted n m legs₁ configurations constraints r legs') where
-      found_is : Settled n m legs₁ configurations constraints legs' → (earliest_of k.files ≡ some (chosen_in n legs' configurations)) × Moved n legs legs'
+      found_is : Settled n m legs₁ configurations constraints legs' → (earliest_of k.files ≡ Some (chosen_in n legs' configurations)) × Moved n legs legs'
       found_is z =
           let mv = moved_then n legs legs₁ legs' begun_moved z.moved in
           let os : timed_in n legs' configurations ≡ timed_rows k.files.rows = timed_in_stays n legs legs' mv configurations ∙ left-timed in (
@@ -82,7 +82,7 @@ module _ (n m : ℕ) (legs configurations constraints : List ℕ) (k : Left n m 
             mv,
           )
 
-      none_is : NoSolution n m legs₁ configurations constraints → earliest_of k.files ≡ none
+      none_is : NoSolution n m legs₁ configurations constraints → earliest_of k.files ≡ None
       none_is h =
           never_none k.files.rows (ordered k.files.document.constraints) (files_named k.stated k.texts (rooms_of k.lent) k.files k.read)
           (subst (λ o. (y : List Configuration) → Acceptable o (ordered k.files.document.constraints) y → ⊥) (timed_in_stays n legs legs₁ begun_moved configurations ∙ left-timed)

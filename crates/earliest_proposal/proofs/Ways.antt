@@ -4,7 +4,6 @@ use native.Mathlib.Omega.{arith}
 use mathlib.Core.Path.{◌≡◌, refl, sym, ap, ap₂, ◌∙◌, subst}
 use mathlib.Core.Bool.{Bool, true, false, cond, true≢false, ◌&&◌}
 use mathlib.Core.List.{List}
-use mathlib.Core.Option.{Option, none, some}
 use lib.Dec.{leb}
 use lib.ListN.{length}
 use borrow.Author.Tests.{leb-true}
@@ -22,6 +21,7 @@ use Rattle.earliest_theorems.proofs.OfFiles.{proposal_accepted}
 use Rattle.earliest_proposal.specs.Left.{Left, earliest_of}
 use Rattle.earliest_proposal.specs.Proposal.{refused_as, accepted_as, ruling_of, Put, Decides}
 use Rattle.earliest_proposal.specs.Text.{TextOf, Writes, proposed_as, Made, Makes}
+use Rattle.std.specs.Prelude.{Option, Some, None}
 
 never : {A : Type 0} → true ≡ false → A
 never z = absurd (true≢false z)
@@ -39,7 +39,7 @@ module _ (n m : ℕ) (legs configurations constraints choices text : List ℕ) (
     text_fits x = leb (length (told x)) (length text) && leb (length (told x)) most_text
 
     -- by whether choices and text fit
-    judged : (x : List Configuration) → earliest_of k.files ≡ some x
+    judged : (x : List Configuration) → earliest_of k.files ≡ Some x
         → propose_found k.lent choices text (earliest_of k.files) k.files
         ≡ propose_fitted k.lent choices text (leb (length x) (length choices / configuration_width) && text_fits x) (told x) (verdict_of k.files x).tally k.files x
     judged x e =
@@ -53,11 +53,11 @@ module _ (n m : ℕ) (legs configurations constraints choices text : List ℕ) (
       where
         go : (o : Option (List Configuration)) → earliest_of k.files ≡ o
             → Made (propose_found k.lent choices text (earliest_of k.files) k.files) legs (proposed_as a 0) legs' choices' text'
-        go none z =
+        go None z =
             let r = (p k).ruled ∙ ap (λ o. ruling_of k.files o (length choices)) z in
             subst (λ o. Made (propose_found k.lent choices text o k.files) legs (proposed_as a 0) legs' choices' text') (sym z)
             (record { answer = ap (λ (u : Ruling). u.answer) r; tally = ap (λ (u : Ruling). u.tally) r; length = refl; puts = λ t. never (sym t ∙ e) })
-        go (some x) z =
+        go (Some x) z =
             subst (λ o. Made o legs (proposed_as a 0) legs' choices' text') (sym (judged x z))
             (room (leb (length x) (length choices / configuration_width)) ((p k).ruled ∙ ap (λ o. ruling_of k.files o (length choices)) z))
           where

@@ -1,6 +1,5 @@
 -- What the reading of the files leaves, as the search asks for it: n rows and m records, as the readers count them, and three of the tables.
-use Rattle.std.specs.Prelude.{ℕ, ◌≡◌, List, length}
-use Rattle.std.proofs.Math.Option.{Option}
+use Rattle.std.specs.Prelude.{ℕ, ◌≡◌, List, length, Option}
 use Rattle.rules.specs.Answers.{good}
 use Rattle.rules.specs.Constraints.{ordered}
 use Rattle.rules.specs.Reading.{Texts, Files, files_of}

@@ -1,6 +1,5 @@
 -- The proposal: what the search finds, and how it is ruled on.
-use Rattle.std.specs.Prelude.{ℕ, ◌*◌, ◌/◌, ◌≤◌, ◌≡◌, Bool, true, false, cond, List, leb, length}
-use Rattle.std.proofs.Math.Option.{Option, none, some}
+use Rattle.std.specs.Prelude.{ℕ, ◌*◌, ◌/◌, ◌≤◌, ◌≡◌, Bool, true, false, cond, List, leb, length, Option, Some, None}
 use Rattle.rules.specs.Limits.{configuration_width}
 use Rattle.rules.specs.Answers.{refusal, no_solution, no_room, no_file, is_accepted}
 use Rattle.rules.specs.Reading.{Files}
@@ -16,8 +15,8 @@ use Rattle.earliest_proposal.specs.Left.{Left, earliest_of}
 
 -- the earliest timetable, or that there is none
 pub record FoundOf (f : Files) (n : ℕ) (legs configurations : List ℕ) (r : Bool) (legs' : List ℕ) : Type 0 where
-  pub found : r ≡ true → (earliest_of f ≡ some (chosen_in n legs' configurations)) × Moved n legs legs'
-  pub never : r ≡ false → earliest_of f ≡ none
+  pub found : r ≡ true → (earliest_of f ≡ Some (chosen_in n legs' configurations)) × Moved n legs legs'
+  pub never : r ≡ false → earliest_of f ≡ None
 
 abbrev pub Finds : (n m : ℕ) → (legs configurations constraints : List ℕ) → Bool → (legs' : List ℕ) → Type 0
 Finds n m legs configurations constraints r legs' = (k : Left n m legs configurations constraints) → FoundOf k.files n legs configurations r legs'
@@ -32,15 +31,15 @@ accepted_as f x = record { answer = Accepted; tally = (verdict_of f x).tally }
 
 -- 19, 16 for the choices, or accepted
 abbrev pub ruling_of : Files → Option (List Configuration) → (room : ℕ) → Ruling
-ruling_of f none room = refused_as no_solution
-ruling_of f (some x) room = cond (leb (length x) (room / configuration_width)) (accepted_as f x) (refused_as no_room)
+ruling_of f None room = refused_as no_solution
+ruling_of f (Some x) room = cond (leb (length x) (room / configuration_width)) (accepted_as f x) (refused_as no_room)
 
 -- ---- after the search has found
 
 pub record Settleable (n m : ℕ) (legs configurations constraints choices : List ℕ) : Type 0 where
   pub before : List ℕ
   pub left : Left n m before configurations constraints
-  pub found : earliest_of left.files ≡ some (chosen_in n legs configurations)
+  pub found : earliest_of left.files ≡ Some (chosen_in n legs configurations)
   pub moved : Moved n before legs
   pub room : n * configuration_width ≤ length choices
 
@@ -59,7 +58,7 @@ Settles n m legs configurations constraints choices r legs' choices' =
 -- the proposal, and both tables
 pub record Put (f : Files) (legs choices legs' choices' : List ℕ) : Type 0 where
   pub x : List Configuration
-  pub found : earliest_of f ≡ some x
+  pub found : earliest_of f ≡ Some x
   pub legs_back : legs' ≡ legs
   pub choices_put : choices' ≡ written_choices x choices
 

@@ -1,6 +1,5 @@
 -- The proposal's text, and the tail of the entry as a whole.
-use Rattle.std.specs.Prelude.{ℕ, ◌≤◌, ◌<◌, ◌≡◌, true, List, leb, length}
-use Rattle.std.proofs.Math.Option.{some}
+use Rattle.std.specs.Prelude.{ℕ, ◌≤◌, ◌<◌, ◌≡◌, true, List, leb, length, Some}
 use Rattle.rules.specs.Answers.{is_accepted}
 use Rattle.rules.specs.Lists.{over}
 use Rattle.rules.specs.Merge.{chosen, text_of}
@@ -16,7 +15,7 @@ use Rattle.earliest_proposal.specs.Left.{Left, earliest_of}
 pub record Writable (n m : ℕ) (legs configurations constraints choices : List ℕ) : Type 0 where
   pub left : Left n m legs configurations constraints
   pub x : List Configuration
-  pub found : earliest_of left.files ≡ some x
+  pub found : earliest_of left.files ≡ Some x
   pub lent : List ℕ
   pub choices_are : choices ≡ written_choices x lent
 

@@ -6,12 +6,11 @@ use mathlib.Core.Path.{◌≡◌, refl, sym, ap, ap₂, ◌∙◌, subst}
 use mathlib.Core.Logic.{◌≢◌}
 use mathlib.Core.Bool.{Bool, true, false}
 use mathlib.Core.List.{List}
-use mathlib.Core.Option.{some}
 use lib.Dec.{T, eqb}
 use lib.ListN.{length, get_or, set, length-set}
 use lib.Seq.{get_or-set_same, get_or-set_other}
 use borrow.Author.Tests.{eqb-true, eqb-false}
-use Rattle.std.specs.Prelude.{Option as StdOption, Some, None, is_some}
+use Rattle.std.specs.Prelude.{Option, Some, None, is_some}
 use Rattle.rules.specs.Limits.{leg_width, most_listed}
 use Rattle.rules.specs.Energy.{tabulate}
 use Rattle.rules.specs.Timetable.{same, offers}
@@ -33,7 +32,7 @@ offers-at (suc n) f (suc j) h = or_right (same (f (suc j)) (f 0)) (offers (tabul
 
 -- THE NOMINAL IS THERE: so there is a soonest offer
 module _ (configurations : List ℕ) (l : Leg) (k : Nominal l) (x : Configuration) (ex : x ≡ offer_at configurations l l.nominal)
-    (r : StdOption ℕ) (s : Sought configurations l x.travel 0 r) where
+    (r : Option ℕ) (s : Sought configurations l x.travel 0 r) where
   abbrev list : List Configuration
   list = part_of (configuration_at configurations) l
 
@@ -45,7 +44,7 @@ module _ (configurations : List ℕ) (l : Leg) (k : Nominal l) (x : Configuratio
   pub first_there : is_some r ≡ true
   first_there = go r refl
     where
-      go : (o : StdOption ℕ) → r ≡ o → is_some o ≡ true
+      go : (o : Option ℕ) → r ≡ o → is_some o ≡ true
       go None e = absurd (subst (Picked 0 (timed_of x.travel list)) (s.missing e) (picked 0 (timed_of x.travel list)) x nominal_offered (omega arith))
       go (Some place) e = refl
 
@@ -100,7 +99,7 @@ module _ (n : ℕ) (legs₀ configurations : List ℕ) where
     pub long : length legs ≡ length legs₀
     pub same : (p : ℕ) → ((j : ℕ) → j < i → p ≢ last_at j) → get_or legs p 0 ≡ get_or legs₀ p 0
     pub places : (j : ℕ) → j < i → get_or legs (last_at j) 0 % most_listed ≡ get_or legs₀ (last_at j) 0
-    pub soonests : (j : ℕ) → j < i → soonest 0 (own_offers configurations (leg_at legs₀ j)) ≡ some (chosen_at legs configurations j)
+    pub soonests : (j : ℕ) → j < i → soonest 0 (own_offers configurations (leg_at legs₀ j)) ≡ Some (chosen_at legs configurations j)
 
   module _ (k : Readable n legs₀) (i : ℕ) (legs : List ℕ) (b : Beginning i legs) where
     pub begin_ends : n ≤ i → Begun n legs₀ configurations legs
@@ -142,17 +141,17 @@ module _ (n : ℕ) (legs₀ configurations : List ℕ) where
             let d : j ≢ i = eqb-false j i e in
             ap (λ (v : ℕ). v % most_listed) (other (last_at j) (λ q. d (omega arith))) ∙ b.places j (omega arith)
 
-        soonest-at : (j : ℕ) → j < i + 1 → (t : Bool) → eqb j i ≡ t → soonest 0 (own_offers configurations (leg_at legs₀ j)) ≡ some (chosen_at legs' configurations j)
+        soonest-at : (j : ℕ) → j < i + 1 → (t : Bool) → eqb j i ≡ t → soonest 0 (own_offers configurations (leg_at legs₀ j)) ≡ Some (chosen_at legs' configurations j)
         soonest-at j l true e =
             rw (eqb-true j i e)
             (ap (λ (g : Leg). soonest 0 (own_offers configurations g)) (sym leg_here)
             ∙ s.first.soonest_is
-            ∙ sym (ap₂ (λ (f : ℕ) (p : ℕ). some (configuration_at configurations (f + p))) (other (leg_width * i + 5) (λ q. omega arith))
+            ∙ sym (ap₂ (λ (f : ℕ) (p : ℕ). Some (configuration_at configurations (f + p))) (other (leg_width * i + 5) (λ q. omega arith))
             (ap (λ (v : ℕ). v / most_listed) stored ∙ u.0)))
         soonest-at j l false e =
             let d : j ≢ i = eqb-false j i e in
             b.soonests j (omega arith)
-            ∙ sym (ap₂ (λ (f : ℕ) (v : ℕ). some (configuration_at configurations (f + v / most_listed))) (other (leg_width * j + 5) (λ q. omega arith))
+            ∙ sym (ap₂ (λ (f : ℕ) (v : ℕ). Some (configuration_at configurations (f + v / most_listed))) (other (leg_width * j + 5) (λ q. omega arith))
             (other (last_at j) (λ q. d (omega arith))))
 
         pub begin_on : Beginning (i + 1) legs'

@@ -3,20 +3,19 @@ use Prim.Native.Nat.{ℕ, suc, ◌-◌}
 use mathlib.Core.Path.{◌≡◌, refl, ap₂, ◌∙◌}
 use mathlib.Core.Bool.{Bool, true, false, cond}
 use mathlib.Core.List.{List, [], ◌∷◌}
-use mathlib.Core.Option.{Option, none, some}
 use lib.Dec.{leb}
 use Rattle.rules.specs.Kinds.{Inequality}
 use Rattle.rules.specs.Earliest.{Late, held_back, late_from}
 use Rattle.rules.specs.declared.sizes.Configuration.{Configuration}
 use Rattle.rules.specs.declared.sizes.Constraint.{Constraint}
-use Rattle.std.specs.Prelude.{Ok, Err}
+use Rattle.std.specs.Prelude.{Ok, Err, Option, Some, None}
 use Rattle.verdict.specs.Found.{Finding, fails, shortfall_of, finding_from}
 use Rattle.earliest_search.specs.Searching.{found_by}
 
 -- what a finding says of a late row
 abbrev pub late_of : Constraint → Finding → Option Late
-late_of c (Ok i) = none
-late_of c (Err f) = some (record { row = held_back c f.inequality; by = f.short })
+late_of c (Ok i) = None
+late_of c (Err f) = Some (record { row = held_back c f.inequality; by = f.short })
 
 -- after i inequalities that hold
 pub late_found : (c : Constraint) (i : ℕ) (qs : List Inequality) → late_from c (suc i) qs ≡ late_of c (finding_from i qs)
@@ -24,7 +23,7 @@ late_found c i [] = refl
 late_found c i (q ∷ qs) = go (late_found c (suc i) qs) (leb q.left q.right)
   where
     go : late_from c (suc (suc i)) qs ≡ late_of c (finding_from (suc i) qs) → (b : Bool)
-        → cond b (late_from c (suc (suc i)) qs) (some (record { row = held_back c (suc i); by = q.left - q.right }))
+        → cond b (late_from c (suc (suc i)) qs) (Some (record { row = held_back c (suc i); by = q.left - q.right }))
         ≡ late_of c (cond b (finding_from (suc i) qs) (fails (suc i) (shortfall_of q)))
     go e true = e
     go e false = refl

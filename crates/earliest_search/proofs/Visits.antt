@@ -5,7 +5,6 @@ use mathlib.Core.Path.{◌≡◌, sym, ap, ap₂, ◌∙◌, subst}
 use mathlib.Core.Logic.{⊎_elim}
 use mathlib.Core.Bool.{Bool, true, false}
 use mathlib.Core.List.{List, [], ◌∷◌}
-use mathlib.Core.Option.{Option, none, some}
 use lib.Dec.{T}
 use lib.ListN.{length, get_or, set}
 use Rattle.rules.specs.Limits.{most_listed}
@@ -19,7 +18,7 @@ use Rattle.rules.specs.declared.sizes.Constraint.{Constraint}
 use Rattle.rules.proofs.Lists.{tabulate-length, tabulate-at}
 use Rattle.rules_theorems.proofs.Tables.{same_eq}
 use Rattle.tables_views.specs.View.{configuration_at, constraint_at, leg_at, list_in, constraints_in}
-use Rattle.std.specs.Prelude.{Option as StdOption, Some, None, Ok, Err}
+use Rattle.std.specs.Prelude.{Option, Some, None, Ok, Err}
 use Rattle.verdict.specs.Found.{Finding, finding_of}
 use Rattle.verdict.specs.Within.{Timely, Within, most_shortfall}
 use Rattle.verdict.specs.declared.records.Failing.{Failing}
@@ -147,7 +146,7 @@ module _ (n m i : ℕ) (legs configurations constraints : List ℕ) (t : Turning
       }
 
   module _ (f : Failing) (e : v ≡ Err f) where
-    is_late : Lates xs (λ s. Kept s c) (Kept xs c) (some (record { row = held_back c f.inequality; by = f.short }))
+    is_late : Lates xs (λ s. Kept s c) (Kept xs c) (Some (record { row = held_back c f.inequality; by = f.short }))
     is_late = subst (λ (o : Finding). Lates xs (λ s. Kept s c) (Kept xs c) (late_of c o)) e lates
 
     row_in : held_back c f.inequality < n
@@ -180,12 +179,12 @@ module _ (n m i : ℕ) (legs configurations constraints : List ℕ) (t : Turning
           late = λ l q.
               let one : found_late row ≡ l = cc in
               rw (← one)
-              (subst (λ (d : Constraint). Lates xs (λ s. Kept s d) (Kept xs d) (some (record { row = row; by = f.short }))) ec
-              (subst (λ (r : ℕ). Lates xs (λ s. Kept s c) (Kept xs c) (some (record { row = r; by = f.short }))) (sym er) is_late));
+              (subst (λ (d : Constraint). Lates xs (λ s. Kept s d) (Kept xs d) (Some (record { row = row; by = f.short }))) ec
+              (subst (λ (r : ℕ). Lates xs (λ s. Kept s c) (Kept xs c) (Some (record { row = r; by = f.short }))) (sym er) is_late));
         }
 
 module _ (n m i : ℕ) (legs configurations constraints : List ℕ) (t : Turning n m i legs configurations constraints)
-    (o : StdOption code.Late) (la : LateAt n m i legs configurations constraints o) where
+    (o : Option code.Late) (la : LateAt n m i legs configurations constraints o) where
   abbrev ws : Searching n m legs configurations constraints
   ws = t.searching
 
@@ -199,7 +198,7 @@ module _ (n m i : ℕ) (legs configurations constraints : List ℕ) (t : Turning
     abbrev late : Late
     late = record { row = r.row; by = r.by }
 
-    is_late_here : Lates xt (λ s. Kept s (constraint_at constraints i)) (Kept xt (constraint_at constraints i)) (some late)
+    is_late_here : Lates xt (λ s. Kept s (constraint_at constraints i)) (Kept xt (constraint_at constraints i)) (Some late)
     is_late_here = la.late r is
 
     row_here : r.row < n
@@ -223,7 +222,7 @@ module _ (n m i : ℕ) (legs configurations constraints : List ℕ) (t : Turning
             raised = λ f. absurd (raised-not_never (sym f));
             never = λ f.
                 step_none (timed_in n legs configurations) (constraints_in m constraints) (alike n m legs configurations constraints ws) (named n m legs configurations constraints ws)
-                (λ s. Kept s (constraint_at constraints i)) (Kept xt (constraint_at constraints i)) keeps xt late ws.low is_late_here (picks none (z.none_left q).0);
+                (λ s. Kept s (constraint_at constraints i)) (Kept xt (constraint_at constraints i)) keeps xt late ws.low is_late_here (picks None (z.none_left q).0);
           }
 
       onward : Stored legs configurations r.row r.by legs' → Onward n m legs configurations constraints legs'

@@ -1,6 +1,5 @@
 -- The search for the earliest timetable over the tables: what it keeps, and what a record's turn, a pass and the passes give.
 use Rattle.std.specs.Prelude.{ℕ, ◌+◌, ◌*◌, ◌%◌, ◌≤◌, ◌<◌, ◌≡◌, ◌≢◌, Bool, true, false, Option, Some, None, List, length, get_or}
-use Rattle.std.proofs.Math.Option.{some}
 use Rattle.rules.specs.Limits.{leg_width, most_legs, most_listed, most_constraints}
 use Rattle.rules.specs.Energy.{tabulate}
 use Rattle.rules.specs.Kinds.{rule_of}
@@ -68,7 +67,7 @@ pub record LateAt (n m i : ℕ) (legs configurations constraints : List ℕ) (r 
   pub kept : r ≡ None → Kept (chosen_in n legs configurations) (constraint_at constraints i)
   pub raises : (l : code.Late) → r ≡ Some l → Raisable legs configurations l.row l.by
   pub late : (l : code.Late) → r ≡ Some l
-      → Lates (chosen_in n legs configurations) (λ s. Kept s (constraint_at constraints i)) (Kept (chosen_in n legs configurations) (constraint_at constraints i)) (some (record { row = l.row; by = l.by }))
+      → Lates (chosen_in n legs configurations) (λ s. Kept s (constraint_at constraints i)) (Kept (chosen_in n legs configurations) (constraint_at constraints i)) (Some (record { row = l.row; by = l.by }))
 
 abbrev pub NoSolution : (n m : ℕ) → (legs configurations constraints : List ℕ) → Type 0
 NoSolution n m legs configurations constraints =

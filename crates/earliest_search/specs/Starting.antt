@@ -1,6 +1,5 @@
 -- The search's first choices: each leg's soonest offer.
-use Rattle.std.specs.Prelude.{ℕ, ◌*◌, ◌%◌, ◌≤◌, ◌<◌, ◌≡◌, ◌≢◌, List, length, get_or, set}
-use Rattle.std.proofs.Math.Option.{some}
+use Rattle.std.specs.Prelude.{ℕ, ◌*◌, ◌%◌, ◌≤◌, ◌<◌, ◌≡◌, ◌≢◌, List, length, get_or, set, Some}
 use Rattle.rules.specs.Limits.{leg_width, most_listed}
 use Rattle.rules.specs.Earliest.{soonest}
 use Rattle.rules.specs.declared.sizes.Configuration.{Configuration}
@@ -20,7 +19,7 @@ pub record Nominal (l : Leg) : Type 0 where
 -- the place of its soonest offer
 pub record First (configurations : List ℕ) (l : Leg) (place : ℕ) : Type 0 where
   pub within : place < l.count
-  pub soonest_is : soonest 0 (own_offers configurations l) ≡ some (offer_at configurations l place)
+  pub soonest_is : soonest 0 (own_offers configurations l) ≡ Some (offer_at configurations l place)
 
 pub record Startable (legs : List ℕ) (row : ℕ) : Type 0 where
   pub there : last_at row < length legs
@@ -41,4 +40,4 @@ pub record Begun (n : ℕ) (legs configurations legs' : List ℕ) : Type 0 where
   pub long : length legs' ≡ length legs
   pub same : (p : ℕ) → ((i : ℕ) → i < n → p ≢ last_at i) → get_or legs' p 0 ≡ get_or legs p 0
   pub places : (i : ℕ) → i < n → get_or legs' (last_at i) 0 % most_listed ≡ get_or legs (last_at i) 0
-  pub soonests : (i : ℕ) → i < n → soonest 0 (own_offers configurations (leg_at legs i)) ≡ some (chosen_at legs' configurations i)
+  pub soonests : (i : ℕ) → i < n → soonest 0 (own_offers configurations (leg_at legs i)) ≡ Some (chosen_at legs' configurations i)

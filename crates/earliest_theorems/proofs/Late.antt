@@ -4,20 +4,18 @@ use native.Mathlib.Omega.{arith}
 use mathlib.Core.Path.{◌≡◌, refl}
 use mathlib.Core.Bool.{Bool, true, false, cond, ◌&&◌}
 use mathlib.Core.List.{List, [], ◌∷◌}
-use mathlib.Core.Option.{Option, none, some}
 use lib.Dec.{leb, eqb}
 use lib.ListN.{length}
 use borrow.Author.Tests.{leb-true, leb-false}
 use Rattle.rules.specs.Kinds.{Inequality, ◌≤?◌, rule_of, departure, arrival, about, by_arrival, by_departure, connection}
 use Rattle.rules.specs.Verdict.{choice_at, inequalities, All, Holds, Kept}
 use Rattle.rules.specs.Merge.{SameTravel}
-use Rattle.rules.specs.declared.kinds.Time.{Time}
-use Rattle.rules.specs.declared.kinds.Time.TheVariants.{At, Unknown}
 use Rattle.rules.specs.declared.sizes.Configuration.{Configuration}
 use Rattle.rules.specs.declared.sizes.Constraint.{Constraint}
 use Rattle.rules.specs.Earliest.{Late, at_most, held_back, late_from, or_next, first_late}
 use Rattle.earliest_theorems.specs.Statement.{NoLater}
 use Rattle.earliest_theorems.specs.Search.{Above, Lates}
+use Rattle.std.specs.Prelude.{Option, Some, None}
 
 -- g i, h i: when the leg that inequality i holds back leaves, in the one solution and in the other
 abbrev Gained : (g h : ℕ → ℕ) → ℕ → List Inequality → Type 0
@@ -28,8 +26,8 @@ abbrev pick_of : (kind i : ℕ) → Configuration → Configuration → Configur
 pick_of k i one two = cond (eqb k connection && eqb i at_most) one two
 
 -- a connection's type, by whether it is the first and whether it is the second
-abbrev anchored_by : (a d : Bool) → Configuration → Time
-anchored_by a d c = cond a (At (arrival c)) (cond d (At (departure c)) Unknown)
+abbrev anchored_by : (a d : Bool) → Configuration → Option ℕ
+anchored_by a d c = cond a (Some (arrival c)) (cond d (Some (departure c)) None)
 
 module _ (low high : ℕ) (x y x' y' : Configuration) (ex : x.travel ≡ x'.travel) (ey : y.travel ≡ y'.travel) (hx : x.departure ≤ x'.departure) (hy : y.departure ≤ y'.departure) where
   -- of a connection, by the time that its type names; where it names none, neither inequality can hold
@@ -91,11 +89,11 @@ module _ (x : List Configuration) where
   late_from_lem c f g i (q ∷ qs) h = test (late_from_lem c f g (suc i) qs (λ s a k. (h s a k).1)) (leb q.left q.right) refl
     where
       add : (o : Option Late) → q.left ≤ q.right → Lates x (λ s. Kept s c) (All Holds qs) o → Lates x (λ s. Kept s c) (All Holds (q ∷ qs)) o
-      add none le k = (le, k)
-      add (some l) le k = k
+      add None le k = (le, k)
+      add (Some l) le k = k
 
       test : Lates x (λ s. Kept s c) (All Holds qs) (late_from c (suc i) qs) → (b : Bool) → leb q.left q.right ≡ b
-          → Lates x (λ s. Kept s c) (All Holds (q ∷ qs)) (cond b (late_from c (suc i) qs) (some (record { row = held_back c i; by = q.left - q.right })))
+          → Lates x (λ s. Kept s c) (All Holds (q ∷ qs)) (cond b (late_from c (suc i) qs) (Some (record { row = held_back c i; by = q.left - q.right })))
       test m true e = add (late_from c (suc i) qs) (leb-true q.left q.right e) m
       test m false e =
           let lt : q.right < q.left = leb-false q.left q.right e in (
@@ -119,6 +117,6 @@ module _ (x : List Configuration) where
     where
       join : (m n : Option Late) → Lates x (λ s. Kept s c) (Kept x c) m → Lates x (λ s. All (Kept s) cs) (All (Kept x) cs) n
           → Lates x (λ s. All (Kept s) (c ∷ cs)) (All (Kept x) (c ∷ cs)) (or_next m n)
-      join none none p q = (p, q)
-      join none (some l) p q = (q.0, q.1, λ s a k. q.2 s a k.1)
-      join (some l) n p q = (p.0, p.1, λ s a k. p.2 s a k.0)
+      join None None p q = (p, q)
+      join None (Some l) p q = (q.0, q.1, λ s a k. q.2 s a k.1)
+      join (Some l) n p q = (p.0, p.1, λ s a k. p.2 s a k.0)

@@ -3,7 +3,6 @@ use Prim.Native.Nat.{◌<◌, ◌/◌}
 use mathlib.Core.Path.{◌≡◌, subst}
 use mathlib.Core.Logic.{◌↔◌}
 use mathlib.Core.List.{List}
-use mathlib.Core.Option.{none, some}
 use lib.ListN.{length, length-map}
 use Rattle.rules.specs.Limits.{constraint_width, track_width}
 use Rattle.rules.specs.Answers.{good}
@@ -25,6 +24,7 @@ use Rattle.rules_theorems.proofs.GoodFiles.{files_good}
 use Rattle.rules_theorems.proofs.Verdicts.{verdict_accepted}
 use Rattle.earliest_theorems.specs.Statement.{Solution, Earliest, Proposal}
 use Rattle.earliest_theorems.proofs.Proposed.{proposal, none_exactly}
+use Rattle.std.specs.Prelude.{Some, None}
 
 module _ (S : Stated) (x : Texts) (room : Rooms) (f : Files) (read : files_of S x room ≡ good f) where
   abbrev table : List Constraint
@@ -44,12 +44,12 @@ module _ (S : Stated) (x : Texts) (room : Rooms) (f : Files) (read : files_of S 
   files_proposal = proposal f.rows table files_named
 
   -- 19 "is given exactly when no accepted solution with those travel times exists"
-  pub files_none : (earliest f.rows table ≡ none) ↔ ((s : List Configuration) → Solution f.rows table s → ⊥)
+  pub files_none : (earliest f.rows table ≡ None) ↔ ((s : List Configuration) → Solution f.rows table s → ⊥)
   files_none = none_exactly f.rows table files_named
 
-  pub proposal_earliest : (y : List Configuration) → earliest f.rows table ≡ some y → Earliest f.rows table y
+  pub proposal_earliest : (y : List Configuration) → earliest f.rows table ≡ Some y → Earliest f.rows table y
   proposal_earliest y e = subst (Proposal f.rows table) e files_proposal
 
   -- the ordinary verdict accepts it
-  pub proposal_accepted : (y : List Configuration) → earliest f.rows table ≡ some y → (verdict_of f y).finding ≡ accepted
+  pub proposal_accepted : (y : List Configuration) → earliest f.rows table ≡ Some y → (verdict_of f y).finding ≡ accepted
   proposal_accepted y e = (verdict_accepted (offered f.rows) table y).0 (proposal_earliest y e).solution.accepted

@@ -5,7 +5,6 @@ use mathlib.Core.Path.{◌≡◌, refl, sym, ap, ap₂, ◌∙◌, subst}
 use mathlib.Core.Logic.{◌⊎◌, inl, inr}
 use mathlib.Core.Bool.{Bool, true, false}
 use mathlib.Core.List.{List}
-use mathlib.Core.Option.{Option, none, some}
 use lib.ListN.{length, take, get_or, replicate, length-map, length-replicate}
 use borrow.Author.Tests.{leb-true}
 use Rattle.rules.specs.Limits.{configuration_width}
@@ -33,6 +32,7 @@ use Rattle.earliest_theorems.specs.Outcomes.{Outcome, AcceptedText, Ends, Propos
 use Rattle.earliest_theorems.proofs.Search.{offered_long}
 use Rattle.earliest_theorems.proofs.OfFiles.{files_none, proposal_earliest, proposal_accepted}
 use Rattle.earliest_theorems.proofs.Ways.{never, Emptied, fits, proposal_emptied, found_none, found_some, Stood, accepted_stood}
+use Rattle.std.specs.Prelude.{Option, Some, None}
 
 accepted_is : (a : Answer) → is_accepted a ≡ true → a ≡ Accepted
 accepted_is Accepted e = refl
@@ -55,7 +55,7 @@ module _ (S : Stated) (x : Texts) where
   text_files : (f : Files) (y : List Configuration) (k : AcceptedText S x f y) → files_of S x (rooms_of k.lent) ≡ good f
   text_files f y k = (all_good S x k.text (rooms_of k.lent) (length k.lent_choices) (record { files = f; choices = y }) k.read).0
 
-  module _ (t : Tables) (f : Files) (read : files_of S x (rooms_of t) ≡ good f) (y : List Configuration) (found : earliest f.rows (ordered f.document.constraints) ≡ some y) where
+  module _ (t : Tables) (f : Files) (read : files_of S x (rooms_of t) ≡ good f) (y : List Configuration) (found : earliest f.rows (ordered f.document.constraints) ≡ Some y) where
     mine : Earliest f.rows (ordered f.document.constraints) y
     mine = proposal_earliest S x (rooms_of t) f read y found
 
@@ -167,8 +167,8 @@ module _ {S : Stated} {x : Texts} where
         there e y a = go (earliest f.rows (ordered f.document.constraints)) refl
           where
             go : (p : Option (List Configuration)) → earliest f.rows (ordered f.document.constraints) ≡ p → ⊥
-            go none z = (files_none S x (rooms_of k.lent) f read).0 z y (text_solution S x f y a)
-            go (some v) z =
+            go None z = (files_none S x (rooms_of k.lent) f read).0 z y (text_solution S x f y a)
+            go (Some v) z =
                 nineteen_fitted (fits k.lent k.lent_choices k.lent_text f v) (text_of (chosen f.rows v)) (verdict_of f v).tally f v
                 (ap (λ (p : Proposed). p.answer) (sym (found_some k.lent k.lent_choices k.lent_text S x f read v z)) ∙ sym k.keeps.answer ∙ e)
 
@@ -179,5 +179,5 @@ module _ {S : Stated} {x : Texts} where
             room = replicate (length f.rows * configuration_width) 0
 
             go : (p : Option (List Configuration)) → earliest f.rows (ordered f.document.constraints) ≡ p → k.result.answer ≡ Refused (refusal no_solution no_file 0)
-            go none z = k.keeps.answer ∙ ap (λ (p : Proposed). p.answer) (found_none k.lent k.lent_choices k.lent_text S x f read z)
-            go (some v) z = absurd (h v (its_text S x k.lent f read v z room (omega (arith, length-replicate {A = ℕ} (length f.rows * configuration_width) 0))))
+            go None z = k.keeps.answer ∙ ap (λ (p : Proposed). p.answer) (found_none k.lent k.lent_choices k.lent_text S x f read z)
+            go (Some v) z = absurd (h v (its_text S x k.lent f read v z room (omega (arith, length-replicate {A = ℕ} (length f.rows * configuration_width) 0))))

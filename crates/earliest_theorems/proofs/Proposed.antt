@@ -6,7 +6,6 @@ use mathlib.Core.Path.{◌≡◌, refl, sym, ap, ap₂, ◌∙◌, subst}
 use mathlib.Core.Logic.{⊎_elim, ◌↔◌}
 use mathlib.Core.Bool.{Bool, true, false, cond}
 use mathlib.Core.List.{List, [], ◌∷◌}
-use mathlib.Core.Option.{Option, none, some}
 use lib.Dec.{T, eqb}
 use lib.ListN.{length, length-map}
 use borrow.Author.Tests.{eqb-true, eqb-false}
@@ -23,6 +22,7 @@ use Rattle.earliest_theorems.specs.Statement.{NoLater, first_at, FirstListed, So
 use Rattle.earliest_theorems.specs.Search.{Answers}
 use Rattle.earliest_theorems.proofs.Soonest.{or_cases, or_left, or_right}
 use Rattle.earliest_theorems.proofs.Search.{search_all}
+use Rattle.std.specs.Prelude.{Option, Some, None}
 
 -- ---- an offer is one of those with a travel time exactly where it is listed and has it
 
@@ -99,8 +99,8 @@ module _ (rows : List Row) (cs : List Constraint) (named : All (λ c. (c.first <
       (suc (listed rows)) (omega (arith, timed_many rows)))
     where
       go : (o : Option (List Configuration)) → Answers (timed_rows rows) cs o → Proposal rows cs o
-      go none h = λ s k. h s (to_timed s k)
-      go (some x) h =
+      go None h = λ s k. h s (to_timed s k)
+      go (Some x) h =
           let o = (timed-offered rows x).0 h.0.offered in
           record {
             solution = record { accepted = record { offered = o.0; kept = h.1 }; travels = o.1 };
@@ -113,9 +113,9 @@ module _ (rows : List Row) (cs : List Constraint) (named : All (λ c. (c.first <
   earliest_one x y h k = one_listed (timed_rows rows) x y h.listed k.listed (h.least y k.solution) (k.least x h.solution)
 
   -- 19: "exactly when no accepted solution with those travel times exists"
-  pub none_exactly : (earliest rows cs ≡ none) ↔ ((s : List Configuration) → Solution rows cs s → ⊥)
+  pub none_exactly : (earliest rows cs ≡ None) ↔ ((s : List Configuration) → Solution rows cs s → ⊥)
   none_exactly = go (earliest rows cs) proposal
     where
-      go : (o : Option (List Configuration)) → Proposal rows cs o → (o ≡ none) ↔ ((s : List Configuration) → Solution rows cs s → ⊥)
-      go none h = (λ e. h, λ k. refl)
-      go (some x) h = (λ e. let z : ◌≡◌ {A = ℕ} 0 1 = cc in absurd (omega arith), λ k. absurd (k x h.solution))
+      go : (o : Option (List Configuration)) → Proposal rows cs o → (o ≡ None) ↔ ((s : List Configuration) → Solution rows cs s → ⊥)
+      go None h = (λ e. h, λ k. refl)
+      go (Some x) h = (λ e. let z : ◌≡◌ {A = ℕ} 0 1 = cc in absurd (omega arith), λ k. absurd (k x h.solution))

@@ -4,7 +4,6 @@ use native.Mathlib.Omega.{arith}
 use native.Mathlib.Nat.{le_of_suc-le-suc, not-suc-le-zero}
 use mathlib.Core.Path.{◌≡◌, refl, sym, ap, subst}
 use mathlib.Core.List.{List, [], ◌∷◌}
-use mathlib.Core.Option.{Option, none, some}
 use lib.Dec.{T}
 use lib.ListN.{length, get_or, set}
 use Rattle.rules.specs.Lists.{◌>>=◌, each, sum_of}
@@ -18,6 +17,7 @@ use Rattle.earliest_theorems.specs.Statement.{NoLater, first_at, FirstListed}
 use Rattle.earliest_theorems.specs.Search.{Picked, ahead, Lates, Low, Answers}
 use Rattle.earliest_theorems.proofs.Soonest.{picked, after_all, after_fewer}
 use Rattle.earliest_theorems.proofs.Late.{late_all}
+use Rattle.std.specs.Prelude.{Option, Some, None}
 
 ahead_all : (os : List (List Configuration)) (x : List Configuration) → ahead os x ≤ sum_of length os
 ahead_all [] x = omega arith
@@ -61,7 +61,7 @@ no_later-set (a ∷ x) [] r c h k = absurd h
 no_later-set (a ∷ x) (b ∷ s) zero c h k = (k, h.1)
 no_later-set (a ∷ x) (b ∷ s) (suc r) c h k = (h.0, no_later-set x s r c h.1 k)
 
-firsts_set : (os : List (List Configuration)) (x : List Configuration) (r : ℕ) (c : Configuration) → FirstListed os x → first_at c.departure (get_or os r []) ≡ some c → FirstListed os (set x r c)
+firsts_set : (os : List (List Configuration)) (x : List Configuration) (r : ℕ) (c : Configuration) → FirstListed os x → first_at c.departure (get_or os r []) ≡ Some c → FirstListed os (set x r c)
 firsts_set [] [] r c h k = tt
 firsts_set [] (a ∷ x) r c h k = absurd h
 firsts_set (o ∷ os) [] r c h k = absurd h
@@ -75,7 +75,7 @@ module _ (os : List (List Configuration)) (cs : List Constraint) where
       (named : All (λ c. (c.first < length os) × (c.second < length os)) cs) where
     -- P: what every accepted solution keeps; of one record, or of all
     module _ (P : List Configuration → Type 0) (K : Type 0) (keeps : (s : List Configuration) → Acceptable os cs s → P s) (x : List Configuration) (l : Late) (w : Low os cs x)
-        (late : Lates x P K (some l)) where
+        (late : Lates x P K (Some l)) where
       -- a late row: in every accepted solution it leaves at the second that it is raised to, or later
       late_above : (s : List Configuration) → Acceptable os cs s
           → ((choice_at x l.row).departure + l.by ≤ (choice_at s l.row).departure) × T (offers (get_or os l.row []) (choice_at s l.row))
@@ -85,10 +85,10 @@ module _ (os : List (List Configuration)) (cs : List Constraint) where
       )
 
       -- WHAT A STEP GIVES: the row's next offer keeps it, with fewer offers ahead; where there is none, there is no solution
-      pub step_none : Picked ((choice_at x l.row).departure + l.by) (get_or os l.row []) none → (s : List Configuration) → Acceptable os cs s → ⊥
+      pub step_none : Picked ((choice_at x l.row).departure + l.by) (get_or os l.row []) None → (s : List Configuration) → Acceptable os cs s → ⊥
       step_none p s a = let u = late_above s a in p (choice_at s l.row) u.1 u.0
 
-      pub step_some : (c : Configuration) → Picked ((choice_at x l.row).departure + l.by) (get_or os l.row []) (some c)
+      pub step_some : (c : Configuration) → Picked ((choice_at x l.row).departure + l.by) (get_or os l.row []) (Some c)
           → Low os cs (set x l.row c) × (ahead os (set x l.row c) < ahead os x)
       step_some c p = (
         record {
@@ -100,16 +100,16 @@ module _ (os : List (List Configuration)) (cs : List Constraint) where
       )
 
     on_offer_lem : (more : List Configuration → Option (List Configuration)) (n : ℕ) (x : List Configuration) (l : Late) → Low os cs x → ahead os x < suc n
-        → Lates x (λ s. All (Kept s) cs) (All (Kept x) cs) (some l) → ((y : List Configuration) → Low os cs y → ahead os y < n → Answers os cs (more y))
+        → Lates x (λ s. All (Kept s) cs) (All (Kept x) cs) (Some l) → ((y : List Configuration) → Low os cs y → ahead os y < n → Answers os cs (more y))
         → (o : Option Configuration) → Picked ((choice_at x l.row).departure + l.by) (get_or os l.row []) o → Answers os cs (on_offer os cs more x l.row o)
-    on_offer_lem more n x l w h late again none p = step_none (λ s. All (Kept s) cs) (All (Kept x) cs) (λ s a. a.kept) x l w late p
-    on_offer_lem more n x l w h late again (some c) p = let u = step_some (λ s. All (Kept s) cs) (All (Kept x) cs) (λ s a. a.kept) x l w late c p in let less = u.1 in again (set x l.row c) u.0 (omega arith)
+    on_offer_lem more n x l w h late again None p = step_none (λ s. All (Kept s) cs) (All (Kept x) cs) (λ s a. a.kept) x l w late p
+    on_offer_lem more n x l w h late again (Some c) p = let u = step_some (λ s. All (Kept s) cs) (All (Kept x) cs) (λ s a. a.kept) x l w late c p in let less = u.1 in again (set x l.row c) u.0 (omega arith)
 
     on_late_lem : (more : List Configuration → Option (List Configuration)) (n : ℕ) (x : List Configuration) → Low os cs x → ahead os x < suc n
         → ((y : List Configuration) → Low os cs y → ahead os y < n → Answers os cs (more y))
         → (l : Option Late) → Lates x (λ s. All (Kept s) cs) (All (Kept x) cs) l → Answers os cs (on_late os cs more x l)
-    on_late_lem more n x w h again none late = (w, late)
-    on_late_lem more n x w h again (some l) late =
+    on_late_lem more n x w h again None late = (w, late)
+    on_late_lem more n x w h again (Some l) late =
         on_offer_lem more n x l w h late again (soonest ((choice_at x l.row).departure + l.by) (get_or os l.row []))
         (picked ((choice_at x l.row).departure + l.by) (get_or os l.row []))
 
@@ -125,36 +125,36 @@ module _ (os : List (List Configuration)) (cs : List Constraint) where
     search_all n h = go (each (soonest 0) os) (started os)
       where
         Started : List (List Configuration) → Option (List Configuration) → Type 0
-        Started os none = (s : List Configuration) → Offered os s → ⊥
-        Started os (some x) = Offered os x × FirstListed os x × ((s : List Configuration) → Offered os s → NoLater x s)
+        Started os None = (s : List Configuration) → Offered os s → ⊥
+        Started os (Some x) = Offered os x × FirstListed os x × ((s : List Configuration) → Offered os s → NoLater x s)
 
         nil : (s : List Configuration) → Offered [] s → NoLater [] s
         nil [] h = tt
         nil (b ∷ s) h = absurd h
 
-        empty : (o : List Configuration) (os : List (List Configuration)) → Picked 0 o none → (s : List Configuration) → Offered (o ∷ os) s → ⊥
+        empty : (o : List Configuration) (os : List (List Configuration)) → Picked 0 o None → (s : List Configuration) → Offered (o ∷ os) s → ⊥
         empty o os p [] k = k
         empty o os p (c ∷ s) k = p c k.0 (omega arith)
 
-        rest : (o : List Configuration) (os : List (List Configuration)) → Started os none → (s : List Configuration) → Offered (o ∷ os) s → ⊥
+        rest : (o : List Configuration) (os : List (List Configuration)) → Started os None → (s : List Configuration) → Offered (o ∷ os) s → ⊥
         rest o os q [] k = k
         rest o os q (e ∷ s) k = q s k.1
 
-        most : (o : List Configuration) (os : List (List Configuration)) (c : Configuration) (x : List Configuration) → Picked 0 o (some c) → Started os (some x)
+        most : (o : List Configuration) (os : List (List Configuration)) (c : Configuration) (x : List Configuration) → Picked 0 o (Some c) → Started os (Some x)
             → (s : List Configuration) → Offered (o ∷ os) s → NoLater (c ∷ x) s
         most o os c x p q [] k = absurd k
         most o os c x p q (e ∷ s) k = (p.2 e k.0 (omega arith), q.2 s k.1)
 
         put : (o : List Configuration) (os : List (List Configuration)) (p : Option Configuration) → Picked 0 o p → (y : Option (List Configuration)) → Started os y
-            → Started (o ∷ os) (p >>= (λ c. y >>= (λ x. some (c ∷ x))))
-        put o os none p y q = empty o os p
-        put o os (some c) p none q = rest o os q
-        put o os (some c) p (some x) q = ((p.0, q.0), (p.3, q.1), most o os c x p q)
+            → Started (o ∷ os) (p >>= (λ c. y >>= (λ x. Some (c ∷ x))))
+        put o os None p y q = empty o os p
+        put o os (Some c) p None q = rest o os q
+        put o os (Some c) p (Some x) q = ((p.0, q.0), (p.3, q.1), most o os c x p q)
 
         started : (os : List (List Configuration)) → Started os (each (soonest 0) os)
         started [] = (tt, tt, nil)
         started (o ∷ os) = put o os (soonest 0 o) (picked 0 o) (each (soonest 0) os) (started os)
 
         go : (y : Option (List Configuration)) → Started os y → Answers os cs (y >>= raised os cs n)
-        go none q = λ s a. q s a.offered
-        go (some x) q = search n x (record { offered = q.0; firsts = q.1; low = λ s a. q.2 s a.offered }) (omega (arith, ahead_all os x))
+        go None q = λ s a. q s a.offered
+        go (Some x) q = search n x (record { offered = q.0; firsts = q.1; low = λ s a. q.2 s a.offered }) (omega (arith, ahead_all os x))

@@ -5,7 +5,6 @@ use mathlib.Core.Path.{◌≡◌, refl, ap}
 use mathlib.Core.Logic.{◌⊎◌, inl, inr, ⊎_elim}
 use mathlib.Core.Bool.{Bool, true, false, cond, ◌&&◌, ◌||◌}
 use mathlib.Core.List.{List, [], ◌∷◌}
-use mathlib.Core.Option.{Option, none, some}
 use lib.Dec.{T, leb, ltb, eqb, eqb_refl}
 use lib.ListN.{length}
 use borrow.Author.Tests.{leb-true, leb-false, ltb-true, ltb-false, eq-eqb, ne_eqb, lt-ltb, le-ltb}
@@ -16,6 +15,7 @@ use Rattle.rules.proofs.Truth.{both_and, by_case}
 use Rattle.rules_theorems.proofs.Tables.{same_eq}
 use Rattle.earliest_theorems.specs.Statement.{first_at}
 use Rattle.earliest_theorems.specs.Search.{Picked, one_after, after}
+use Rattle.std.specs.Prelude.{Option, Some, None}
 
 pub or_cases : (a b : Bool) → T (a || b) → T a ⊎ T b
 or_cases true b h = inl tt
@@ -37,17 +37,17 @@ same_refl c =
 pub same-departure : (a b : Configuration) → T (same a b) → a.departure ≡ b.departure
 same-departure a b h = ap (λ (c : Configuration). c.departure) (same_eq a b h)
 
-first_here : (o : Configuration) (os : List Configuration) → first_at o.departure (o ∷ os) ≡ some o
+first_here : (o : Configuration) (os : List Configuration) → first_at o.departure (o ∷ os) ≡ Some o
 first_here o os = rw (eq-eqb o.departure o.departure refl)
 
-first_past : (o c : Configuration) (os : List Configuration) → (o.departure ≡ c.departure → ⊥) → first_at c.departure os ≡ some c → first_at c.departure (o ∷ os) ≡ some c
+first_past : (o c : Configuration) (os : List Configuration) → (o.departure ≡ c.departure → ⊥) → first_at c.departure os ≡ Some c → first_at c.departure (o ∷ os) ≡ Some c
 first_past o c os h e = rw (ne_eqb o.departure c.departure h) e
 
 pub picked : (m : ℕ) (os : List Configuration) → Picked m os (soonest m os)
 picked m [] = λ o h k. absurd h
 picked m (o ∷ os) = outer (leb m o.departure) refl (soonest m os) (picked m os)
   where
-    inner : (c : Configuration) → m ≤ o.departure → Picked m os (some c) → (b : Bool) → leb o.departure c.departure ≡ b → Picked m (o ∷ os) (some (cond b o c))
+    inner : (c : Configuration) → m ≤ o.departure → Picked m os (Some c) → (b : Bool) → leb o.departure c.departure ≡ b → Picked m (o ∷ os) (Some (cond b o c))
     inner c h p true e = (
       or_left (same o o) (offers os o) (same_refl o),
       h,
@@ -62,17 +62,17 @@ picked m (o ∷ os) = outer (leb m o.departure) refl (soonest m os) (picked m os
     )
 
     taken : (p : Option Configuration) → m ≤ o.departure → Picked m os p → Picked m (o ∷ os) (sooner_than o p)
-    taken none h p = (
+    taken None h p = (
       or_left (same o o) (offers os o) (same_refl o),
       h,
       λ z hz k. ⊎_elim (λ hs. omega (arith, same-departure z o hs)) (λ hi. absurd (p z hi k)) (or_cases (same z o) (offers os z) hz),
       first_here o os,
     )
-    taken (some c) h p = inner c h p (leb o.departure c.departure) refl
+    taken (Some c) h p = inner c h p (leb o.departure c.departure) refl
 
     passed : (p : Option Configuration) → o.departure < m → Picked m os p → Picked m (o ∷ os) p
-    passed none h p = λ z hz k. ⊎_elim (λ hs. omega (arith, same-departure z o hs)) (λ hi. p z hi k) (or_cases (same z o) (offers os z) hz)
-    passed (some c) h p = (
+    passed None h p = λ z hz k. ⊎_elim (λ hs. omega (arith, same-departure z o hs)) (λ hi. p z hi k) (or_cases (same z o) (offers os z) hz)
+    passed (Some c) h p = (
       or_right (same c o) (offers os c) p.0,
       p.1,
       λ z hz k. ⊎_elim (λ hs. omega (arith, same-departure z o hs)) (λ hi. p.2 z hi k) (or_cases (same z o) (offers os z) hz),

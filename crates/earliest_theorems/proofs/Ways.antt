@@ -3,7 +3,6 @@ use Prim.Native.Nat.{ℕ, ◌/◌}
 use mathlib.Core.Path.{◌≡◌, refl, sym, ap, ◌∙◌}
 use mathlib.Core.Bool.{Bool, true, false, true≢false, ◌&&◌}
 use mathlib.Core.List.{List}
-use mathlib.Core.Option.{Option, none, some}
 use lib.Dec.{leb}
 use lib.ListN.{length}
 use Rattle.rules.specs.Limits.{most_text, configuration_width, unsigned_fill, byte_fill}
@@ -21,6 +20,7 @@ use Rattle.rules.specs.declared.answers.Refusal.{Refusal}
 use Rattle.rules.specs.declared.answers.Tally.{Tally}
 use Rattle.rules_theorems.specs.Demands.{IsRefused}
 use Rattle.earliest_theorems.proofs.OfFiles.{proposal_accepted}
+use Rattle.std.specs.Prelude.{Option, Some, None}
 
 pub never : {A : Type 0} → true ≡ false → A
 never z = absurd (true≢false z)
@@ -53,8 +53,8 @@ module _ (t : Tables) (c w : List ℕ) where
   judged (violated v) n f y z = refused_emptied (refusal no_solution no_file 0)
 
   found : (o : Option (List Configuration)) (f : Files) → is_accepted (propose_found t c w o f).answer ≡ false → Emptied (propose_found t c w o f)
-  found none f z = refused_emptied (refusal no_solution no_file 0)
-  found (some y) f z = judged (verdict_of f y).finding (verdict_of f y).tally f y z
+  found None f z = refused_emptied (refusal no_solution no_file 0)
+  found (Some y) f z = judged (verdict_of f y).finding (verdict_of f y).tally f y z
 
   from : (m : Reading Files) → is_accepted (propose_from t c w m).answer ≡ false → Emptied (propose_from t c w m)
   from (refused r) z = refused_emptied r
@@ -73,11 +73,11 @@ module _ (t : Tables) (c w : List ℕ) where
     stopped r e = ap (propose_from t c w) e
 
     module _ (f : Files) (read : files_of S x (rooms_of t) ≡ good f) where
-      pub found_none : earliest f.rows (ordered f.document.constraints) ≡ none → proposed S x t c w ≡ propose_refused t c w (refusal no_solution no_file 0)
+      pub found_none : earliest f.rows (ordered f.document.constraints) ≡ None → proposed S x t c w ≡ propose_refused t c w (refusal no_solution no_file 0)
       unfolding proposed
       found_none z = ap (propose_from t c w) read ∙ ap (λ p. propose_found t c w p f) z
 
-      pub found_some : (y : List Configuration) → earliest f.rows (ordered f.document.constraints) ≡ some y
+      pub found_some : (y : List Configuration) → earliest f.rows (ordered f.document.constraints) ≡ Some y
           → proposed S x t c w ≡ propose_fitted t c w (fits f y) (text_of (chosen f.rows y)) (verdict_of f y).tally f y
       unfolding proposed
       found_some y z =
@@ -90,7 +90,7 @@ module _ (t : Tables) (c w : List ℕ) where
       pub files : Files
       pub read : files_of S x (rooms_of t) ≡ good files
       pub choices : List Configuration
-      pub found : earliest files.rows (ordered files.document.constraints) ≡ some choices
+      pub found : earliest files.rows (ordered files.document.constraints) ≡ Some choices
       pub fit : fits files choices ≡ true
       pub is : proposed S x t c w ≡ propose_fitted t c w true (text_of (chosen files.rows choices)) (verdict_of files choices).tally files choices
 
@@ -100,7 +100,7 @@ module _ (t : Tables) (c w : List ℕ) where
         not : (p : Proposed) → proposed S x t c w ≡ p → is_accepted p.answer ≡ false → Stood
         not p q z = never (sym e ∙ ap (λ (s : Proposed). is_accepted s.answer) q ∙ z)
 
-        room : (f : Files) → files_of S x (rooms_of t) ≡ good f → (y : List Configuration) → earliest f.rows (ordered f.document.constraints) ≡ some y → (b : Bool) → fits f y ≡ b → Stood
+        room : (f : Files) → files_of S x (rooms_of t) ≡ good f → (y : List Configuration) → earliest f.rows (ordered f.document.constraints) ≡ Some y → (b : Bool) → fits f y ≡ b → Stood
         room f q y z true h =
             record {
               files = f;
@@ -115,8 +115,8 @@ module _ (t : Tables) (c w : List ℕ) where
             (found_some f q y z ∙ ap (λ (b : Bool). propose_fitted t c w b (text_of (chosen f.rows y)) (verdict_of f y).tally f y) h) refl
 
         on : (f : Files) → files_of S x (rooms_of t) ≡ good f → (p : Option (List Configuration)) → earliest f.rows (ordered f.document.constraints) ≡ p → Stood
-        on f q none z = not (propose_refused t c w (refusal no_solution no_file 0)) (found_none f q z) refl
-        on f q (some y) z = room f q y z (fits f y) refl
+        on f q None z = not (propose_refused t c w (refusal no_solution no_file 0)) (found_none f q z) refl
+        on f q (Some y) z = room f q y z (fits f y) refl
 
         go : (m : Reading Files) → files_of S x (rooms_of t) ≡ m → Stood
         go (refused r) q = not (propose_refused t c w r) (stopped r q) refl

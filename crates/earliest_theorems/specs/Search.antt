@@ -1,6 +1,5 @@
 -- What a search for the earliest timetable keeps, whatever order it goes in: over rows of offers, and records that name rows.
-use Rattle.std.specs.Prelude.{ℕ, ◌+◌, ◌≤◌, ◌<◌, ◌≡◌, cond, List, [], ◌∷◌, T, ltb, length}
-use Rattle.std.proofs.Math.Option.{Option, none, some}
+use Rattle.std.specs.Prelude.{ℕ, ◌+◌, ◌≤◌, ◌<◌, ◌≡◌, cond, List, [], ◌∷◌, T, ltb, length, Option, Some, None}
 use Rattle.rules.specs.Lists.{sum_of}
 use Rattle.rules.specs.Timetable.{offers}
 use Rattle.rules.specs.Verdict.{choice_at, All, Offered, Kept, Acceptable}
@@ -14,9 +13,9 @@ use Rattle.earliest_theorems.specs.Statement.{NoLater, first_at, FirstListed}
 
 -- what is picked of a list from second m on: nothing where there is nothing, and else an offer than which none leaves sooner, the first listed
 abbrev pub Picked : ℕ → List Configuration → Option Configuration → Type 0
-Picked m os none = (o : Configuration) → T (offers os o) → m ≤ o.departure → ⊥
-Picked m os (some c) =
-    T (offers os c) × (m ≤ c.departure) × ((o : Configuration) → T (offers os o) → m ≤ o.departure → c.departure ≤ o.departure) × (first_at c.departure os ≡ some c)
+Picked m os None = (o : Configuration) → T (offers os o) → m ≤ o.departure → ⊥
+Picked m os (Some c) =
+    T (offers os c) × (m ≤ c.departure) × ((o : Configuration) → T (offers os o) → m ≤ o.departure → c.departure ≤ o.departure) × (first_at c.departure os ≡ Some c)
 
 -- how many offers leave after a second
 abbrev pub one_after : ℕ → Configuration → ℕ
@@ -41,8 +40,8 @@ module _ (x : List Configuration) where
 
   -- what a late row means, where P is what a solution keeps; K where none is late
   abbrev pub Lates : (P : List Configuration → Type 0) (K : Type 0) → Option Late → Type 0
-  Lates P K none = K
-  Lates P K (some l) =
+  Lates P K None = K
+  Lates P K (Some l) =
       (l.row < length x) × (0 < l.by) × ((s : List Configuration) → Above s → P s → (choice_at x l.row).departure + l.by ≤ (choice_at s l.row).departure)
 
 -- ---- the search
@@ -56,5 +55,5 @@ module _ (os : List (List Configuration)) (cs : List Constraint) where
 
   -- what it ends in
   abbrev pub Answers : Option (List Configuration) → Type 0
-  Answers (some x) = Low x × All (Kept x) cs
-  Answers none = (s : List Configuration) → Acceptable os cs s → ⊥
+  Answers (Some x) = Low x × All (Kept x) cs
+  Answers None = (s : List Configuration) → Acceptable os cs s → ⊥

@@ -1,6 +1,5 @@
 -- What the earliest timetable is (document 02, E10), as a statement: "no accepted solution with those travel times has any leg leaving sooner".
-use Rattle.std.specs.Prelude.{ℕ, ◌≤◌, ◌≡◌, List, [], ◌∷◌, eqb}
-use Rattle.std.proofs.Math.Option.{Option, none, some}
+use Rattle.std.specs.Prelude.{ℕ, ◌≤◌, ◌≡◌, List, [], ◌∷◌, eqb, Option, Some, None}
 use Rattle.rules.specs.Lists.{first}
 use Rattle.rules.specs.Timetable.{Row, choices_of}
 use Rattle.rules.specs.Verdict.{offered, Acceptable}
@@ -25,7 +24,7 @@ abbrev pub FirstListed : List (List Configuration) → List Configuration → Ty
 FirstListed [] [] = Unit {0}
 FirstListed [] (c ∷ x) = ⊥
 FirstListed (o ∷ os) [] = ⊥
-FirstListed (o ∷ os) (c ∷ x) = (first_at c.departure o ≡ some c) × FirstListed os x
+FirstListed (o ∷ os) (c ∷ x) = (first_at c.departure o ≡ Some c) × FirstListed os x
 
 module _ (rows : List Row) (cs : List Constraint) where
   -- accepted, with the nominal travel times
@@ -40,5 +39,5 @@ module _ (rows : List Row) (cs : List Constraint) where
 
   -- THE STATEMENT: a proposal is the earliest, and there is none only where there is no solution
   abbrev pub Proposal : Option (List Configuration) → Type 0
-  Proposal (some x) = Earliest x
-  Proposal none = (s : List Configuration) → Solution s → ⊥
+  Proposal (Some x) = Earliest x
+  Proposal None = (s : List Configuration) → Solution s → ⊥

@@ -6,7 +6,6 @@ ghost use Rattle.energy_parts.specs.Seen.{home_in};
 ghost use Rattle.energy_curves.specs.Room.{AddRoom, WindowRoom, HomeRoom, added_from};
 
 use energy_parts::runs;
-use tables_ids::Found;
 
 // The seconds from .. from + size - 1.
 #[derive(Clone, Copy)]
@@ -46,11 +45,18 @@ fn lay_run(table: &mut [i32], w: Window, subnet: usize, start: usize, xs: &[i32]
 }
 
 // A run whose home is none of the n subnets adds nothing.
-pub fn lay_home(table: &mut [i32], w: Window, n: usize, home: Found, start: usize, xs: &[i32])
+pub fn lay_home(
+    table: &mut [i32],
+    w: Window,
+    n: usize,
+    home: Option<usize>,
+    start: usize,
+    xs: &[i32],
+)
     requires { HomeRoom w.from w.size n table.old xs.now }
     ensures { table.new ≡ laid_home w.from w.size n (home_in home) start xs.now table.old }
 {
-    if let Found::At(subnet) = home {
+    if let Some(subnet) = home {
         if subnet < n {
             lay_run(table, w, subnet, start, xs);
         }

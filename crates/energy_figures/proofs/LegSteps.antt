@@ -5,7 +5,6 @@ use native.Mathlib.Nat.{le_of_suc-le-suc, not-suc-le-zero}
 use mathlib.Core.Path.{◌≡◌, ap, ap₂, ◌∙◌, subst}
 use mathlib.Core.Bool.{Bool, true, false, cond}
 use mathlib.Core.List.{List, [], ◌∷◌}
-use mathlib.Core.Option.{none, some}
 use lib.ListN.{length, take, drop}
 use lib.IntN.{ℤ}
 use Rattle.rules.specs.Limits.{most_legs}
@@ -17,8 +16,6 @@ use Rattle.rules.specs.declared.sizes.Configuration.{Configuration}
 use Rattle.rules.specs.declared.sizes.Leg.{Leg}
 use Rattle.rules.specs.declared.sizes.Profile.{Profile}
 use Rattle.tables_views.specs.View.{leg_at, configuration_at, profiles_in, tracks_in}
-use Rattle.tables_ids.specs.Column.{found_of}
-use Rattle.tables_ids.specs.declared.Found.{Found}
 use Rattle.rules_theorems.specs.Sized.{Powered}
 use Rattle.rules_theorems.specs.Laying.{laid_home}
 use Rattle.rules_theorems.proofs.Tabulate.{tabulate-length}
@@ -27,6 +24,7 @@ use Rattle.energy_figures.specs.Given.{Runs, Given, sampled, ReadableRuns}
 use Rattle.energy_figures.specs.Legs.{Laying, laid_leg}
 use Rattle.energy_curves.specs.Room.{HomeRoom}
 use Rattle.energy_curves.proofs.Homes.{home_back}
+use Rattle.std.specs.Prelude.{Option, Some, None}
 
 -- ---- of each element, of one
 
@@ -37,11 +35,11 @@ all_tabulated Q (suc n) f h zero l = h.0
 all_tabulated Q (suc n) f h (suc i) l = all_tabulated Q n (λ j. f (suc j)) h.1 i (le_of_suc-le-suc l)
 
 -- and of the first that passes a test, or of none
-first_keeps : (Q : Profile → Type 0) → Q (profile_or none) → (test : Profile → Bool) (ps : List Profile) → All Q ps → Q (profile_or (first test ps))
+first_keeps : (Q : Profile → Type 0) → Q (profile_or None) → (test : Profile → Bool) (ps : List Profile) → All Q ps → Q (profile_or (first test ps))
 first_keeps Q q test [] h = q
 first_keeps Q q test (p ∷ ps) h = go (test p) (first_keeps Q q test ps h.1)
   where
-    go : (b : Bool) → Q (profile_or (first test ps)) → Q (profile_or (cond b (some p) (first test ps)))
+    go : (b : Bool) → Q (profile_or (first test ps)) → Q (profile_or (cond b (Some p) (first test ps)))
     go true ih = h.0
     go false ih = ih
 
@@ -97,7 +95,7 @@ module _ (H from size : ℕ) (g : Given) (i : ℕ) (P : List ℤ) (s : Laying H 
             };
       }
 
-  pub leg-laid : (leg : Leg) → leg ≡ leg_at g.legs i → (home : Found) → home ≡ found_of (subnet_of (tracks_in g.runs.counts.tracks.count g.tracks) leg.track)
+  pub leg-laid : (leg : Leg) → leg ≡ leg_at g.legs i → (home : Option ℕ) → home ≡ (subnet_of (tracks_in g.runs.counts.tracks.count g.tracks) leg.track)
       → (P' : List ℤ) → P' ≡ laid_home from size g.runs.counts.subnets (home_in home) c.departure part P → P' ≡ laid_leg from size g i P
   unfolding laid_leg
   leg-laid leg el home eh P' e =

@@ -5,7 +5,6 @@ use native.Mathlib.Omega.{arith}
 use mathlib.Core.Path.{◌≡◌, refl, sym, ap, ap₂, ◌∙◌, subst}
 use mathlib.Core.Bool.{Bool, true, false, cond}
 use mathlib.Core.List.{List, [], ◌∷◌, ◌++◌, map, append_assoc}
-use mathlib.Core.Option.{some}
 use lib.Dec.{eqb}
 use lib.ListN.{length, take, drop, length-append}
 use lib.Seq.{take-append_seam, drop-append_seam}
@@ -35,6 +34,7 @@ use Rattle.energy_parts.specs.Seen.{profile_or, profile_seen, part_seen, samples
 use Rattle.energy_figures.specs.Given.{Given, given, chosen, sampled, homes, curves_seen, Readable}
 use Rattle.energy_figures.specs.Worked.{figures_by, figures_seen}
 use Rattle.energy_parts.specs.declared.runs.Counts.{Counts}
+use Rattle.std.specs.Prelude.{Some}
 
 -- ---- profiles and samples
 
@@ -55,8 +55,8 @@ part-read id ahead (c ∷ curves) rest = go (eqb c.id id) (part-read id (ahead +
 
     go : (b : Bool)
         → part_seen ((ahead ++ c.samples) ++ (sample_table curves ++ rest)) (profile_or (first (λ p. eqb p.id id) (profiles_from (length (ahead ++ c.samples)) curves))) ≡ samples_or (curve_of curves id)
-        → part_seen (ahead ++ ((c.samples ++ sample_table curves) ++ rest)) (profile_or (cond b (some this) (first (λ p. eqb p.id id) others)))
-        ≡ samples_or (cond b (some c) (curve_of curves id))
+        → part_seen (ahead ++ ((c.samples ++ sample_table curves) ++ rest)) (profile_or (cond b (Some this) (first (λ p. eqb p.id id) others)))
+        ≡ samples_or (cond b (Some c) (curve_of curves id))
     go true ih =
         ap (take (length c.samples)) (drop-append_seam ahead ((c.samples ++ sample_table curves) ++ rest) ∙ append_assoc c.samples (sample_table curves) rest)
         ∙ take-append_seam c.samples (sample_table curves ++ rest)

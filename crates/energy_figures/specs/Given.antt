@@ -1,6 +1,5 @@
 -- The tables that the energies are worked out of, as a reading left them, and what they say.
-use Rattle.std.specs.Prelude.{ℕ, ◌+◌, ◌≤◌, List, length, ℤ}
-use Rattle.std.proofs.Math.Option.{Option}
+use Rattle.std.specs.Prelude.{ℕ, ◌+◌, ◌≤◌, List, length, ℤ, Option}
 use Rattle.rules.specs.Limits.{least_horizon, most_horizon, most_subnets, profile_width, track_width}
 use Rattle.rules.specs.Energy.{curves_in}
 use Rattle.rules.specs.Verdict.{All}

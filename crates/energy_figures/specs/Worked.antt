@@ -1,6 +1,5 @@
 -- The figures: of the curve table and the runs, as the code takes them, and of all tables, as document 01 defines them.
-use Rattle.std.specs.Prelude.{ℕ, ◌≡◌, List, ℤ}
-use Rattle.std.proofs.Math.Option.{Option}
+use Rattle.std.specs.Prelude.{ℕ, ◌≡◌, List, ℤ, Option}
 use Rattle.rules.specs.Lists.{over}
 use Rattle.rules.specs.Energy.{before, before_at, drawn, drawn_at, lost, fluctuation, peak_of}
 use Rattle.rules.specs.declared.sizes.Configuration.{Configuration}

@@ -5,7 +5,6 @@ use native.Mathlib.Nat.{add-zero, mul_comm, zero-add}
 use mathlib.Core.Path.{◌≡◌, refl, sym, ap, ◌∙◌}
 use mathlib.Core.Bool.{Bool, true, false, cond}
 use mathlib.Core.List.{List, [], ◌∷◌}
-use mathlib.Core.Option.{Option, none, some}
 use lib.Dec.{eqb}
 use lib.ListN.{get_or}
 use Rattle.rules.specs.Limits.{profile_width, track_width}
@@ -15,25 +14,24 @@ use Rattle.rules.specs.Energy.{tabulate}
 use Rattle.rules.specs.declared.sizes.Profile.{Profile}
 use Rattle.rules.specs.declared.sizes.Track.{Track}
 use Rattle.tables_views.specs.View.{entry_at, profile_at, track_at, tracks_in}
-use Rattle.tables_ids.specs.Column.{column, found_of, place_of}
-use Rattle.tables_ids.specs.declared.Found.{Found}
-use Rattle.tables_ids.specs.declared.Found.TheVariants.{At, Nothing}
+use Rattle.tables_ids.specs.Column.{column, place_of}
 use Rattle.rules.proofs.Lists.{tabulate_ext}
 use Rattle.energy_parts.specs.Seen.{profile_or, profile_seen}
+use Rattle.std.specs.Prelude.{Option, Some, None}
 
 module _ {A : Type 0} (F : ℕ → A) where
   -- what stands at a place
   abbrev at_place : Option ℕ → Option A
-  at_place none = none
-  at_place (some i) = some (F i)
+  at_place None = None
+  at_place (Some i) = Some (F i)
 
-  abbrev at_found : Found → Option A
-  at_found Nothing = none
-  at_found (At i) = some (F i)
+  abbrev at_found : Option ℕ → Option A
+  at_found None = None
+  at_found (Some i) = Some (F i)
 
-  found_place : (o : Option ℕ) → at_found (found_of o) ≡ at_place o
-  found_place none = refl
-  found_place (some i) = refl
+  found_place : (o : Option ℕ) → at_found (o) ≡ at_place o
+  found_place None = refl
+  found_place (Some i) = refl
 
   module _ (id_of : A → ℕ) (id : ℕ) where
     -- from place m on
@@ -48,9 +46,9 @@ module _ {A : Type 0} (F : ℕ → A) where
         go : (b : Bool)
             → first (λ a. eqb (id_of a) id) (tabulate n (λ i. F (suc m + i)))
             ≡ at_place (place_from (suc m) (λ x. eqb x id) (tabulate n (λ i. id_of (F (suc m + i)))))
-            → cond b (some (F (m + 0))) (first (λ a. eqb (id_of a) id) (tabulate n (λ i. F (m + suc i))))
-            ≡ at_place (cond b (some m) (place_from (suc m) (λ x. eqb x id) (tabulate n (λ i. id_of (F (m + suc i))))))
-        go true ih = ap (λ k. some (F k)) (add-zero m)
+            → cond b (Some (F (m + 0))) (first (λ a. eqb (id_of a) id) (tabulate n (λ i. F (m + suc i))))
+            ≡ at_place (cond b (Some m) (place_from (suc m) (λ x. eqb x id) (tabulate n (λ i. id_of (F (m + suc i))))))
+        go true ih = ap (λ k. Some (F k)) (add-zero m)
         go false ih =
             ap (first (λ a. eqb (id_of a) id)) (tabulate_ext n _ _ (λ i. ap F (sym (next i))))
             ∙ ih
@@ -74,41 +72,41 @@ module _ {A : Type 0} (F : ℕ → A) where
 
 -- ---- profiles
 
-module _ (n : ℕ) (t : List ℕ) (id : ℕ) (r : Found) (at : r ≡ place_of id (column profile_width n t)) where
+module _ (n : ℕ) (t : List ℕ) (id : ℕ) (r : Option ℕ) (at : r ≡ place_of id (column profile_width n t)) where
   profile_first : profile_seen n t id ≡ profile_or (at_found (profile_at t) r)
   unfolding profile_seen
   profile_first =
       ap profile_or (first_found (profile_at t) (λ p. p.id) id profile_width n t (λ i. refl)) ∙ ap (λ f. profile_or (at_found (profile_at t) f)) (sym at)
 
-  pub profile_found : (k : ℕ) → r ≡ At k → (p : Profile) → p ≡ profile_at t k → p ≡ profile_seen n t id
+  pub profile_found : (k : ℕ) → r ≡ Some k → (p : Profile) → p ≡ profile_at t k → p ≡ profile_seen n t id
   profile_found k e p ep = ep ∙ sym (profile_first ∙ ap (λ f. profile_or (at_found (profile_at t) f)) e)
 
-  pub profile_missing : r ≡ Nothing → record { id = 0; first = 0; count = 0 } ≡ profile_seen n t id
+  pub profile_missing : r ≡ None → record { id = 0; first = 0; count = 0 } ≡ profile_seen n t id
   profile_missing e = sym (profile_first ∙ ap (λ f. profile_or (at_found (profile_at t) f)) e)
 
 -- ---- tracks
 
 abbrev subnet_at : Option Track → Option ℕ
-subnet_at none = none
-subnet_at (some t) = some t.subnet
+subnet_at None = None
+subnet_at (Some t) = Some t.subnet
 
 subnet-first : (track : ℕ) (ts : List Track) → subnet_of ts track ≡ subnet_at (first (λ t. eqb t.id track) ts)
 subnet-first track [] = refl
 subnet-first track (t ∷ ts) = go (eqb t.id track) (subnet-first track ts)
   where
     go : (b : Bool) → subnet_of ts track ≡ subnet_at (first (λ t. eqb t.id track) ts)
-        → cond b (some t.subnet) (subnet_of ts track) ≡ subnet_at (cond b (some t) (first (λ t. eqb t.id track) ts))
+        → cond b (Some t.subnet) (subnet_of ts track) ≡ subnet_at (cond b (Some t) (first (λ t. eqb t.id track) ts))
     go true ih = refl
     go false ih = ih
 
-module _ (n : ℕ) (t : List ℕ) (track : ℕ) (r : Found) (at : r ≡ place_of track (column track_width n t)) where
-  home_first : found_of (subnet_of (tracks_in n t) track) ≡ found_of (subnet_at (at_found (track_at t) r))
+module _ (n : ℕ) (t : List ℕ) (track : ℕ) (r : Option ℕ) (at : r ≡ place_of track (column track_width n t)) where
+  home_first : (subnet_of (tracks_in n t) track) ≡ (subnet_at (at_found (track_at t) r))
   home_first =
-      ap found_of (subnet-first track (tracks_in n t))
-      ∙ ap (λ o. found_of (subnet_at o)) (first_found (track_at t) (λ e. e.id) track track_width n t (λ i. refl) ∙ ap (at_found (track_at t)) (sym at))
+      (subnet-first track (tracks_in n t))
+      ∙ ap (λ o. (subnet_at o)) (first_found (track_at t) (λ e. e.id) track track_width n t (λ i. refl) ∙ ap (at_found (track_at t)) (sym at))
 
-  pub home_found : (k : ℕ) → r ≡ At k → (e : Track) → e ≡ track_at t k → At e.subnet ≡ found_of (subnet_of (tracks_in n t) track)
-  home_found k h e he = ap (λ x. At x.subnet) he ∙ sym (home_first ∙ ap (λ f. found_of (subnet_at (at_found (track_at t) f))) h)
+  pub home_found : (k : ℕ) → r ≡ Some k → (e : Track) → e ≡ track_at t k → Some e.subnet ≡ (subnet_of (tracks_in n t) track)
+  home_found k h e he = ap (λ x. Some x.subnet) he ∙ sym (home_first ∙ ap (λ f. (subnet_at (at_found (track_at t) f))) h)
 
-  pub home_missing : r ≡ Nothing → Nothing ≡ found_of (subnet_of (tracks_in n t) track)
-  home_missing h = sym (home_first ∙ ap (λ f. found_of (subnet_at (at_found (track_at t) f))) h)
+  pub home_missing : r ≡ None → None ≡ (subnet_of (tracks_in n t) track)
+  home_missing h = sym (home_first ∙ ap (λ f. (subnet_at (at_found (track_at t) f))) h)

@@ -1,18 +1,15 @@
 -- The tables as the definitions of document 01 ("Energy") take them: a profile's samples by its id, each row's subnet.
-use Rattle.std.specs.Prelude.{ℕ, List, eqb, take, drop, ℤ}
-use Rattle.std.proofs.Math.Option.{Option, none, some}
+use Rattle.std.specs.Prelude.{ℕ, List, eqb, take, drop, ℤ, Option, Some, None}
 use Rattle.rules.specs.Lists.{first}
 use Rattle.rules.specs.Constraints.{subnet_of}
 use Rattle.rules.specs.Energy.{tabulate}
 use Rattle.rules.specs.declared.sizes.Profile.{Profile}
 use Rattle.tables_views.specs.View.{leg_at, profiles_in, tracks_in}
-use Rattle.tables_ids.specs.declared.Found.{Found}
-use Rattle.tables_ids.specs.declared.Found.TheVariants.{At, Nothing}
 
 -- one of no samples where there is none
 abbrev pub profile_or : Option Profile → Profile
-profile_or none = record { id = 0; first = 0; count = 0 }
-profile_or (some p) = p
+profile_or None = record { id = 0; first = 0; count = 0 }
+profile_or (Some p) = p
 
 -- the profile with an id, among n
 unfoldable pub profile_seen : (n : ℕ) → List ℕ → (id : ℕ) → Profile
@@ -33,6 +30,6 @@ unfoldable pub homes_seen : (n m : ℕ) → (legs tracks : List ℕ) → List (O
 homes_seen n m legs tracks = tabulate n (home_seen m legs tracks)
 
 -- a subnet that was looked for
-abbrev pub home_in : Found → Option ℕ
-home_in Nothing = none
-home_in (At u) = some u
+abbrev pub home_in : Option ℕ → Option ℕ
+home_in None = None
+home_in (Some u) = Some u

@@ -3,11 +3,10 @@ ghost use Rattle.std.specs.Prelude.{◌≡◌, ◌-◌, min};
 ghost use Rattle.rules.specs.Limits.{profile_width, track_width};
 ghost use Rattle.rules.specs.Constraints.{subnet_of};
 ghost use Rattle.tables_views.specs.View.{tracks_in};
-ghost use Rattle.tables_ids.specs.Column.{Rising, found_of};
+ghost use Rattle.tables_ids.specs.Column.{Rising};
 ghost use Rattle.energy_parts.specs.Seen.{profile_seen};
 
 use rules::sizes::{Profile, Track};
-use tables_ids::Found;
 
 // How many entries a table has, and how many of them, from the first on, have rising ids.
 #[derive(Clone, Copy)]
@@ -31,8 +30,8 @@ pub fn profile_of(profiles: &[u32], n: Entries, id: u32) -> Profile
     ensures { result ≡ profile_seen n.count profiles.now id }
 {
     match tables_ids::find(profiles, Profile::WIDTH, n.count, n.rising, id) {
-        Found::At(i) => tables_views::profile_at(profiles, i),
-        Found::Nothing => Profile {
+        Some(i) => tables_views::profile_at(profiles, i),
+        None => Profile {
             id: 0,
             first: 0,
             count: 0,
@@ -41,16 +40,16 @@ pub fn profile_of(profiles: &[u32], n: Entries, id: u32) -> Profile
 }
 
 // The subnet that a track is in.
-pub fn home_of(tracks: &[u32], n: Entries, track: u32) -> Found
+pub fn home_of(tracks: &[u32], n: Entries, track: u32) -> Option<usize>
     requires { Rising track_width n.count n.rising tracks.now }
-    ensures { result ≡ found_of (subnet_of (tracks_in n.count tracks.now) track) }
+    ensures { result ≡ (subnet_of (tracks_in n.count tracks.now) track) }
 {
     match tables_ids::find(tracks, Track::WIDTH, n.count, n.rising, track) {
-        Found::At(i) => {
+        Some(i) => {
             let t = tables_views::track_at(tracks, i);
-            Found::At(t.subnet as usize)
+            Some(t.subnet as usize)
         }
-        Found::Nothing => Found::Nothing,
+        None => None,
     }
 }
 

@@ -1,7 +1,6 @@
 -- What is written to the numbers that C lends: a code, then values, then 0s; and how much was tested (document 02, E6).
-use Rattle.std.specs.Prelude.{ℕ, ◌+◌, ◌*◌, List, [], ◌∷◌, ◌++◌, get_or, replicate}
 use Rattle.std.specs.Int.{w64}
-use Rattle.std.proofs.Common.{of_z}
+use Rattle.std.proofs.Common.{of_z, ℕ, ◌+◌, ◌*◌, List, [], ◌∷◌, ◌++◌, get_or, replicate}
 use Rattle.rules.specs.Limits.{most_horizon, most_text, most_legs, leg_width, most_configurations, configuration_width, most_profiles, profile_width, most_samples, most_constraints, constraint_width, most_subnets, most_tracks, track_width, most_nodes, node_width}
 use Rattle.rules.specs.Kinds.{not_offered, headway, single_track, dwell, turnaround, connection}
 use Rattle.rules.specs.Answers.{values_of}

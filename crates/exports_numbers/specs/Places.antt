@@ -1,7 +1,6 @@
 -- What stands at the places that include/wagontulip.h has names for: the values of each answer, read back by name. Place 0 has the code.
-use Rattle.std.specs.Prelude.{ℕ, List, [], ◌∷◌, get_or}
 use Rattle.std.specs.Int.{w64}
-use Rattle.std.proofs.Common.{to_z}
+use Rattle.std.proofs.Common.{to_z, ℕ, List, [], ◌∷◌, get_or}
 use Rattle.rules.specs.declared.answers.Tally.{Tally}
 use Rattle.rules.specs.declared.answers.Violation.{Violation}
 use Rattle.rules.specs.declared.answers.Refusal.{Refusal}

@@ -10,27 +10,24 @@ use Rattle.rules.specs.Answers.{timetable_file, refusal, Reading, refused, good}
 use Rattle.rules.specs.Timetable.{Row, listed, timetable_of}
 use Rattle.rules.specs.Stated.{known, known_of}
 use Rattle.rules.specs.declared.stated.Stated.{Stated}
-use Rattle.rules.specs.declared.stated.Known.{Known}
-use Rattle.rules.specs.declared.stated.Known.TheVariants as Stating
 use Rattle.rules.specs.declared.answers.Refusal.{Refusal}
 use Rattle.rules_theorems.proofs.FileRefusals.{Refuses, refuses, timetable-refuses}
-use Rattle.timetable_row.specs.declared.fault.Fault.{Fault}
+use Rattle.rules.specs.declared.answers.Fault.{Fault}
 use Rattle.timetable_row.specs.Faults.{fault_at}
 use Rattle.timetable.specs.declared.reader.Rows.{Rows}
 use Rattle.timetable.specs.Held.{tables}
 use Rattle.timetable.specs.Promise.{answer_of, ReadAs, Tabled}
-use Rattle.tables_lent.specs.declared.Filed.TheVariants.{Whole, Refused}
 use Rattle.tables_lent.proofs.Filing.{same-refusal}
 use Rattle.files.specs.Parts.{draft_of, DraftRead}
 use Rattle.files.proofs.Parted.{part_refused, part_good}
 
 -- ---- what is stated
 
-not_known : (o : Reading Stated) (r : Refusal) → Stating.Refused r ≡ known_of o → o ≡ refused r
+not_known : (o : Reading Stated) (r : Refusal) → Err r ≡ known_of o → o ≡ refused r
 not_known (refused s) r e = cc
 not_known (good s) r e = let z : ◌≡◌ {A = ℕ} 0 1 = cc in absurd (omega arith)
 
-is_known_lem : (o : Reading Stated) → Stating.Whole ≡ known_of o → (s : Stated) × (o ≡ good s)
+is_known_lem : (o : Reading Stated) → (Ok tt) ≡ known_of o → (s : Stated) × (o ≡ good s)
 is_known_lem (refused r) e = let z : ◌≡◌ {A = ℕ} 0 1 = cc in absurd (omega arith)
 is_known_lem (good s) e = (s, refl)
 
@@ -44,12 +41,12 @@ own_file (good rows) q number place e = let z : ◌≡◌ {A = ℕ} 0 1 = cc in 
 
 -- ---- the ways out
 
-module _ (S : Stated) (text legs configurations legs' configurations' : List ℕ) {test : Known} (m : test ≡ known_of (known S)) where
-  pub draft-unknown : {r : Refusal} → test ≡ Stating.Refused r → DraftRead S text legs configurations (Refused r) legs' configurations'
+module _ (S : Stated) (text legs configurations legs' configurations' : List ℕ) {test : Result (Unit {0}) Refusal} (m : test ≡ known_of (known S)) where
+  pub draft-unknown : {r : Refusal} → test ≡ Err r → DraftRead S text legs configurations (Err r) legs' configurations'
   unfolding draft_of
   draft-unknown {r} e = part_refused r (rw (not_known (known S) r (sym e ∙ m)))
 
-  module _ (all : test ≡ Stating.Whole) {answer : Result Rows Fault} (read : ReadAs S.horizon text (tables legs configurations) answer (tables legs' configurations')) where
+  module _ (all : test ≡ (Ok tt)) {answer : Result Rows Fault} (read : ReadAs S.horizon text (tables legs configurations) answer (tables legs' configurations')) where
     abbrev outcome : Reading (List Row)
     outcome = timetable_of S.horizon (length legs / leg_width) (length configurations / configuration_width) text
 
@@ -58,7 +55,7 @@ module _ (S : Stated) (text legs configurations legs' configurations' : List ℕ
     draft_is = rw (is_known_lem (known S) (sym all ∙ m)).1
 
     pub draft_fault : {fault : Fault} {r : Refusal} → answer ≡ Err fault → r ≡ refusal fault.number timetable_file fault.place
-        → DraftRead S text legs configurations (Refused r) legs' configurations'
+        → DraftRead S text legs configurations (Err r) legs' configurations'
     draft_fault {fault} {r} a e =
         part_refused r
         (draft_is
@@ -66,11 +63,11 @@ module _ (S : Stated) (text legs configurations legs' configurations' : List ℕ
         ∙ ap refused (sym e))
 
     pub draft_right : {x : Rows} → answer ≡ Ok x
-        → DraftRead S text legs configurations (Whole (record { legs = x.rows; configurations = x.configurations; profiles = 0; samples = 0; constraints = 0; tracks = 0; subnets = 0 })) legs' configurations'
+        → DraftRead S text legs configurations (Ok (record { legs = x.rows; configurations = x.configurations; profiles = 0; samples = 0; constraints = 0; tracks = 0; subnets = 0 })) legs' configurations'
     draft_right {x} a = go outcome refl (sym a ∙ read.answers) read.fills
       where
         go : (o : Reading (List Row)) → outcome ≡ o → Ok x ≡ answer_of o → Tabled (tables legs configurations) o (tables legs' configurations')
-            → DraftRead S text legs configurations (Whole (record { legs = x.rows; configurations = x.configurations; profiles = 0; samples = 0; constraints = 0; tracks = 0; subnets = 0 })) legs' configurations'
+            → DraftRead S text legs configurations (Ok (record { legs = x.rows; configurations = x.configurations; profiles = 0; samples = 0; constraints = 0; tracks = 0; subnets = 0 })) legs' configurations'
         go (refused r) q e f = let z : ◌≡◌ {A = ℕ} 0 1 = cc in absurd (omega arith)
         go (good rows) q e f =
             let many : x.rows ≡ length rows = cc in

@@ -21,12 +21,11 @@ use Rattle.rules_theorems.proofs.GoodFiles.{good_first}
 use Rattle.rules_theorems.proofs.LawfulRows.{legs_most, legs_distinct}
 use Rattle.files_tests.proofs.Fronts.{front_held}
 use Rattle.tables_lent.specs.declared.Counts.{Counts}
-use Rattle.tables_lent.specs.declared.Filed.{Filed}
-use Rattle.tables_lent.specs.declared.Filed.TheVariants.{Whole, Refused}
 use Rattle.tables_lent.specs.Filing.{filed_by, filed_of}
 use Rattle.files.specs.Promise.{FilesRead}
 use Rattle.files.specs.Parts.{draft_of, powers_of, rules_of, with_rows, with_curves, with_document, Draft, Lists, Drafted, Listed, Part, DraftRead, PowersRead, RulesRead}
 use Rattle.files.proofs.Parted.{WasGood, whole_good, refused_refused}
+use Rattle.std.specs.Prelude.{Result, Ok, Err}
 
 -- ---- the definition, in parts
 
@@ -60,14 +59,14 @@ module _ (S : Stated) (timetable profiles constraints legs configurations profil
   abbrev t : Tables
   t = tables legs configurations profile_table samples constraint_table tracks
 
-  stopped : {a : Filed} {t' : Tables} (r : Refusal) → files_of S x (rooms_of t) ≡ refused r → a ≡ Refused r → FilesRead S x t a t'
+  stopped : {a : Result Counts Refusal} {t' : Tables} (r : Refusal) → files_of S x (rooms_of t) ≡ refused r → a ≡ Err r → FilesRead S x t a t'
   stopped r e a = record { answers = a ∙ rw e; writes = λ f g. never_good r f (sym e ∙ g) }
 
-  module _ {a : Filed} {legs' configurations' : List ℕ} (d : DraftRead S timetable legs configurations a legs' configurations') where
-    pub files_draft : {r : Refusal} {t' : Tables} → a ≡ Refused r → FilesRead S x t a t'
+  module _ {a : Result Counts Refusal} {legs' configurations' : List ℕ} (d : DraftRead S timetable legs configurations a legs' configurations') where
+    pub files_draft : {r : Refusal} {t' : Tables} → a ≡ Err r → FilesRead S x t a t'
     files_draft {r} e = stopped r (by_parts S x (rooms_of t) ∙ rw (refused_refused a r d e)) e
 
-    module _ {k : Counts} (e : a ≡ Whole k) where
+    module _ {k : Counts} (e : a ≡ Ok k) where
       abbrev DraftTables : List Row → Type 0
       DraftTables rows =
           (legs' ≡ over (flat leg_numbers (legs_of rows)) legs) × (configurations' ≡ over (flat configuration_numbers (configurations_of rows)) configurations)
@@ -96,17 +95,17 @@ module _ (S : Stated) (timetable profiles constraints legs configurations profil
       pub powers_listed : Listed timetable legs' k.legs configurations'
       powers_listed = record { rows = got.what; draft = drafted k.legs refl; lists = lists }
 
-      module _ {b : Filed} {profile_table' : List ℕ} {samples' : List ℤ} (p : PowersRead k timetable profiles legs' configurations' profile_table samples b profile_table' samples') where
+      module _ {b : Result Counts Refusal} {profile_table' : List ℕ} {samples' : List ℤ} (p : PowersRead k timetable profiles legs' configurations' profile_table samples b profile_table' samples') where
         abbrev PowerTables : List Curve → Type 0
         PowerTables curves = (profile_table' ≡ over (flat profile_numbers (profiles_from 0 curves)) profile_table) × (samples' ≡ over (sample_table curves) samples)
 
         power : Part (powers_of timetable profiles got.what (length profile_table) (length samples)) (with_curves k) PowerTables b
         power = p got.what (drafted k.legs refl) lists
 
-        pub files_powers : {r : Refusal} {t' : Tables} → b ≡ Refused r → FilesRead S x t b t'
+        pub files_powers : {r : Refusal} {t' : Tables} → b ≡ Err r → FilesRead S x t b t'
         files_powers {r} f = stopped r (by_parts S x (rooms_of t) ∙ rw (got.was, refused_refused b r power f)) f
 
-        module _ {l : Counts} (f : b ≡ Whole l) where
+        module _ {l : Counts} (f : b ≡ Ok l) where
           gotten : WasGood (powers_of timetable profiles got.what (length profile_table) (length samples)) (with_curves k) PowerTables l
           gotten = whole_good b l power f
 
@@ -116,7 +115,7 @@ module _ (S : Stated) (timetable profiles constraints legs configurations profil
           pub rules-drafted : Drafted timetable legs' l.legs
           rules-drafted = record { rows = got.what; draft = still }
 
-          module _ {c : Filed} {constraint_table' tracks' : List ℕ} (q : RulesRead S l timetable constraints legs' constraint_table tracks c constraint_table' tracks') where
+          module _ {c : Result Counts Refusal} {constraint_table' tracks' : List ℕ} (q : RulesRead S l timetable constraints legs' constraint_table tracks c constraint_table' tracks') where
             abbrev outcome : Reading Document
             outcome = rules_of S timetable constraints got.what (length constraint_table) (length tracks)
 
@@ -142,7 +141,7 @@ module _ (S : Stated) (timetable profiles constraints legs configurations profil
 
                 answered : (o : Reading Document) → filed_by (with_document l) o ≡ filed_of (o >>= (λ d. good (filed d)))
                 answered (refused r) = refl
-                answered (good d) = ap (λ c. Whole (with_document c d)) (gotten.counted ∙ ap (λ c. with_curves c gotten.what) got.counted)
+                answered (good d) = ap (λ c. Ok (with_document c d)) (gotten.counted ∙ ap (λ c. with_curves c gotten.what) got.counted)
 
                 written : (o : Reading Document) → outcome ≡ o → (f : Files) → (o >>= (λ d. good (filed d))) ≡ good f
                     → tables legs' configurations' profile_table' samples' constraint_table' tracks' ≡ written_tables f t

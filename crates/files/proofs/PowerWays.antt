@@ -1,12 +1,10 @@
 -- Each way out of reading the profiles, 12 and 13. Assumes nothing.
-use Rattle.std.specs.Prelude.{Result, Ok, Err}
+use Rattle.std.specs.Prelude.{Result, Ok, Err, Option, Some, None}
 use Prim.Native.Nat.{ℕ, ◌/◌}
 use mathlib.Core.Path.{◌≡◌, refl, sym, ap, ◌∙◌}
 use mathlib.Core.List.{List}
-use mathlib.Core.Option.{Option, none, some}
 use native.Mathlib.Omega.{arith}
 use lib.ListN.{length}
-use Rattle.std.specs.Prelude.{Option as StdOption, Some, None}
 use lib.IntN.{ℤ}
 use Rattle.rules.specs.Limits.{profile_width}
 use Rattle.rules.specs.Lists.{over}
@@ -25,7 +23,6 @@ use Rattle.files_tests.specs.Counts.{Tables, Tabled, fault_of, FirstFault}
 use Rattle.files_tests.proofs.Holding.{front_records, tabled_tables}
 use Rattle.files_tests.proofs.Fronts.{front_held}
 use Rattle.tables_lent.specs.declared.Counts.{Counts}
-use Rattle.tables_lent.specs.declared.Filed.TheVariants.{Whole, Refused}
 use Rattle.files.specs.Parts.{powers_of, Draft, Lists, Listed, PowersRead}
 use Rattle.files.proofs.Parted.{WasRead, was_read, part_refused, part_good}
 
@@ -33,22 +30,22 @@ not-read : (o : Reading (List Curve)) (r : Refusal) → Err r ≡ rows_of o → 
 not-read (refused s) r e = cc
 not-read (good curves) r e = let z : ◌≡◌ {A = ℕ} 0 1 = cc in absurd (omega arith)
 
-no_fault : (o : Option RowFault) → None ≡ fault_of o → o ≡ none
-no_fault none e = refl
-no_fault (some f) e = (cc)
+no_fault : (o : Option RowFault) → None ≡ fault_of o → o ≡ None
+no_fault None e = refl
+no_fault (Some f) e = (cc)
 
-a_fault : (o : Option RowFault) (fault : Fault) → Some fault ≡ fault_of o → o ≡ some (record { row = fault.row; number = fault.number })
-a_fault none fault e = (cc)
-a_fault (some f) fault e =
+a_fault : (o : Option RowFault) (fault : Fault) → Some fault ≡ fault_of o → o ≡ Some (record { row = fault.row; number = fault.number })
+a_fault None fault e = (cc)
+a_fault (Some f) fault e =
     let same : record { row = f.row; number = f.number } ≡ fault = cc in
-    ap (λ (x : Fault). some (record { row = x.row; number = x.number })) same
+    ap (λ (x : Fault). Some (record { row = x.row; number = x.number })) same
 
 module _ (counts : Counts) (timetable text legs configurations profiles : List ℕ) (samples : List ℤ) (profiles' : List ℕ) (samples' : List ℤ)
     {answer : Result Rows Refusal} (read : Reads text profiles samples answer profiles' samples') where
   abbrev outcome : Reading (List Curve)
   outcome = profiles_of (length profiles / profile_width) (length samples) text
 
-  pub powers_refused : {r : Refusal} → answer ≡ Err r → PowersRead counts timetable text legs configurations profiles samples (Refused r) profiles' samples'
+  pub powers_refused : {r : Refusal} → answer ≡ Err r → PowersRead counts timetable text legs configurations profiles samples (Err r) profiles' samples'
   unfolding powers_of
   powers_refused {r} a rows draft lists = part_refused r (rw (not-read outcome r (sym a ∙ read.answer)))
 
@@ -83,19 +80,19 @@ module _ (counts : Counts) (timetable text legs configurations profiles : List �
           (profiles_many ∙ sym (profiles-length 0 got.what)) table,
     )
 
-    module _ {found_fault : StdOption Fault} (f : FirstFault legs counts.legs configurations profiles' m found_fault) where
+    module _ {found_fault : Option Fault} (f : FirstFault legs counts.legs configurations profiles' m found_fault) where
       found : (rows : List Row) → Draft timetable legs counts.legs rows → Lists configurations rows → found_fault ≡ fault_of (first_fault 0 (profile_fault got.what) rows)
       found rows draft lists = f rows got.what (tabled rows draft lists)
 
       pub powers_row : {fault : Fault} {r : Refusal} → found_fault ≡ Some fault → r ≡ refusal fault.number timetable_file (place_of_row timetable fault.row)
-          → PowersRead counts timetable text legs configurations profiles samples (Refused r) profiles' samples'
+          → PowersRead counts timetable text legs configurations profiles samples (Err r) profiles' samples'
       unfolding powers_of
       powers_row {fault} {r} q e rows draft lists =
           part_refused r (rw (got.was, a_fault (first_fault 0 (profile_fault got.what) rows) fault (sym q ∙ found rows draft lists)) (ap refused (sym e)))
 
       pub powers_whole : found_fault ≡ None
           → PowersRead counts timetable text legs configurations profiles samples
-          (Whole (record { legs = counts.legs; configurations = counts.configurations; profiles = m; samples = rows.samples; constraints = 0; tracks = 0; subnets = 0 })) profiles' samples'
+          (Ok (record { legs = counts.legs; configurations = counts.configurations; profiles = m; samples = rows.samples; constraints = 0; tracks = 0; subnets = 0 })) profiles' samples'
       unfolding powers_of
       powers_whole q rows draft lists =
           part_good got.what (rw (got.was, no_fault (first_fault 0 (profile_fault got.what) rows) (sym q ∙ found rows draft lists)))

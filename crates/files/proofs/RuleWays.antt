@@ -16,12 +16,10 @@ use Rattle.rules.specs.declared.stated.Stated.{Stated}
 use Rattle.rules.specs.declared.tokens.Rules.{Rules}
 use Rattle.rules.specs.declared.answers.Refusal.{Refusal}
 use Rattle.rules_theorems.proofs.FileRefusals.{Refuses, refuses, constraints_refuse}
-use Rattle.tables_ids.specs.declared.Found.{Found}
-use Rattle.tables_ids.specs.declared.Found.TheVariants.{At, Nothing}
 use Rattle.tables_ids.specs.Column.{Records, Apart, column}
-use Rattle.std.proofs.Common.{Result, Ok, Err}
+use Rattle.std.proofs.Common.{Result, Ok, Err, Option, Some, None}
 use Rattle.constraints_states.specs.declared.Counts.{Counts as ReadCounts}
-use Rattle.constraints_states.specs.declared.Fault.{Fault}
+use Rattle.rules.specs.declared.answers.Fault.{Fault}
 use Rattle.constraints_states.specs.Steps.{counts_of}
 use Rattle.constraints.specs.Tables.{read_of, reading, Reads}
 use Rattle.files_tests.specs.Subnets.{fault_at, Fifteen}
@@ -29,7 +27,6 @@ use Rattle.constraints.proofs.Filling.{tracks_held}
 use Rattle.files_tests.proofs.Holding.{front_records}
 use Rattle.files_tests.proofs.Fronts.{legs-apart, legs-ids, legs-tracks}
 use Rattle.tables_lent.specs.declared.Counts.{Counts}
-use Rattle.tables_lent.specs.declared.Filed.TheVariants.{Whole, Refused}
 use Rattle.tables_lent.proofs.Filing.{same-refusal}
 use Rattle.files.specs.Parts.{rules_of, Draft, Drafted, RulesRead}
 use Rattle.files.proofs.Parted.{WasRead, was_read, part_refused, part_good}
@@ -53,7 +50,7 @@ module _ (S : Stated) {rules : Rules} (by : rules ≡ rules_by S) (counts : Coun
   by_rows rows draft = rw (by, legs-ids legs counts.legs rows draft.many draft.legs_hold)
 
   pub rules_refused : {f : Fault} {r : Refusal} → answer ≡ Err f → r ≡ refusal f.number constraints_file f.place
-      → RulesRead S counts timetable text legs constraints tracks (Refused r) constraints' tracks'
+      → RulesRead S counts timetable text legs constraints tracks (Err r) constraints' tracks'
   unfolding rules_of
   rules_refused {f} {r} a e rows draft =
       part_refused r
@@ -94,7 +91,7 @@ module _ (S : Stated) {rules : Rules} (by : rules ≡ rules_by S) (counts : Coun
     fifteen_able d =
         ((rules_able d).0.records, front_records track_numbers track_width (omega arith) (λ t. refl) got.what.tracks tracks tracks_many track_table)
 
-    module _ (found : Found) (f : Fifteen legs counts.legs tracks' seen.tracks found) where
+    module _ (found : Option ℕ) (f : Fifteen legs counts.legs tracks' seen.tracks found) where
       fault : (rows : List Row) → Draft timetable legs counts.legs rows → fault_at found ≡ first_fault 0 (subnet_fault got.what.tracks) rows
       fault rows draft =
           f rows got.what.tracks
@@ -103,15 +100,15 @@ module _ (S : Stated) {rules : Rules} (by : rules ≡ rules_by S) (counts : Coun
             of_tracks = ap₂ (column track_width) tracks_many track_table ∙ tracks_held got.what.tracks tracks;
           })
 
-      pub rules-row : {row : ℕ} {r : Refusal} → found ≡ At row → r ≡ refusal no_subnet timetable_file (place_of_row timetable row)
-          → RulesRead S counts timetable text legs constraints tracks (Refused r) constraints' tracks'
+      pub rules-row : {row : ℕ} {r : Refusal} → found ≡ Some row → r ≡ refusal no_subnet timetable_file (place_of_row timetable row)
+          → RulesRead S counts timetable text legs constraints tracks (Err r) constraints' tracks'
       unfolding rules_of
       rules-row {row} {r} q e rows draft =
           part_refused r (rw (by_rows rows draft, got.was, ← fault rows draft, q) (ap refused (sym e)))
 
-      pub rules_whole : found ≡ Nothing
+      pub rules_whole : found ≡ None
           → RulesRead S counts timetable text legs constraints tracks
-          (Whole (counted seen))
+          (Ok (counted seen))
           constraints' tracks'
       unfolding rules_of
       rules_whole q rows draft =

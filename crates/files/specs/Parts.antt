@@ -1,5 +1,5 @@
 -- The reading of the files in three parts, and what each promises.
-use Rattle.std.specs.Prelude.{ℕ, ◌/◌, ◌≤◌, ◌≡◌, List, length, ℤ}
+use Rattle.std.specs.Prelude.{ℕ, ◌/◌, ◌≤◌, ◌≡◌, List, length, ℤ, Result}
 use Rattle.rules.specs.Limits.{most_text, most_legs, leg_width, configuration_width, profile_width, constraint_width, track_width}
 use Rattle.rules.specs.Lists.{flat, over}
 use Rattle.rules.specs.Answers.{timetable_file, Reading, good, ◌>>=◌}
@@ -12,8 +12,8 @@ use Rattle.rules.specs.Reading.{leg_ids}
 use Rattle.rules.specs.declared.stated.Stated.{Stated}
 use Rattle.rules_theorems.specs.Lists.{Distinct}
 use Rattle.tables_lent.specs.declared.Counts.{Counts}
-use Rattle.tables_lent.specs.declared.Filed.{Filed}
 use Rattle.tables_lent.specs.Filing.{filed_by}
+use Rattle.rules.specs.declared.answers.Refusal.{Refusal}
 
 -- ---- what each part reads; room is in numbers
 
@@ -93,24 +93,24 @@ pub record Listed (text legs : List ℕ) (n : ℕ) (configurations : List ℕ) :
 -- ---- the promises
 
 -- the answer always, and the tables where nothing is refused
-pub record Part {A : Type 0} (read : Reading A) (counts : A → Counts) (Written : A → Type 0) (answer : Filed) : Type 0 where
+pub record Part {A : Type 0} (read : Reading A) (counts : A → Counts) (Written : A → Type 0) (answer : Result Counts Refusal) : Type 0 where
   pub answers : answer ≡ filed_by counts read
   pub writes : (x : A) → read ≡ good x → Written x
 
-abbrev pub DraftRead : (S : Stated) (text legs configurations : List ℕ) → Filed → (legs' configurations' : List ℕ) → Type 0
+abbrev pub DraftRead : (S : Stated) (text legs configurations : List ℕ) → Result Counts Refusal → (legs' configurations' : List ℕ) → Type 0
 DraftRead S text legs configurations answer legs' configurations' =
     Part (draft_of S text (length legs) (length configurations)) with_rows
     (λ rows. (legs' ≡ over (flat leg_numbers (legs_of rows)) legs) × (configurations' ≡ over (flat configuration_numbers (configurations_of rows)) configurations))
     answer
 
-abbrev pub PowersRead : Counts → (timetable text legs configurations profiles : List ℕ) (samples : List ℤ) → Filed → (profiles' : List ℕ) (samples' : List ℤ) → Type 0
+abbrev pub PowersRead : Counts → (timetable text legs configurations profiles : List ℕ) (samples : List ℤ) → Result Counts Refusal → (profiles' : List ℕ) (samples' : List ℤ) → Type 0
 PowersRead counts timetable text legs configurations profiles samples answer profiles' samples' =
     (rows : List Row) → Draft timetable legs counts.legs rows → Lists configurations rows
     → Part (powers_of timetable text rows (length profiles) (length samples)) (with_curves counts)
     (λ curves. (profiles' ≡ over (flat profile_numbers (profiles_from 0 curves)) profiles) × (samples' ≡ over (sample_table curves) samples))
     answer
 
-abbrev pub RulesRead : Stated → Counts → (timetable text legs constraints tracks : List ℕ) → Filed → (constraints' tracks' : List ℕ) → Type 0
+abbrev pub RulesRead : Stated → Counts → (timetable text legs constraints tracks : List ℕ) → Result Counts Refusal → (constraints' tracks' : List ℕ) → Type 0
 RulesRead S counts timetable text legs constraints tracks answer constraints' tracks' =
     (rows : List Row) → Draft timetable legs counts.legs rows
     → Part (rules_of S timetable text rows (length constraints) (length tracks)) (with_document counts)

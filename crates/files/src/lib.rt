@@ -4,8 +4,9 @@
 ghost use Rattle.rules.specs.Lent.{given, before, after};
 ghost use Rattle.files.specs.Promise.{FilesRead};
 
+use rules::answers::Refusal;
 use rules::stated::Stated;
-use tables_lent::Filed;
+use tables_lent::Counts;
 
 pub mod parts; // the draft; profiles, 12 and 13; constraints, 15
 
@@ -20,13 +21,13 @@ pub fn read_files(
     samples: &mut [i32],
     constraint_table: &mut [u32],
     tracks: &mut [u32],
-) -> Filed
+) -> Result<Counts, Refusal>
     ensures { FilesRead stated (given timetable profiles constraints)
         (before legs configurations profile_table samples constraint_table tracks)
         result (after legs configurations profile_table samples constraint_table tracks) }
 {
     let draft = parts::read_draft(stated, timetable, legs, configurations);
-    let Filed::Whole(drafted) = draft else {
+    let Ok(drafted) = draft else {
         return draft;
     };
     let power = parts::read_powers(
@@ -38,7 +39,7 @@ pub fn read_files(
         profile_table,
         samples,
     );
-    let Filed::Whole(powered) = power else {
+    let Ok(powered) = power else {
         return power;
     };
     parts::read_rules(

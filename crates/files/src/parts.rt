@@ -5,9 +5,8 @@ use csv_lines::places;
 use files_tests::lists::Fault;
 use files_tests::{lists, subnets};
 use rules::answers::{File, Refusal};
-use rules::stated::{Known, Stated};
-use tables_ids::Found;
-use tables_lent::{Counts, Filed};
+use rules::stated::Stated;
+use tables_lent::Counts;
 
 // What is stated, and the timetable.
 pub fn read_draft(
@@ -15,22 +14,15 @@ pub fn read_draft(
     timetable: &[u8],
     legs: &mut [u32],
     configurations: &mut [u32],
-) -> Filed
+) -> Result<Counts, Refusal>
     ensures { DraftRead stated timetable.now legs.old configurations.old result legs.new configurations.new }
 {
     let h = stated.horizon;
     match stated.test() {
-        Known::Refused(refusal) => Filed::Refused(refusal),
-        Known::Whole => match timetable::reader::read_timetable(
-            timetable,
-            h,
-            legs,
-            configurations,
-        ) {
-            Err(fault) => {
-                Filed::Refused(Refusal::new(fault.number, File::TIMETABLE, fault.place))
-            }
-            Ok(read) => Filed::Whole(Counts {
+        Err(refusal) => Err(refusal),
+        Ok(()) => match timetable::reader::read_timetable(timetable, h, legs, configurations) {
+            Err(fault) => Err(fault.in_file(File::TIMETABLE)),
+            Ok(read) => Ok(Counts {
                 legs: read.rows as usize,
                 configurations: read.configurations as usize,
                 profiles: 0,
@@ -52,20 +44,20 @@ pub fn read_powers(
     configurations: &[u32],
     profiles: &mut [u32],
     samples: &mut [i32],
-) -> Filed
+) -> Result<Counts, Refusal>
     requires { Listed timetable.now legs.now counts.legs configurations.now }
     ensures { PowersRead counts timetable.now text.now legs.now configurations.now profiles.old samples.old result profiles.new samples.new }
 {
     match profiles::reader::read_profiles(text, profiles, samples) {
-        Err(refusal) => Filed::Refused(refusal),
+        Err(refusal) => Err(refusal),
         Ok(read) => {
             let n = counts.legs;
             let m = read.profiles as usize;
             match lists::profile_fault(legs, n, configurations, profiles, m) {
                 Some(Fault { row, number }) => {
-                    Filed::Refused(places::row_refusal(number, File::TIMETABLE, timetable, row))
+                    Err(places::row_refusal(number, File::TIMETABLE, timetable, row))
                 }
-                None => Filed::Whole(Counts {
+                None => Ok(Counts {
                     legs: n,
                     configurations: counts.configurations,
                     profiles: m,
@@ -88,22 +80,22 @@ pub fn read_rules(
     legs: &[u32],
     constraints: &mut [u32],
     tracks: &mut [u32],
-) -> Filed
+) -> Result<Counts, Refusal>
     requires { Drafted timetable.now legs.now counts.legs }
     ensures { RulesRead stated counts timetable.now text.now legs.now constraints.old tracks.old result constraints.new tracks.new }
 {
     let n = counts.legs;
     let rules = stated.rules();
     match constraints::read_constraints(rules, text, legs, n, constraints, tracks) {
-        Err(fault) => { Filed::Refused(Refusal::new(fault.number, File::CONSTRAINTS, fault.place)) }
+        Err(fault) => Err(fault.in_file(File::CONSTRAINTS)),
         Ok(read) => match subnets::subnet_fault(legs, n, tracks, read.tracks) {
-            Found::At(row) => Filed::Refused(places::row_refusal(
+            Some(row) => Err(places::row_refusal(
                 Refusal::NO_SUBNET,
                 File::TIMETABLE,
                 timetable,
                 row,
             )),
-            Found::Nothing => Filed::Whole(Counts {
+            None => Ok(Counts {
                 legs: n,
                 configurations: counts.configurations,
                 profiles: counts.profiles,

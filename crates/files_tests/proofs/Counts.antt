@@ -3,29 +3,26 @@ use Prim.Native.Nat.{ℕ, zero, suc, ◌+◌, ◌*◌, ◌≤◌, ◌<◌}
 use mathlib.Core.Path.{◌≡◌, refl, ap, sym, ◌∙◌}
 use mathlib.Core.Bool.{Bool, true, false, not, cond, ◌&&◌, ◌||◌}
 use mathlib.Core.List.{List, [], ◌∷◌, ◌++◌}
-use mathlib.Core.Option.{Option, none, some}
 use native.Mathlib.Omega.{arith}
 use native.Mathlib.Numerals.{add-one}
 use native.Mathlib.Nat.{not-suc-le-zero}
 use lib.Dec.{eqb}
 use lib.ListN.{length}
-use Rattle.std.specs.Prelude.{Option as StdOption, Some, None}
+use Rattle.std.specs.Prelude.{Option, Some, None, is_some}
 use borrow.Author.Tests.{not-true, not-false}
 use Rattle.rules.specs.Limits.{profile_width}
-use Rattle.rules.specs.Lists.{every, is_some, place_from}
+use Rattle.rules.specs.Lists.{every, place_from}
 use Rattle.rules.specs.Answers.{not_there, wrong_samples}
 use Rattle.rules.specs.Energy.{tabulate}
 use Rattle.rules.specs.Timetable.{configuration}
 use Rattle.rules.specs.declared.sizes.Configuration.{Configuration}
 use Rattle.rules.proofs.Lists.{every_more, tabulate-more}
-use Rattle.tables_ids.specs.declared.Found.{Found}
-use Rattle.tables_ids.specs.declared.Found.TheVariants.{At, Nothing}
-use Rattle.tables_ids.specs.Column.{column, found_of, place_of, Records, Rising}
+use Rattle.tables_ids.specs.Column.{column, place_of, Records, Rising}
 use Rattle.tables_ids.proofs.Column.{column-length}
 use Rattle.tables_views.specs.View.{profile_at, configuration_at}
 use Rattle.files_tests.specs.declared.lists.Seen.{Seen}
 use Rattle.files_tests.specs.declared.lists.Entry.{Entry}
-use Rattle.files_tests.specs.Counts.{count_at, std_option, list_at, lasts_for, list_fault, Sighted, SightedBy, Sees}
+use Rattle.files_tests.specs.Counts.{count_at, list_at, lasts_for, list_fault, Sighted, SightedBy, Sees}
 
 -- an entry that is one of the table's
 pub entry_in : {profiles : List ℕ} {m i : ℕ} → Records profile_width m profiles → i < m → (i + 1) * profile_width ≤ length profiles
@@ -33,40 +30,28 @@ entry_in r h = omega (arith, r.whole)
 
 -- ---- a profile looked up
 
-place_within : {A : Type 0} (test : A → Bool) (xs : List A) (n i : ℕ) → place_from n test xs ≡ some i → i < n + length xs
+place_within : {A : Type 0} (test : A → Bool) (xs : List A) (n i : ℕ) → place_from n test xs ≡ Some i → i < n + length xs
 place_within test [] n i e = let z : ◌≡◌ {A = ℕ} 0 1 = cc in absurd (omega arith)
 place_within test (x ∷ xs) n i e = go (test x) (place_within test xs (suc n) i) e
   where
-    go : (t : Bool) → (place_from (suc n) test xs ≡ some i → i < suc n + length xs) → cond t (some n) (place_from (suc n) test xs) ≡ some i → i < n + suc (length xs)
+    go : (t : Bool) → (place_from (suc n) test xs ≡ Some i → i < suc n + length xs) → cond t (Some n) (place_from (suc n) test xs) ≡ Some i → i < n + suc (length xs)
     go true rest q = let same : n ≡ i = cc in omega arith
     go false rest q = omega (arith, rest q)
 
-found_some : (o : Option ℕ) (i : ℕ) → found_of o ≡ At i → o ≡ some i
-found_some none i e = (cc)
-found_some (some j) i e = let q : j ≡ i = cc in ap some q
-
-module _ {profiles : List ℕ} {m rising : ℕ} (id : ℕ) {f : Found} (r : Rising profile_width m rising profiles) (e : f ≡ place_of id (column profile_width m profiles)) where
-  pub found_in : {i : ℕ} → f ≡ At i → (i + 1) * profile_width ≤ length profiles
+module _ {profiles : List ℕ} {m rising : ℕ} (id : ℕ) {f : Option ℕ} (r : Rising profile_width m rising profiles) (e : f ≡ place_of id (column profile_width m profiles)) where
+  pub found_in : {i : ℕ} → f ≡ Some i → (i + 1) * profile_width ≤ length profiles
   found_in {i} q =
       let below : i < 0 + length (column profile_width m profiles) =
-      place_within (λ x. eqb x id) (column profile_width m profiles) 0 i (found_some (place_from 0 (λ x. eqb x id) (column profile_width m profiles)) i (sym e ∙ q)) in
+      place_within (λ x. eqb x id) (column profile_width m profiles) 0 i (sym e ∙ q) in
       entry_in r.records (omega (arith, column-length profile_width m profiles))
 
-  pub count_found_lem : {i n : ℕ} → f ≡ At i → n ≡ (profile_at profiles i).count → Some n ≡ std_option (count_at profiles m id)
+  pub count_found_lem : {i n : ℕ} → f ≡ Some i → n ≡ (profile_at profiles i).count → Some n ≡ (count_at profiles m id)
   count_found_lem q h = rw (← e, q, h)
 
-  pub count_missing : f ≡ Nothing → None ≡ std_option (count_at profiles m id)
+  pub count_missing : f ≡ None → None ≡ (count_at profiles m id)
   count_missing q = rw (← e, q)
 
 -- ---- an entry more of a list
-
-count_some : (o : Option ℕ) (n : ℕ) → Some n ≡ std_option o → o ≡ some n
-count_some none n e = (cc)
-count_some (some k) n e = let q : k ≡ n = cc in ap some q
-
-count_none : (o : Option ℕ) → None ≡ std_option o → o ≡ none
-count_none none e = refl
-count_none (some k) e = (cc)
 
 module _ (count : ℕ → Option ℕ) (seen : Seen) (entry : Entry) where
   abbrev known : Configuration → Bool
@@ -78,11 +63,11 @@ module _ (count : ℕ → Option ℕ) (seen : Seen) (entry : Entry) where
   abbrev of_entry : ℕ → Configuration
   of_entry departure = configuration departure entry.travel entry.profile
 
-  module _ {x : StdOption ℕ} (e : x ≡ std_option (count entry.profile)) where
+  module _ {x : Option ℕ} (e : x ≡ (count entry.profile)) where
     pub sees_more : {n : ℕ} {wrong : Bool} → x ≡ Some n → wrong ≡ seen.wrong || not (eqb n entry.travel) → Sees count seen entry (Some (record { before = Some entry; wrong = wrong }))
     sees_more {n} {wrong} q h list departure s =
         let c : Configuration = of_entry departure in
-        let there : count entry.profile ≡ some n = count_some (count entry.profile) n (sym q ∙ e) in
+        let there : count entry.profile ≡ Some n = sym (sym q ∙ e) in
         record {
           there = every_more known list c ∙ rw (there, s.there);
           wrong = h ∙ rw (every_more lasting list c, there, s.wrong) (either (every lasting list) (eqb n entry.travel));
@@ -99,7 +84,7 @@ module _ (count : ℕ → Option ℕ) (seen : Seen) (entry : Entry) where
         go true b w = (cc)
 
     pub sees_gone : x ≡ None → Sees count seen entry None
-    sees_gone q list departure s = rw (count_none (count entry.profile) (sym q ∙ e))
+    sees_gone q list departure s = rw (sym (sym q ∙ e))
 
   pub sees_again : seen.before ≡ Some entry → Sees count seen entry (Some seen)
   sees_again any list departure s =
@@ -143,14 +128,14 @@ module _ {table : List ℕ} {first : ℕ} {lookup : ℕ → Option ℕ} where
   seeing_none = record { sighted = record { there = refl; wrong = refl; last = tt } }
 
   module _ {seen : Seen} {k : ℕ} (s : Seeing table first lookup seen k) where
-    pub seeing_on : {c : Configuration} {x : StdOption Seen} {next : Seen} → c ≡ configuration_at table (first + k) → Sees lookup seen (record { travel = c.travel; profile = c.profile }) x → x ≡ Some next
+    pub seeing_on : {c : Configuration} {x : Option Seen} {next : Seen} → c ≡ configuration_at table (first + k) → Sees lookup seen (record { travel = c.travel; profile = c.profile }) x → x ≡ Some next
         → Seeing table first lookup next (k + 1)
     seeing_on {c} {x} {next} e sees q =
         let one : SightedBy lookup (listed table first k) (configuration c.departure c.travel c.profile) (Some next) = rw q at (sees (listed table first k) c.departure s.sighted) in
         record { sighted = rw (add-one, tabulate-more k (λ j. configuration_at table (first + j)), ← e) one }
 
-    pub seeing_gone : {count : ℕ} {c : Configuration} {x : StdOption Seen} → k < count → c ≡ configuration_at table (first + k) → Sees lookup seen (record { travel = c.travel; profile = c.profile }) x → x ≡ None
-        → Some not_there ≡ std_option (list_fault lookup (listed table first count))
+    pub seeing_gone : {count : ℕ} {c : Configuration} {x : Option Seen} → k < count → c ≡ configuration_at table (first + k) → Sees lookup seen (record { travel = c.travel; profile = c.profile }) x → x ≡ None
+        → Some not_there ≡ (list_fault lookup (listed table first count))
     seeing_gone {count} {c} {x} h e sees q =
         let gone : is_some (lookup c.profile) ≡ false = rw q at (sees (listed table first k) c.departure s.sighted) in
         let off : every (λ d. is_some (lookup d.profile)) (listed table first count) ≡ false =
@@ -160,12 +145,12 @@ module _ {table : List ℕ} {first : ℕ} {lookup : ℕ → Option ℕ} where
     all : {count : ℕ} → count ≤ k → k ≤ count → Sighted lookup (listed table first count) seen
     all {count} h l = let n : k ≡ count = omega arith in rw n at s.sighted
 
-    pub seeing_wrong : {count : ℕ} → count ≤ k → k ≤ count → seen.wrong ≡ true → Some wrong_samples ≡ std_option (list_fault lookup (listed table first count))
+    pub seeing_wrong : {count : ℕ} → count ≤ k → k ≤ count → seen.wrong ≡ true → Some wrong_samples ≡ (list_fault lookup (listed table first count))
     seeing_wrong {count} h l w =
         let q : every (λ c. lasts_for c.travel (lookup c.profile)) (listed table first count) ≡ false = not-true _ (sym (all h l).wrong ∙ w) in
         rw ((all h l).there, q)
 
-    pub seeing_all : {count : ℕ} → count ≤ k → k ≤ count → seen.wrong ≡ false → None ≡ std_option (list_fault lookup (listed table first count))
+    pub seeing_all : {count : ℕ} → count ≤ k → k ≤ count → seen.wrong ≡ false → None ≡ (list_fault lookup (listed table first count))
     seeing_all {count} h l w =
         let q : every (λ c. lasts_for c.travel (lookup c.profile)) (listed table first count) ≡ true = not-false _ (sym (all h l).wrong ∙ w) in
         rw ((all h l).there, q)

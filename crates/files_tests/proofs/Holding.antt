@@ -3,15 +3,14 @@ use Prim.Native.Nat.{ℕ, zero, suc, ◌+◌, ◌*◌, ◌≤◌, ◌<◌}
 use mathlib.Core.Path.{◌≡◌, refl, ap, ap₂, sym, subst, ◌∙◌}
 use mathlib.Core.Bool.{Bool, true, false, cond}
 use mathlib.Core.List.{List, [], ◌∷◌, map}
-use mathlib.Core.Option.{Option, none, some}
 use native.Mathlib.Omega.{arith}
 use native.Mathlib.Nat.{add-zero, not-suc-le-zero, zero-add}
 use borrow.Author.Count.{below_more}
 use lib.Dec.{eqb}
 use lib.ListN.{length, get_or, drop, length-append}
-use Rattle.std.specs.Prelude.{Option as StdOption, Some, None}
+use Rattle.std.specs.Prelude.{Option, Some, None, is_some}
 use Rattle.rules.specs.Limits.{leg_width, configuration_width, profile_width}
-use Rattle.rules.specs.Lists.{every, is_some, flat, over, place_from}
+use Rattle.rules.specs.Lists.{every, flat, over, place_from}
 use Rattle.rules.specs.Rows.{first_fault}
 use Rattle.rules.specs.Energy.{tabulate}
 use Rattle.rules.specs.Timetable.{Row, legs_from, legs_of, leg_numbers, configurations_of, configuration_numbers}
@@ -22,12 +21,12 @@ use Rattle.rules.specs.declared.sizes.Profile.{Profile}
 use Rattle.rules.proofs.Truth.{all_map}
 use Rattle.rules.proofs.Lists.{tabulate-at, flat-length}
 use Rattle.rules_theorems.proofs.All.{all_at}
-use Rattle.tables_ids.specs.Column.{Records, column, found_of, curve_ids_of}
+use Rattle.tables_ids.specs.Column.{Records, column, curve_ids_of}
 use Rattle.tables_ids.proofs.Curves.{curves-column}
 use Rattle.tables_views.specs.View.{as_profile, leg_at, profile_at, legs_in, list_in, offers_in}
 use Rattle.tables_views.proofs.Views.{profile_layout, record_is}
 use Rattle.tables_views.proofs.Offers.{legs-length, legs_seen, offers-written}
-use Rattle.files_tests.specs.Counts.{count_found, count_at, lasts_for, list_fault, std_option, InTables, Tables, Tabled, FirstFault}
+use Rattle.files_tests.specs.Counts.{count_found, count_at, lasts_for, list_fault, InTables, Tables, Tabled, FirstFault}
 
 -- records at the front are within the table
 pub front_records : {A : Type 0} (f : A → List ℕ) (width : ℕ) → 1 ≤ width → ((x : A) → length (f x) ≡ width) → (xs : List A) (t : List ℕ)
@@ -42,14 +41,14 @@ abbrev no_profile : Profile
 no_profile = record { id = 0; first = 0; count = 0 }
 
 abbrev count_of : Option Curve → Option ℕ
-count_of none = none
-count_of (some c) = some (length c.samples)
+count_of None = None
+count_of (Some c) = Some (length c.samples)
 
 -- a table that gives the entries of curves from a place on
 module _ (profiles : List ℕ) (id : ℕ) where
   curve-found : (curves : List Curve) (place start : ℕ)
       → ((i : ℕ) → i < length (profiles_from start curves) → profile_at profiles (place + i) ≡ get_or (profiles_from start curves) i no_profile)
-      → count_found profiles (found_of (place_from place (λ x. eqb x id) (curve_ids_of curves))) ≡ count_of (curve_of curves id)
+      → count_found profiles ((place_from place (λ x. eqb x id) (curve_ids_of curves))) ≡ count_of (curve_of curves id)
   curve-found [] place start h = refl
   curve-found (c ∷ curves) place start h = go (eqb c.id id) (curve-found curves (suc place) (start + length c.samples) later)
     where
@@ -60,9 +59,9 @@ module _ (profiles : List ℕ) (id : ℕ) where
           → profile_at profiles (suc place + i) ≡ get_or (profiles_from (start + length c.samples) curves) i no_profile
       later i l = let q : place + suc i ≡ suc place + i = omega arith in rw q at (h (suc i) (omega arith))
 
-      go : (t : Bool) → count_found profiles (found_of (place_from (suc place) (λ x. eqb x id) (curve_ids_of curves))) ≡ count_of (curve_of curves id)
-          → count_found profiles (found_of (cond t (some place) (place_from (suc place) (λ x. eqb x id) (curve_ids_of curves)))) ≡ count_of (cond t (some c) (curve_of curves id))
-      go true rest = ap some here
+      go : (t : Bool) → count_found profiles ((place_from (suc place) (λ x. eqb x id) (curve_ids_of curves))) ≡ count_of (curve_of curves id)
+          → count_found profiles ((cond t (Some place) (place_from (suc place) (λ x. eqb x id) (curve_ids_of curves)))) ≡ count_of (cond t (Some c) (curve_of curves id))
+      go true rest = ap Some here
       go false rest = rest
 
 -- ---- rows, and their lists
@@ -72,12 +71,12 @@ every-same p q e [] = refl
 every-same p q e (x ∷ xs) = rw (e x, every-same p q e xs)
 
 known_same : (o : Option Curve) → is_some (count_of o) ≡ is_some o
-known_same none = refl
-known_same (some c) = refl
+known_same None = refl
+known_same (Some c) = refl
 
 lasts-same : (t : ℕ) (o : Option Curve) → lasts_for t (count_of o) ≡ lasts t o
-lasts-same t none = refl
-lasts-same t (some c) = refl
+lasts-same t None = refl
+lasts-same t (Some c) = refl
 
 list_fault_lem : (count : ℕ → Option ℕ) (curves : List Curve) → ((id : ℕ) → count id ≡ count_of (curve_of curves id)) → (r : Row) → list_fault count r.list ≡ profile_fault curves r
 list_fault_lem count curves e r =
@@ -94,11 +93,11 @@ fault_map f g h e (x ∷ xs) n = rw (e x, fault_map f g h e xs (suc n))
 -- ---- the first fault of rows in a table
 
 module _ {A : Type 0} (f : A → Option ℕ) where
-  fault_none : (n : ℕ) (g : ℕ → A) (s : ℕ) → ((j : ℕ) → j < n → f (g j) ≡ none) → first_fault s f (tabulate n g) ≡ none
+  fault_none : (n : ℕ) (g : ℕ → A) (s : ℕ) → ((j : ℕ) → j < n → f (g j) ≡ None) → first_fault s f (tabulate n g) ≡ None
   fault_none zero g s h = refl
   fault_none (suc n) g s h = rw (h 0 (omega arith)) (fault_none n (λ i. g (suc i)) (suc s) (λ j k. h (suc j) (omega arith)))
 
-  fault_at_lem : (n : ℕ) (g : ℕ → A) (s k x : ℕ) → k < n → ((j : ℕ) → j < k → f (g j) ≡ none) → f (g k) ≡ some x → first_fault s f (tabulate n g) ≡ some (record { row = s + k; number = x })
+  fault_at_lem : (n : ℕ) (g : ℕ → A) (s k x : ℕ) → k < n → ((j : ℕ) → j < k → f (g j) ≡ None) → f (g k) ≡ Some x → first_fault s f (tabulate n g) ≡ Some (record { row = s + k; number = x })
   fault_at_lem zero g s k x h before e = absurd (not-suc-le-zero h)
   fault_at_lem (suc n) g s zero x h before e = rw (e, add-zero s)
   fault_at_lem (suc n) g s (suc k) x h before e =
@@ -178,32 +177,24 @@ module _ {legs : List ℕ} {n : ℕ} {configurations profiles : List ℕ} {m : �
 
 -- ---- the loop
 
-option_none : (o : Option ℕ) → None ≡ std_option o → o ≡ none
-option_none none e = refl
-option_none (some k) e = (cc)
-
-option_some : (o : Option ℕ) (n : ℕ) → Some n ≡ std_option o → o ≡ some n
-option_some none n e = (cc)
-option_some (some k) n e = let q : k ≡ n = cc in ap some q
-
 pub row_in : {legs : List ℕ} {n : ℕ} {configurations : List ℕ} {i : ℕ} → Tables legs n configurations → i < n → InTables legs configurations i
 row_in {i = i} t h = t.each_row i h
 
 -- no row before i is at fault
 pub record Passing (legs configurations profiles : List ℕ) (m i : ℕ) : Type 0 where
-  pub clear : (j : ℕ) → j < i → list_fault (count_at profiles m) (list_in legs configurations j) ≡ none
+  pub clear : (j : ℕ) → j < i → list_fault (count_at profiles m) (list_in legs configurations j) ≡ None
 
 module _ {legs configurations profiles : List ℕ} {m : ℕ} where
   pub passing_none : Passing legs configurations profiles m 0
   passing_none = record { clear = λ j h. absurd (not-suc-le-zero h) }
 
-  module _ {i : ℕ} (p : Passing legs configurations profiles m i) {r : StdOption ℕ} (e : r ≡ std_option (list_fault (count_at profiles m) (list_in legs configurations i))) where
+  module _ {i : ℕ} (p : Passing legs configurations profiles m i) {r : Option ℕ} (e : r ≡ (list_fault (count_at profiles m) (list_in legs configurations i))) where
     pub passing_next : r ≡ None → Passing legs configurations profiles m (i + 1)
-    passing_next q = record { clear = below_more _ _ p.clear (option_none _ (sym q ∙ e)) }
+    passing_next q = record { clear = below_more _ _ p.clear (sym (sym q ∙ e)) }
 
     pub passing_fault : {n k : ℕ} → i < n → r ≡ Some k → FirstFault legs n configurations profiles m (Some (record { row = i; number = k }))
     passing_fault {n} {k} h q rows curves t =
-        let found = option_some (list_fault (count_at profiles m) (list_in legs configurations i)) k (sym q ∙ e) in
+        let found : (list_fault (count_at profiles m) (list_in legs configurations i)) ≡ Some k = sym (sym q ∙ e) in
         let first = fault_at_lem (list_fault (count_at profiles m)) n (list_in legs configurations) 0 i k h p.clear found in
         rw (← tabled_faults t, first, zero-add i)
 

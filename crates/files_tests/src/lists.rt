@@ -3,11 +3,10 @@ ghost use Rattle.std.specs.Prelude.{◌≡◌, ◌+◌, ◌*◌, ◌≤◌, ◌<
 ghost use Rattle.rules.specs.Limits.{profile_width, configuration_width};
 ghost use Rattle.tables_ids.specs.Column.{Records, Rising};
 ghost use Rattle.tables_views.specs.View.{profile_at, configuration_at, list_in};
-ghost use Rattle.files_tests.specs.Counts.{count_at, std_option, list_at, list_fault, Sees, InTables, Tables, FirstFault};
+ghost use Rattle.files_tests.specs.Counts.{count_at, list_at, list_fault, Sees, InTables, Tables, FirstFault};
 
 use rules::answers::Refusal;
 use rules::sizes::{Configuration, Leg, Profile};
-use tables_ids::Found;
 
 // Entries are read where they are known to stand, and nothing is tested: `tables_views` reads them anywhere.
 fn count_at(profiles: &[u32], i: usize) -> u32
@@ -21,11 +20,11 @@ fn count_at(profiles: &[u32], i: usize) -> u32
 #[tactic(auto, using(crate::proofs::Counts::counts))]
 fn count_of(profiles: &[u32], m: usize, rising: usize, id: u32) -> Option<u32>
     requires { Rising profile_width m rising profiles.now }
-    ensures { result ≡ std_option (count_at profiles.now m id) }
+    ensures { result ≡ (count_at profiles.now m id) }
 {
     match tables_ids::find(profiles, Profile::WIDTH, m, rising, id) {
-        Found::At(i) => Some(count_at(profiles, i)),
-        Found::Nothing => None,
+        Some(i) => Some(count_at(profiles, i)),
+        None => None,
     }
 }
 
@@ -90,7 +89,7 @@ fn list_fault(
     rising: usize,
 ) -> Option<u8>
     requires { ((first + count) * configuration_width ≤ length configurations.now) × Rising profile_width m rising profiles.now }
-    ensures { result ≡ std_option (list_fault (count_at profiles.now m) (list_at (configuration_at configurations.now) first count)) }
+    ensures { result ≡ (list_fault (count_at profiles.now m) (list_at (configuration_at configurations.now) first count)) }
 {
     let mut seen = Seen {
         before: None,
@@ -123,7 +122,7 @@ fn leg_fault(
     rising: usize,
 ) -> Option<u8>
     requires { InTables legs.now configurations.now i × Rising profile_width m rising profiles.now }
-    ensures { result ≡ std_option (list_fault (count_at profiles.now m) (list_in legs.now configurations.now i)) }
+    ensures { result ≡ (list_fault (count_at profiles.now m) (list_in legs.now configurations.now i)) }
 {
     let at = Leg::WIDTH * i;
     let first = legs[at + Leg::FIRST_AT] as usize;

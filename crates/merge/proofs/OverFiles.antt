@@ -16,8 +16,6 @@ use Rattle.rules.specs.declared.answers.Answer.TheVariants.{Refused}
 use Rattle.rules.specs.declared.outcomes.Merged.{Merged}
 use Rattle.rules.specs.declared.outcomes.Direction.{Direction}
 use Rattle.tables_lent.specs.declared.Counts.{Counts}
-use Rattle.tables_lent.specs.declared.Filed.{Filed}
-use Rattle.tables_lent.specs.declared.Filed.TheVariants as Filings
 use Rattle.tables_lent.proofs.Filing.{WasFiled, was_filed, not_filed}
 use Rattle.files.specs.Promise.{FilesRead}
 use Rattle.solution_verdict.specs.Left.{Judgeable}
@@ -25,8 +23,9 @@ use Rattle.merge_order.specs.Both.{solutions_read}
 use Rattle.merge.specs.Left.{not_written, Solves}
 use Rattle.merge.specs.Promise.{MergeRead}
 use Rattle.merge.proofs.Standing.{never, files_stand}
+use Rattle.std.specs.Prelude.{Result, Ok, Err}
 
-module _ (way : Direction) (S : Stated) (x : Texts) (first second : List ℕ) (t : Tables) (c d text : List ℕ) {p : Filed} {t' : Tables} (h : FilesRead S x t p t') where
+module _ (way : Direction) (S : Stated) (x : Texts) (first second : List ℕ) (t : Tables) (c d text : List ℕ) {p : Result Counts Refusal} {t' : Tables} (h : FilesRead S x t p t') where
   abbrev read : Reading Files
   read = files_of S x (rooms_of t)
 
@@ -34,7 +33,7 @@ module _ (way : Direction) (S : Stated) (x : Texts) (first second : List ℕ) (t
   unfolding merged both_read
   stopped y e = rw e
 
-  pub files_refused : {y : Refusal} {r : Merged} {t'' : Tables} {c'' d'' text'' : List ℕ} → p ≡ Filings.Refused y → r ≡ not_written (Refused y)
+  pub files_refused : {y : Refusal} {r : Merged} {t'' : Tables} {c'' d'' text'' : List ℕ} → p ≡ Err y → r ≡ not_written (Refused y)
       → MergeRead way S x first second t c d text r t'' c'' d'' text''
   files_refused {y} {r} e s =
       let is : merged (merge_of way) S x first second t c d text ≡ merge_refused t c d text y = stopped y (not_filed read y (sym e ∙ h.answers)) in
@@ -49,7 +48,7 @@ module _ (way : Direction) (S : Stated) (x : Texts) (first second : List ℕ) (t
         writes = λ z. never (sym refuses ∙ z);
       }
 
-  module _ {k : Counts} (e : p ≡ Filings.Whole k) where
+  module _ {k : Counts} (e : p ≡ Ok k) where
     filed : WasFiled read k
     filed = was_filed read k (sym e ∙ h.answers)
 

@@ -12,12 +12,11 @@ use Rattle.rules.specs.declared.answers.Answer.TheVariants.{Refused}
 use Rattle.rules.specs.declared.outcomes.Merged.{Merged}
 use Rattle.rules.specs.declared.outcomes.Direction.{Direction}
 use Rattle.tables_lent.specs.declared.Counts.{Counts}
-use Rattle.solution_verdict.specs.declared.Chosen.{Chosen}
-use Rattle.solution_verdict.specs.declared.Chosen.TheVariants as Choosings
 use Rattle.solution_verdict.specs.Left.{Judgeable, Choosable}
 use Rattle.merge_order.specs.Both.{BothChosen, ChoosesBoth, solutions_read}
 use Rattle.merge.specs.Left.{not_written, Disputable, Judges, Solved}
 use Rattle.merge.proofs.Standing.{never, judged_stands}
+use Rattle.std.specs.Prelude.{Result, Ok, Err}
 
 module _ {H : ℕ} (way : Direction) {counts : Counts} {legs configurations constraints : List ℕ} (first second c d text : List ℕ)
     (k : Judgeable H counts legs configurations constraints) where
@@ -37,11 +36,11 @@ module _ {H : ℕ} (way : Direction) {counts : Counts} {legs configurations cons
   abbrev choosable : Choosable H counts legs
   choosable = record { left = k.left; legs_are_lem = k.legs_are_lem }
 
-  module _ {p : Chosen} {c' d' : List ℕ} (h : ChoosesBoth H counts first second legs c d p c' d') where
-    pub both_refused : {x : Refusal} {r : Merged} {c'' d'' text'' : List ℕ} → p ≡ Choosings.Refused x → r ≡ not_written (Refused x) → Ends both r c'' d'' text''
+  module _ {p : Result (Unit {0}) Refusal} {c' d' : List ℕ} (h : ChoosesBoth H counts first second legs c d p c' d') where
+    pub both_refused : {x : Refusal} {r : Merged} {c'' d'' text'' : List ℕ} → p ≡ Err x → r ≡ not_written (Refused x) → Ends both r c'' d'' text''
     both_refused {x} e s = rw (h.refuses choosable x e) (refusal_ends s)
 
-    module _ (e : p ≡ Choosings.Whole) where
+    module _ (e : p ≡ (Ok tt)) where
       chosen : BothChosen H f first second c d c' d'
       chosen = h.chooses choosable e
 

@@ -3,7 +3,6 @@ use Prim.Native.Nat.{ℕ}
 use mathlib.Core.Path.{◌≡◌, refl, ap}
 use mathlib.Core.Bool.{Bool, true, false, ◌&&◌, true≢false}
 use mathlib.Core.List.{List}
-use mathlib.Core.Option.{Option, none, some}
 use lib.Dec.{leb}
 use lib.ListN.{length}
 use Rattle.rules.specs.Limits.{most_text, byte_fill}
@@ -17,6 +16,7 @@ use Rattle.rules.specs.declared.sizes.Configuration.{Configuration}
 use Rattle.rules.specs.declared.answers.Tally.{Tally}
 use Rattle.rules.specs.declared.answers.Answer.{Answer}
 use Rattle.merge.specs.Left.{written_as}
+use Rattle.std.specs.Prelude.{Option, Some, None}
 
 pub never : {A : Type 0} → true ≡ false → A
 never z = absurd (true≢false z)
@@ -38,8 +38,8 @@ module _ (t : Tables) (c d text second : List ℕ) (merge : List Configuration �
   fitted true written b = record { tables = λ z. refl; choices = λ z. refl; second_choices_lem = λ z. refl; zeroed = never }
 
   travelled : (o : Option ℕ) (b : Both) → Stands b (merge_travel t c d text second merge o b)
-  travelled (some row) b = record { tables = never; choices = never; second_choices_lem = never; zeroed = λ z. refl }
-  travelled none b =
+  travelled (Some row) b = record { tables = never; choices = never; second_choices_lem = never; zeroed = λ z. refl }
+  travelled None b =
       let written = text_of (chosen b.files.rows (merge b.first b.second)) in
       fitted (leb (length written) (length text) && leb (length written) most_text) written b
 

@@ -3,7 +3,6 @@ use Prim.Native.Nat.{ℕ, ◌≤◌, ◌<◌}
 use mathlib.Core.Path.{◌≡◌, refl, sym, ap, ap₂, ◌∙◌, subst}
 use mathlib.Core.Bool.{Bool, true, false, ◌&&◌}
 use mathlib.Core.List.{List}
-use mathlib.Core.Option.{Option, none, some}
 use native.Mathlib.Omega.{arith}
 use lib.Dec.{leb}
 use lib.ListN.{length}
@@ -26,8 +25,7 @@ use Rattle.tables_lent.specs.declared.Counts.{Counts}
 use Rattle.verdict.proofs.GoodReading.{choices_many}
 use Rattle.text_write.specs.Written.{last_place, Written}
 use Rattle.merge_text.specs.Merges.{merged_in}
-use Rattle.merge_choice.specs.Travels.{travels_of}
-use Rattle.std.specs.Prelude.{Option as StdOption, Some, None}
+use Rattle.std.specs.Prelude.{Option, Some, None}
 use Rattle.text_write.proofs.Writing.{written-length}
 use Rattle.merge_text.proofs.Filled.{unequal_seen, merged-fits, merged_whole}
 use Rattle.merge_order.specs.Order.{travel_answer, room_answer, first_of}
@@ -35,14 +33,6 @@ use Rattle.merge.specs.Left.{written_as, not_written, Made, Mergeable, both_of, 
 use Rattle.merge.proofs.Standing.{never}
 
 -- ---- the answer of the test for travel times
-
-was_unequal : (o : Option ℕ) (row : ℕ) → Some row ≡ travels_of o → o ≡ some row
-was_unequal none row e = let z : ◌≡◌ {A = ℕ} 0 1 = cc in absurd (omega arith)
-was_unequal (some n) row e = cc
-
-was_equal : (o : Option ℕ) → None ≡ travels_of o → o ≡ none
-was_equal none e = refl
-was_equal (some n) e = let z : ◌≡◌ {A = ℕ} 0 1 = cc in absurd (omega arith)
 
 -- ---- over what was left
 
@@ -78,14 +68,14 @@ module _ {counts : Counts} {second legs configurations choices second_choices : 
   abbrev written : Direction → List ℕ
   written d = text_of (chosen f.rows (merge_of d k.both.a k.both.b))
 
-  module _ (d : Direction) (text : List ℕ) {v : StdOption ℕ}
-      (told : v ≡ travels_of (unequal_from 0 (configurations_in counts.legs choices) (configurations_in counts.legs second_choices))) where
+  module _ (d : Direction) (text : List ℕ) {v : Option ℕ}
+      (told : v ≡ (unequal_from 0 (configurations_in counts.legs choices) (configurations_in counts.legs second_choices))) where
     -- 17
     unequal_way : {row : ℕ} {x : Refusal} {r : Merged} {text' : List ℕ} → v ≡ Some row → x ≡ refusal unequal_travel second_file (place_of_row second row)
         → r ≡ not_written (Refused x) → Made (merged_equal k d text) r text'
     unequal_way {row} {x} {r} {text'} e q s =
         subst (λ o. Made (merge_travel k.left.lent k.lent k.lent_second text second (merge_of d) o (both_of k)) r text')
-        (sym (was_unequal (unequal_from 0 k.both.a k.both.b) row (sym e ∙ told ∙ ap travels_of travels_seen)))
+        (sym e ∙ told ∙ travels_seen)
         (rw (s, q) (record { answer = refl; tally = refl; length = refl; puts = λ z. never (sym z) }))
 
     module _ (e : v ≡ None) {text' : List ℕ} {n : ℕ} (small : length text < last_place)
@@ -113,7 +103,7 @@ module _ {counts : Counts} {second legs configurations choices second_choices : 
       fitted : {r : Merged} → Made (merge_fitted k.left.lent k.lent k.lent_second text fits (written d) (both_of k)) r text' → Made (merged_equal k d text) r text'
       fitted {r} m =
           subst (λ o. Made (merge_travel k.left.lent k.lent k.lent_second text second (merge_of d) o (both_of k)) r text')
-          (sym (was_equal (unequal_from 0 k.both.a k.both.b) (sym e ∙ told ∙ ap travels_of travels_seen)))
+          (sym e ∙ told ∙ travels_seen)
           (subst (λ b. Made (merge_fitted k.left.lent k.lent k.lent_second text b (written d) (both_of k)) r text') fits_seen m)
 
       -- the text
@@ -150,7 +140,7 @@ module _ {counts : Counts} {second legs configurations choices second_choices : 
           room e false h =
               ends_refused (first ∙ (λ j. first_of (travel_answer second (e j)) (room_answer (h j)))) (room_way e small put refl h refl refl)
 
-          go : (w : StdOption ℕ) → v ≡ w → Ends
+          go : (w : Option ℕ) → v ≡ w → Ends
           go (Some row) e = ends_refused (first ∙ (λ j. first_of (travel_answer second (e j)) (room_answer (leb n (length text') && leb n most_text)))) (unequal_way e refl refl)
           go None e = room e (leb n (length text') && leb n most_text) refl
 

@@ -6,7 +6,6 @@ ghost use Rattle.merge.specs.Left.{violated_as, Disputable, Judges, Solves};
 use crate::{not_written, writing};
 use rules::answers::{Answer, Ruling};
 use rules::outcomes::{Direction, Merged};
-use solution_verdict::Chosen;
 use tables_lent::{Counts, acceptance};
 
 // A verdict that ends the merge: its tally is the merge's.
@@ -81,8 +80,8 @@ pub fn merge_solutions(
         choices.old second_choices.old text.old result choices.new second_choices.new text.new }
 {
     match merge_order::choose_both(first, second, h, counts, legs, choices, second_choices) {
-        Chosen::Refused(refusal) => not_written(Answer::Refused(refusal)),
-        Chosen::Whole => merge_chosen(
+        Err(refusal) => not_written(Answer::Refused(refusal)),
+        Ok(()) => merge_chosen(
             direction,
             counts,
             second,

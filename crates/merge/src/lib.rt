@@ -9,7 +9,7 @@ ghost use Rattle.merge.specs.Promise.{MergeRead};
 use rules::answers::{Answer, Tally};
 use rules::outcomes::{Direction, Merged};
 use rules::stated::Stated;
-use tables_lent::Filed;
+use tables_lent::Counts;
 
 pub mod writing; // the text, 17, 16
 pub mod judging; // the solutions, and their verdicts
@@ -61,8 +61,8 @@ pub fn read_and_merge(
         constraint_table,
         tracks,
     ) {
-        Filed::Refused(refusal) => not_written(Answer::Refused(refusal)),
-        Filed::Whole(counts) => judging::merge_solutions(
+        Err(refusal) => not_written(Answer::Refused(refusal)),
+        Ok(counts) => judging::merge_solutions(
             stated.horizon,
             direction,
             counts,

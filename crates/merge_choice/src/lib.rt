@@ -4,7 +4,6 @@
 ghost use Rattle.std.specs.Prelude.{◌≡◌};
 ghost use Rattle.rules.specs.Merge.{unequal_from, chooser};
 ghost use Rattle.tables_views.specs.View.{configurations_in};
-ghost use Rattle.merge_choice.specs.Travels.{travels_of};
 
 use rules::outcomes::Direction;
 use rules::sizes::Configuration;
@@ -21,7 +20,7 @@ pub fn choose(direction: Direction, a: Configuration, b: Configuration) -> Confi
 
 // 17 over the first `n` choices: the first row where the travel times of two solutions are unequal.
 pub fn unequal(first: &[u32], second: &[u32], n: usize) -> Option<usize>
-    ensures { result ≡ travels_of (unequal_from 0 (configurations_in n first.now) (configurations_in n second.now)) }
+    ensures { result ≡ (unequal_from 0 (configurations_in n first.now) (configurations_in n second.now)) }
 {
     for i in 0..n {
         let a = tables_views::configuration_at(first, i);

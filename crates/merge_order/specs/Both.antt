@@ -1,5 +1,5 @@
 -- Two solutions over files that were read: what reading both promises, and judging both.
-use Rattle.std.specs.Prelude.{ℕ, ◌≡◌, List, length}
+use Rattle.std.specs.Prelude.{ℕ, ◌≡◌, List, length, Result, Ok, Err}
 use Rattle.rules.specs.Answers.{Reading, refused, good, ◌>>=◌, solution_file, second_file}
 use Rattle.rules.specs.Reading.{Files, choices_read}
 use Rattle.rules.specs.Verdict.{ruling}
@@ -8,8 +8,6 @@ use Rattle.rules.specs.declared.sizes.Configuration.{Configuration}
 use Rattle.rules.specs.declared.answers.Refusal.{Refusal}
 use Rattle.rules.specs.declared.answers.Ruling.{Ruling}
 use Rattle.tables_lent.specs.declared.Counts.{Counts}
-use Rattle.solution_verdict.specs.declared.Chosen.{Chosen}
-use Rattle.solution_verdict.specs.declared.Chosen.TheVariants.{Whole, Refused}
 use Rattle.solution_verdict.specs.Left.{Choosable, Ready}
 use Rattle.merge_order.specs.Order.{first_ruling}
 
@@ -30,9 +28,9 @@ pub record BothChosen (H : ℕ) (files : Files) (first second c d c' d' : List �
   pub choices_are : c' ≡ written_choices a c
   pub second_are : d' ≡ written_choices b d
 
-pub record ChoosesBoth (H : ℕ) (counts : Counts) (first second legs c d : List ℕ) (answer : Chosen) (c' d' : List ℕ) : Type 0 where
-  pub refuses : (k : Choosable H counts legs) (x : Refusal) → answer ≡ Refused x → solutions_read H k.left.files first second (length c) (length d) ≡ refused x
-  pub chooses : (k : Choosable H counts legs) → answer ≡ Whole → BothChosen H k.left.files first second c d c' d'
+pub record ChoosesBoth (H : ℕ) (counts : Counts) (first second legs c d : List ℕ) (answer : Result (Unit {0}) Refusal) (c' d' : List ℕ) : Type 0 where
+  pub refuses : (k : Choosable H counts legs) (x : Refusal) → answer ≡ Err x → solutions_read H k.left.files first second (length c) (length d) ≡ refused x
+  pub chooses : (k : Choosable H counts legs) → answer ≡ (Ok tt) → BothChosen H k.left.files first second c d c' d'
 
 -- ---- judging
 

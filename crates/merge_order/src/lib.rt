@@ -9,7 +9,6 @@ ghost use Rattle.merge_order.specs.Order.{travel_answer, room_answer, first_of};
 
 use csv_lines::places;
 use rules::answers::{Answer, File, Refusal, Ruling};
-use solution_verdict::Chosen;
 use tables_lent::{Counts, acceptance};
 
 // The second is read where the first is whole.
@@ -21,13 +20,13 @@ pub fn choose_both(
     legs: &[u32],
     choices: &mut [u32],
     second_choices: &mut [u32],
-) -> Chosen
+) -> Result<(), Refusal>
     requires { Choosable h counts legs.now }
     ensures { ChoosesBoth h counts first.now second.now legs.now choices.old second_choices.old result choices.new second_choices.new }
 {
     match solution_verdict::choose(first, h, File::SOLUTION, counts, legs, choices) {
-        Chosen::Refused(refusal) => Chosen::Refused(refusal),
-        Chosen::Whole => solution_verdict::choose(
+        Err(refusal) => Err(refusal),
+        Ok(()) => solution_verdict::choose(
             second,
             h,
             File::SECOND_SOLUTION,

@@ -17,8 +17,6 @@ use Rattle.rules.specs.Lists.{every, over}
 use Rattle.rules.specs.Made.{signed, sample_made}
 use Rattle.rules.specs.Profiles.{Curve, sampled, sample_table}
 use Rattle.rules.specs.declared.sizes.Sample.{Sample}
-use Rattle.rules.specs.declared.sizes.SampleMade.{SampleMade}
-use Rattle.rules.specs.declared.sizes.SampleMade.TheVariants.{Within, OutOfRange}
 use Rattle.profiles_row.specs.declared.row.Past.{Past}
 use Rattle.profiles_row.specs.declared.row.Listed.{Listed}
 use Rattle.profiles_row.specs.declared.sample.Tail.{Tail}
@@ -27,6 +25,7 @@ use Rattle.profiles_row.specs.Sample.{most_digits, kw_of}
 use Rattle.profiles_row.specs.Row.{in_range, Digits, Closes, ClosesTo}
 use Rattle.rules.proofs.Lists.{every_more, over-more}
 use Rattle.profiles_row.proofs.Tables.{samples_length}
+use Rattle.std.specs.Prelude.{Option, Some, None}
 
 -- ---- kW
 
@@ -67,17 +66,17 @@ range_out id done negative k h =
     go true false = refl
     go false t = refl
 
-made_in : (negative : Bool) (k : ℕ) (made : SampleMade) (s : Sample) → made ≡ sample_made negative k → made ≡ Within s → (k ≤ most_kw) × (s.kw ≡ signed negative k)
+made_in : (negative : Bool) (k : ℕ) (made : Option Sample) (s : Sample) → made ≡ sample_made negative k → made ≡ Some s → (k ≤ most_kw) × (s.kw ≡ signed negative k)
 made_in negative k made s e q = go (ltb most_kw k) refl (sym e ∙ q)
   where
-    go : (t : Bool) → ltb most_kw k ≡ t → cond t OutOfRange (Within (record { kw = signed negative k })) ≡ Within s → (k ≤ most_kw) × (s.kw ≡ signed negative k)
+    go : (t : Bool) → ltb most_kw k ≡ t → cond {A = Option Sample} t None (Some (record { kw = signed negative k })) ≡ Some s → (k ≤ most_kw) × (s.kw ≡ signed negative k)
     go true x y = (let z : ◌≡◌ {A = ℕ} 0 1 = cc in omega arith, (cc))
     go false x y = (ltb-false most_kw k x, (let w : record { kw = signed negative k } ≡ s = cc in sym (ap (λ (r : Sample). r.kw) w)))
 
-made_out : (negative : Bool) (k : ℕ) (made : SampleMade) → made ≡ sample_made negative k → made ≡ OutOfRange → most_kw < k
+made_out : (negative : Bool) (k : ℕ) (made : Option Sample) → made ≡ sample_made negative k → made ≡ None → most_kw < k
 made_out negative k made e q = go (ltb most_kw k) refl (sym e ∙ q)
   where
-    go : (t : Bool) → ltb most_kw k ≡ t → cond t OutOfRange (Within (record { kw = signed negative k })) ≡ OutOfRange → most_kw < k
+    go : (t : Bool) → ltb most_kw k ≡ t → cond {A = Option Sample} t None (Some (record { kw = signed negative k })) ≡ None → most_kw < k
     go true x y = ltb-true most_kw k x
     go false x y = let z : ◌≡◌ {A = ℕ} 0 1 = cc in omega arith
 
@@ -100,14 +99,14 @@ stored_more before done samples₀ samples samples' v at a e q room =
     let one : samples' ≡ over (w ++ v ∷ []) samples₀ = rw (q, e, ← long) (over-more w samples₀ (v ∷ []) below) in
     rw (append_assoc (sample_table before) done (v ∷ [])) at one
 
-module _ (past : Past) (l : Listed) (t : Tail) (samples : List ℤ) (k : ℕ) (made : SampleMade)
+module _ (past : Past) (l : Listed) (t : Tail) (samples : List ℤ) (k : ℕ) (made : Option Sample)
     (kw : 1 ≤ t.digits → t.digits ≤ most_digits → k ≡ min (kw_of t.whole t.digits t.value) (suc most_kw)) (is : made ≡ sample_made t.negative k) where
   near : (n count value : ℕ) → 1 ≤ count → Digits t n count value → k ≡ min (kw_of n count value) (suc most_kw)
   near n count value one d =
       let e : k ≡ min (kw_of t.whole count t.value) (suc most_kw) = rw d.counted at kw one d.few in
       e ∙ kw_near n count value t.whole t.value d.same_whole d.same_value one d.few
 
-  closes_out : made ≡ OutOfRange → Closes past l t samples (record { id = l.id; count = l.count + 1; wide = true }) samples
+  closes_out : made ≡ None → Closes past l t samples (record { id = l.id; count = l.count + 1; wide = true }) samples
   closes_out e profiles₀ samples₀ next before id done n count value sum one g d =
       let above : most_kw < kw_of n count value = omega (arith, near n count value one d, made_out t.negative k made is e) in
       record {
@@ -120,7 +119,7 @@ module _ (past : Past) (l : Listed) (t : Tail) (samples : List ℤ) (k : ℕ) (m
         entered = λ x y. let z : ◌≡◌ {A = ℕ} 0 1 = cc in absurd (omega arith);
       }
 
-  closes_in : (s : Sample) (samples' : List ℤ) → made ≡ Within s → samples' ≡ set samples (past.samples + l.count) (to_z w32 (of_z w32 s.kw))
+  closes_in : (s : Sample) (samples' : List ℤ) → made ≡ Some s → samples' ≡ set samples (past.samples + l.count) (to_z w32 (of_z w32 s.kw))
       → Closes past l t samples (record { id = l.id; count = l.count + 1; wide = l.wide }) samples'
   closes_in s samples' e q profiles₀ samples₀ next before id done n count value sum one g d =
       let m = made_in t.negative k made s is e in
@@ -140,10 +139,10 @@ module _ (past : Past) (l : Listed) (t : Tail) (samples : List ℤ) (k : ℕ) (m
             (g.entered fine (omega (arith, length-append done (v ∷ [])))) stored room;
       }
 
-  pub sample_out : made ≡ OutOfRange → ClosesTo past l t samples (record { id = l.id; count = l.count + 1; wide = true }) samples
+  pub sample_out : made ≡ None → ClosesTo past l t samples (record { id = l.id; count = l.count + 1; wide = true }) samples
   sample_out e = record { counted = refl; closes = closes_out e }
 
-  pub sample_in : (s : Sample) (samples' : List ℤ) → made ≡ Within s → samples' ≡ set samples (past.samples + l.count) (to_z w32 (of_z w32 s.kw))
+  pub sample_in : (s : Sample) (samples' : List ℤ) → made ≡ Some s → samples' ≡ set samples (past.samples + l.count) (to_z w32 (of_z w32 s.kw))
       → ClosesTo past l t samples (record { id = l.id; count = l.count + 1; wide = l.wide }) samples'
   sample_in s samples' e q = record { counted = refl; closes = closes_in s samples' e q }
 

@@ -1,6 +1,5 @@
 -- The code's number is the machine's, told apart up to a cap that is above every limit.
-use Rattle.std.specs.Prelude.{ℕ, ◌+◌, min, ◌≡◌, Option as Answer, Some, None}
-use Rattle.std.proofs.Math.Option.{Option, none, some}
+use Rattle.std.specs.Prelude.{ℕ, ◌+◌, min, ◌≡◌, Option, Some, None}
 use Rattle.rules.specs.Limits.{most_id}
 use Rattle.csv_machine.specs.Number.{Number as Whole, empty, zero, digits, number_step, number_end}
 use Rattle.profiles_row.specs.declared.number.Number.{Number}
@@ -15,17 +14,17 @@ pub data Near : Number → Whole → Type 0 where
   digits_near : {v n : ℕ} → v ≡ min n cap → Near (Digits v) (digits n)
 
 -- after one digit more
-pub data NearNext : Answer Number → Option Whole → Type 0 where
-  next_near : {n : Number} {m : Whole} → Near n m → NearNext (Some n) (some m)
-  next_broken : NearNext None none
+pub data NearNext : Option Number → Option Whole → Type 0 where
+  next_near : {n : Number} {m : Whole} → Near n m → NearNext (Some n) (Some m)
+  next_broken : NearNext None None
 
-abbrev pub Pushes : Number → ℕ → Answer Number → Type 0
+abbrev pub Pushes : Number → ℕ → Option Number → Type 0
 Pushes n b r = (m : Whole) → Near n m → NearNext r (number_step m b)
 
 -- at the end
-pub data NearEnd : Answer ℕ → Option ℕ → Type 0 where
-  end_near : {v n : ℕ} → v ≡ min n cap → NearEnd (Some v) (some n)
-  end-broken : NearEnd None none
+pub data NearEnd : Option ℕ → Option ℕ → Type 0 where
+  end_near : {v n : ℕ} → v ≡ min n cap → NearEnd (Some v) (Some n)
+  end-broken : NearEnd None None
 
-abbrev pub Ends : Number → Answer ℕ → Type 0
+abbrev pub Ends : Number → Option ℕ → Type 0
 Ends n r = (m : Whole) → Near n m → NearEnd r (number_end m)

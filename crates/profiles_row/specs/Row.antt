@@ -1,14 +1,11 @@
 -- What the rows before the open one and the open one say of the lent tables; a sample that is closed, and a row that ends.
-use Rattle.std.specs.Prelude.{ℕ, suc, ◌+◌, ◌*◌, ◌/◌, ◌≤◌, ◌<◌, min, ◌≡◌, Bool, false, not, cond, ◌&&◌, List, [], ◌∷◌, ◌++◌, leb, eqb, length, take, ℤ, nat_abs}
-use Rattle.std.proofs.Math.Option.{some}
+use Rattle.std.specs.Prelude.{ℕ, suc, ◌+◌, ◌*◌, ◌/◌, ◌≤◌, ◌<◌, min, ◌≡◌, Bool, false, not, cond, ◌&&◌, List, [], ◌∷◌, ◌++◌, leb, eqb, length, take, ℤ, nat_abs, Option, Some, None}
 use Rattle.std.proofs.lemmas.List.Edits.{sets}
 use Rattle.rules.specs.Limits.{most_id, most_kw, profile_width}
 use Rattle.rules.specs.Lists.{every, flat, over}
 use Rattle.rules.specs.Answers.{Judged, wrong, right}
 use Rattle.rules.specs.Made.{signed}
 use Rattle.rules.specs.Profiles.{judge_form, Curve, sampled, profiles_from, profile_numbers, sample_table}
-use Rattle.rules.specs.declared.sizes.ProfileMade.{ProfileMade}
-use Rattle.rules.specs.declared.sizes.ProfileMade.TheVariants.{Within, OutOfRange}
 use Rattle.tables_ids.specs.Column.{curve_ids_of, Ascending, Last}
 use Rattle.profiles_row.specs.declared.row.Past.{Past}
 use Rattle.profiles_row.specs.declared.row.Rise.{Rise}
@@ -16,6 +13,7 @@ use Rattle.profiles_row.specs.declared.row.Listed.{Listed}
 use Rattle.profiles_row.specs.declared.sample.Tail.{Tail}
 use Rattle.profiles_row.specs.Sample.{most_digits, kw_of}
 use Rattle.profiles_row.specs.Near.{cap}
+use Rattle.rules.specs.declared.sizes.Profile.{Profile}
 
 abbrev pub curve : (id : ℕ) → List ℤ → Curve
 curve id samples = record { id = id; samples = samples }
@@ -97,13 +95,13 @@ pub record Ending (past : Past) (l : Listed) (profiles : List ℕ) (room : ℕ) 
   pub some_closed : 1 ≤ l.count
 
 -- what the constructor made, at its place
-abbrev pub entered_made : ProfileMade → (n : ℕ) → List ℕ → List ℕ
-entered_made (Within p) n profiles = sets profiles (n * profile_width) (profile_numbers p)
-entered_made OutOfRange n profiles = profiles
+abbrev pub entered_made : Option Profile → (n : ℕ) → List ℕ → List ℕ
+entered_made (Some p) n profiles = sets profiles (n * profile_width) (profile_numbers p)
+entered_made None n profiles = profiles
 
 -- the first fault of a row that ends
 abbrev pub Faults : Past → Listed → List ℕ → (room : ℕ) → ℕ → Type 0
 Faults past l profiles room r =
     (profiles₀ : List ℕ) (samples₀ : List ℤ) (next : ℕ) (samples : List ℤ) (before : List Curve) (id : ℕ) (done : List ℤ)
     → room ≡ length samples₀ → Closed profiles₀ samples₀ past profiles before → Going profiles₀ samples₀ past l next samples before id done
-    → judge_form (length profiles₀ / profile_width) (length samples₀) before (some (curve id done)) ≡ fault_or r (curve id done)
+    → judge_form (length profiles₀ / profile_width) (length samples₀) before (Some (curve id done)) ≡ fault_or r (curve id done)

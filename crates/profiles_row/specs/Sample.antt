@@ -1,6 +1,5 @@
 -- A sample byte by byte: an optional minus, a whole number, a point and one to three digits.
-use Rattle.std.specs.Prelude.{ℕ, suc, ◌+◌, ◌*◌, ◌-◌, ◌^◌, Bool, true, false, cond, ◌&&◌, leb, ltb, eqb, ℤ}
-use Rattle.std.proofs.Math.Option.{Option, none, some}
+use Rattle.std.specs.Prelude.{ℕ, suc, ◌+◌, ◌*◌, ◌-◌, ◌^◌, Bool, true, false, cond, ◌&&◌, leb, ltb, eqb, ℤ, Option, Some, None}
 use Rattle.rules.specs.Lists.{◌>>=◌}
 use Rattle.rules.specs.Bytes.{is_digit, digit_zero, minus, point}
 use Rattle.rules.specs.Made.{signed}
@@ -27,20 +26,20 @@ fresh = whole false empty
 
 -- a minus stands first or nowhere
 abbrev pub negated : Bool → Number → Option Sample
-negated false empty = some (whole true empty)
-negated false zero = none
-negated false (digits n) = none
-negated true m = none
+negated false empty = Some (whole true empty)
+negated false zero = None
+negated false (digits n) = None
+negated true m = None
 
 abbrev pub whole_step : Bool → Number → ℕ → Option Sample
 whole_step negative m b =
     cond (is_digit b)
-    (number_step m b >>= (λ next. some (whole negative next)))
-    (cond (eqb b point) (number_end m >>= (λ n. some (fraction negative n 0 0))) (cond (eqb b minus) (negated negative m) none))
+    (number_step m b >>= (λ next. Some (whole negative next)))
+    (cond (eqb b point) (number_end m >>= (λ n. Some (fraction negative n 0 0))) (cond (eqb b minus) (negated negative m) None))
 
 abbrev pub fraction_step : Bool → (whole count value : ℕ) → ℕ → Option Sample
 fraction_step negative n count value b =
-    cond (is_digit b && ltb count most_digits) (some (fraction negative n (suc count) (value * 10 + (b - digit_zero)))) none
+    cond (is_digit b && ltb count most_digits) (Some (fraction negative n (suc count) (value * 10 + (b - digit_zero)))) None
 
 abbrev pub sample_step : Sample → ℕ → Option Sample
 sample_step (whole negative m) b = whole_step negative m b
@@ -51,5 +50,5 @@ abbrev pub kw_of : (whole count value : ℕ) → ℕ
 kw_of n count value = n * kw_a_mw + value * 10 ^ (most_digits - count)
 
 abbrev pub sample_end : Sample → Option ℤ
-sample_end (whole negative m) = none
-sample_end (fraction negative n count value) = cond (leb 1 count) (some (signed negative (kw_of n count value))) none
+sample_end (whole negative m) = None
+sample_end (fraction negative n count value) = cond (leb 1 count) (Some (signed negative (kw_of n count value))) None

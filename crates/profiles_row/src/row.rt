@@ -7,7 +7,7 @@ ghost use Rattle.rules.specs.Profiles.{profile_numbers};
 ghost use Rattle.profiles_row.specs.Row.{Climbs, Ending, Faults, entered_made};
 
 use rules::answers::Refusal;
-use rules::sizes::{Id, Profile, ProfileMade, Sample};
+use rules::sizes::{Id, Profile, Sample};
 
 // The rows that are closed: how many, how many samples they have, how many ids rise from the first on and the last of these;
 // and where the open row starts.
@@ -118,11 +118,11 @@ fn enter(profiles: &mut [u32], n: u32, profile: Profile)
 }
 
 // A profile out of its limits is not entered; a row that is right has none.
-pub fn enter_made(profiles: &mut [u32], n: u32, made: ProfileMade)
+pub fn enter_made(profiles: &mut [u32], n: u32, made: Option<Profile>)
     requires { (n + 1) * profile_width ≤ length profiles.old }
     ensures { profiles.new ≡ entered_made made n profiles.old }
 {
-    if let ProfileMade::Within(profile) = made {
+    if let Some(profile) = made {
         enter(profiles, n, profile);
     }
 }

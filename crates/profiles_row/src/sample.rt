@@ -5,7 +5,7 @@ ghost use Rattle.profiles_row.specs.Sample.{most_digits, kw_a_tenth, kw_of};
 ghost use Rattle.profiles_row.specs.Row.{ClosesTo};
 
 use crate::row::{Listed, Past};
-use rules::sizes::{Sample, SampleMade};
+use rules::sizes::Sample;
 
 // The open sample past its point: what stands before it, and the digits since.
 #[derive(Clone, Copy)]
@@ -70,7 +70,7 @@ pub fn close_sample(past: Past, l: Listed, t: Tail, samples: &mut [i32]) -> List
     let at = (past.samples as usize) + (l.count as usize);
     let kw = kw_of(t.whole, t.digits, t.value);
     match Sample::new(t.negative, kw) {
-        SampleMade::Within(sample) => {
+        Some(sample) => {
             put(samples, at, sample.kw);
             Listed {
                 id: l.id,
@@ -78,7 +78,7 @@ pub fn close_sample(past: Past, l: Listed, t: Tail, samples: &mut [i32]) -> List
                 wide: l.wide,
             }
         }
-        SampleMade::OutOfRange => Listed {
+        None => Listed {
             id: l.id,
             count,
             wide: true,

@@ -3,7 +3,6 @@ use Prim.Native.Nat.{ℕ}
 use mathlib.Core.Path.{◌≡◌, refl, sym, ◌∙◌, ap}
 use mathlib.Core.Bool.{Bool, true, false, cond}
 use mathlib.Core.List.{List, [], ◌∷◌, ◌++◌, append_assoc}
-use mathlib.Core.Option.{Option, none, some}
 use lib.Dec.{eqb}
 use lib.IntN.{ℤ}
 use Rattle.rules.specs.Lists.{◌>>=◌, each}
@@ -19,6 +18,7 @@ use Rattle.profiles_row.specs.Row.{curve}
 use Rattle.profiles_state.specs.Open.{Open, in_id, in_list, start, open_step, open_end}
 use Rattle.profiles_state.proofs.Pieces.{Has, here, later, Pieces, alone, several, pieces_of, then_none}
 use Rattle.profiles_state.proofs.Sample.{sample_run}
+use Rattle.std.specs.Prelude.{Option, Some, None}
 
 -- what a row becomes when this is the rest of its line
 abbrev rest : Open → List ℕ → Option Curve
@@ -28,17 +28,17 @@ rest o s = run open_step o s >>= open_end
 
 -- a list of which some samples are closed and one is open
 abbrev list_from : ℕ → List ℤ → Sample → List (List ℕ) → Option Curve
-list_from id done x [] = none
-list_from id done x (p ∷ ps) = run sample_step x p >>= sample_end >>= (λ kw. each sample_of ps >>= (λ kws. some (curve id (done ++ kw ∷ kws))))
+list_from id done x [] = None
+list_from id done x (p ∷ ps) = run sample_step x p >>= sample_end >>= (λ kw. each sample_of ps >>= (λ kws. Some (curve id (done ++ kw ∷ kws))))
 
 list_cons : (id : ℕ) (done : List ℤ) (x : Sample) (b : ℕ) (p : List ℕ) (ps : List (List ℕ))
     → sample_step x b >>= (λ next. list_from id done next (p ∷ ps)) ≡ list_from id done x ((b ∷ p) ∷ ps)
 list_cons id done x b p ps = go (sample_step x b)
   where
     go : (y : Option Sample) → y >>= (λ next. list_from id done next (p ∷ ps))
-        ≡ y >>= (λ next. run sample_step next p) >>= sample_end >>= (λ kw. each sample_of ps >>= (λ kws. some (curve id (done ++ kw ∷ kws))))
-    go none = refl
-    go (some next) = refl
+        ≡ y >>= (λ next. run sample_step next p) >>= sample_end >>= (λ kw. each sample_of ps >>= (λ kws. Some (curve id (done ++ kw ∷ kws))))
+    go None = refl
+    go (Some next) = refl
 
 list-onto : (id : ℕ) (done : List ℤ) (x : Sample) (b : ℕ) {s : List ℕ} {ps : List (List ℕ)} → Pieces space s ps
     → sample_step x b >>= (λ next. list_from id done next ps) ≡ list_from id done x (onto b ps)
@@ -47,19 +47,19 @@ list-onto id done x b (several {p} {q} {ps} h) = list_cons id done x b p (q ∷ 
 
 -- from a sample's beginning on, the pieces are samples
 list-fresh : (id : ℕ) (done : List ℤ) {s : List ℕ} {ps : List (List ℕ)} → Pieces space s ps
-    → list_from id done fresh ps ≡ each sample_of ps >>= (λ kws. some (curve id (done ++ kws)))
+    → list_from id done fresh ps ≡ each sample_of ps >>= (λ kws. Some (curve id (done ++ kws)))
 list-fresh id done {s} alone = rw (sample_run s) (go (sample_of s))
   where
-    go : (x : Option ℤ) → x >>= (λ kw. some (curve id (done ++ kw ∷ []))) ≡ x >>= (λ kw. some (kw ∷ [])) >>= (λ kws. some (curve id (done ++ kws)))
-    go none = refl
-    go (some kw) = refl
+    go : (x : Option ℤ) → x >>= (λ kw. Some (curve id (done ++ kw ∷ []))) ≡ x >>= (λ kw. Some (kw ∷ [])) >>= (λ kws. Some (curve id (done ++ kws)))
+    go None = refl
+    go (Some kw) = refl
 list-fresh id done (several {p} {q} {ps} h) = rw (sample_run p) (go (sample_of p) (each sample_of (q ∷ ps)))
   where
-    go : (x : Option ℤ) (y : Option (List ℤ)) → x >>= (λ kw. y >>= (λ kws. some (curve id (done ++ kw ∷ kws))))
-        ≡ x >>= (λ kw. y >>= (λ kws. some (kw ∷ kws))) >>= (λ kws. some (curve id (done ++ kws)))
-    go none y = refl
-    go (some kw) none = refl
-    go (some kw) (some kws) = refl
+    go : (x : Option ℤ) (y : Option (List ℤ)) → x >>= (λ kw. y >>= (λ kws. Some (curve id (done ++ kw ∷ kws))))
+        ≡ x >>= (λ kw. y >>= (λ kws. Some (kw ∷ kws))) >>= (λ kws. Some (curve id (done ++ kws)))
+    go None y = refl
+    go (Some kw) None = refl
+    go (Some kw) (Some kws) = refl
 
 abbrev ListRuns : List ℕ → Type 0
 ListRuns s = (id : ℕ) (done : List ℤ) (x : Sample) → rest (in_list id done x) s ≡ list_from id done x (split_on space s)
@@ -74,45 +74,45 @@ list-run [] id done x = refl
 list-run (b ∷ s) id done x = go (eqb b space) (list-run s)
   where
     closed : (y : Option ℤ) → ListRuns s
-        → after s (y >>= (λ kw. some (in_list id (done ++ kw ∷ []) fresh)))
-        ≡ y >>= (λ kw. each sample_of (split_on space s) >>= (λ kws. some (curve id (done ++ kw ∷ kws))))
-    closed none on = refl
-    closed (some kw) on = on id (done ++ kw ∷ []) fresh ∙ list-fresh id (done ++ kw ∷ []) (pieces_of space s) ∙ simp append_assoc
+        → after s (y >>= (λ kw. Some (in_list id (done ++ kw ∷ []) fresh)))
+        ≡ y >>= (λ kw. each sample_of (split_on space s) >>= (λ kws. Some (curve id (done ++ kw ∷ kws))))
+    closed None on = refl
+    closed (Some kw) on = on id (done ++ kw ∷ []) fresh ∙ list-fresh id (done ++ kw ∷ []) (pieces_of space s) ∙ simp append_assoc
 
     taken : (y : Option Sample) → ListRuns s
-        → after s (y >>= (λ next. some (in_list id done next))) ≡ y >>= (λ next. list_from id done next (split_on space s))
-    taken none on = refl
-    taken (some next) on = on id done next
+        → after s (y >>= (λ next. Some (in_list id done next))) ≡ y >>= (λ next. list_from id done next (split_on space s))
+    taken None on = refl
+    taken (Some next) on = on id done next
 
     go : (t : Bool) → ListRuns s
-        → after s (cond t (sample_end x >>= (λ kw. some (in_list id (done ++ kw ∷ []) fresh))) (sample_step x b >>= (λ next. some (in_list id done next))))
+        → after s (cond t (sample_end x >>= (λ kw. Some (in_list id (done ++ kw ∷ []) fresh))) (sample_step x b >>= (λ next. Some (in_list id done next))))
         ≡ list_from id done x (cond t ([] ∷ split_on space s) (onto b (split_on space s)))
     go true on = closed (sample_end x) on
     go false on = taken (sample_step x b) on ∙ list-onto id done x b (pieces_of space s)
 
 -- a comma among the samples breaks the form
-no_comma : (x : Sample) → sample_step x comma ≡ none
+no_comma : (x : Sample) → sample_step x comma ≡ None
 no_comma (whole negative m) = refl
 no_comma (fraction negative n count value) = refl
 
-comma_stops : {s : List ℕ} → Has comma s → (id : ℕ) (done : List ℤ) (x : Sample) → rest (in_list id done x) s ≡ none
+comma_stops : {s : List ℕ} → Has comma s → (id : ℕ) (done : List ℤ) (x : Sample) → rest (in_list id done x) s ≡ None
 unfolding open_step
 comma_stops here id done x = rw no_comma
 comma_stops (later {b} {s} h) id done x = go (eqb b space) (sample_end x) (sample_step x b) (comma_stops h)
   where
-    go : (t : Bool) (y : Option ℤ) (z : Option Sample) → ((id : ℕ) (done : List ℤ) (x : Sample) → rest (in_list id done x) s ≡ none)
-        → after s (cond t (y >>= (λ kw. some (in_list id (done ++ kw ∷ []) fresh))) (z >>= (λ next. some (in_list id done next)))) ≡ none
-    go true none z on = refl
-    go true (some kw) z on = on id (done ++ kw ∷ []) fresh
-    go false y none on = refl
-    go false y (some next) on = on id done next
+    go : (t : Bool) (y : Option ℤ) (z : Option Sample) → ((id : ℕ) (done : List ℤ) (x : Sample) → rest (in_list id done x) s ≡ None)
+        → after s (cond t (y >>= (λ kw. Some (in_list id (done ++ kw ∷ []) fresh))) (z >>= (λ next. Some (in_list id done next)))) ≡ None
+    go true None z on = refl
+    go true (Some kw) z on = on id (done ++ kw ∷ []) fresh
+    go false y None on = refl
+    go false y (Some next) on = on id done next
 
 -- ---- the id
 
 abbrev list_of : ℕ → List (List ℕ) → Option Curve
-list_of id [] = none
-list_of id (l ∷ []) = samples_of l >>= (λ samples. some (curve id samples))
-list_of id (l ∷ x ∷ more) = none
+list_of id [] = None
+list_of id (l ∷ []) = samples_of l >>= (λ samples. Some (curve id samples))
+list_of id (l ∷ x ∷ more) = None
 
 past-comma : (id : ℕ) (s : List ℕ) → rest (in_list id [] fresh) s ≡ list_of id (split_on comma s)
 past-comma id s = go (pieces_of comma s)
@@ -123,15 +123,15 @@ past-comma id s = go (pieces_of comma s)
 
 -- a row of which some of the id was read
 abbrev row_from : Number → List (List ℕ) → Option Curve
-row_from m [] = none
+row_from m [] = None
 row_from m (i ∷ ps) = run number_step m i >>= number_end >>= (λ id. list_of id ps)
 
 row_cons : (m : Number) (b : ℕ) (p : List ℕ) (ps : List (List ℕ)) → number_step m b >>= (λ next. row_from next (p ∷ ps)) ≡ row_from m ((b ∷ p) ∷ ps)
 row_cons m b p ps = go (number_step m b)
   where
     go : (y : Option Number) → y >>= (λ next. row_from next (p ∷ ps)) ≡ y >>= (λ next. run number_step next p) >>= number_end >>= (λ id. list_of id ps)
-    go none = refl
-    go (some next) = refl
+    go None = refl
+    go (Some next) = refl
 
 row-onto : (m : Number) (b : ℕ) {s : List ℕ} {ps : List (List ℕ)} → Pieces comma s ps → number_step m b >>= (λ next. row_from next ps) ≡ row_from m (onto b ps)
 row-onto m b {s} alone = row_cons m b s []
@@ -142,17 +142,17 @@ unfolding open_step open_end
 id_run [] m = sym (then_none (number_end m))
 id_run (b ∷ s) m = go (eqb b comma) (id_run s)
   where
-    closed : (y : Option ℕ) → after s (y >>= (λ id. some (in_list id [] fresh))) ≡ y >>= (λ id. list_of id (split_on comma s))
-    closed none = refl
-    closed (some id) = past-comma id s
+    closed : (y : Option ℕ) → after s (y >>= (λ id. Some (in_list id [] fresh))) ≡ y >>= (λ id. list_of id (split_on comma s))
+    closed None = refl
+    closed (Some id) = past-comma id s
 
     taken : (y : Option Number) → ((m : Number) → rest (in_id m) s ≡ row_from m (split_on comma s))
-        → after s (y >>= (λ next. some (in_id next))) ≡ y >>= (λ next. row_from next (split_on comma s))
-    taken none on = refl
-    taken (some next) on = on next
+        → after s (y >>= (λ next. Some (in_id next))) ≡ y >>= (λ next. row_from next (split_on comma s))
+    taken None on = refl
+    taken (Some next) on = on next
 
     go : (t : Bool) → ((m : Number) → rest (in_id m) s ≡ row_from m (split_on comma s))
-        → after s (cond t (number_end m >>= (λ id. some (in_list id [] fresh))) (number_step m b >>= (λ next. some (in_id next))))
+        → after s (cond t (number_end m >>= (λ id. Some (in_list id [] fresh))) (number_step m b >>= (λ next. Some (in_id next))))
         ≡ row_from m (cond t ([] ∷ split_on comma s) (onto b (split_on comma s)))
     go true on = closed (number_end m)
     go false on = taken (number_step m b) on ∙ row-onto m b (pieces_of comma s)

@@ -3,7 +3,6 @@ use Prim.Native.Nat.{ℕ, suc, ◌+◌, ◌*◌, ◌-◌, ◌/◌, ◌≤◌, �
 use mathlib.Core.Path.{◌≡◌, refl, sym, ◌∙◌}
 use mathlib.Core.Bool.{Bool, true, false, cond}
 use mathlib.Core.List.{List, [], ◌∷◌}
-use mathlib.Core.Option.{Option, none}
 use native.Mathlib.Omega.{arith}
 use lib.Dec.{leb, eqb}
 use lib.ListN.{length, length-append}
@@ -26,6 +25,7 @@ use Rattle.profiles_row.specs.Row.{Digits, Closes, Ending}
 use Rattle.profiles_state.specs.Holds.{Holds, in_whole, in_fraction, at_stop, Live, Steps, Free, Ends}
 use Rattle.rules.proofs.Numbers.{digit_in, digit_below, digit_above}
 use Rattle.profiles_state.proofs.Steps.{reach-byte, reach-line, reach_stop, onward}
+use Rattle.std.specs.Prelude.{Option, None}
 
 module _ (past : Past) (l : Listed) (t : Tail) (b : ℕ) where
   abbrev inside : State
@@ -33,7 +33,7 @@ module _ (past : Past) (l : Listed) (t : Tail) (b : ℕ) where
 
   -- a byte that may not stand there
   module _ (off-space : b ≡ space → ⊥) (off-line : b ≡ line_feed → ⊥) where
-    fraction_stop : ((n count value : ℕ) → Digits t n count value → fraction_step t.negative n count value b ≡ none) → (at : ℕ) → Free at inside b (Stopped bad_row past.place)
+    fraction_stop : ((n count value : ℕ) → Digits t n count value → fraction_step t.negative n count value b ≡ None) → (at : ℕ) → Free at inside b (Stopped bad_row past.place)
     unfolding open_step
     fraction_stop e at profiles samples profiles₀ samples₀ reached (in_fraction {before = before} {id = id} {done = done} {n = n} {count = count} {value = value} c g d) =
         rw (reach-byte (length profiles₀ / profile_width) (length samples₀) past.place at before (in_list id done (fraction t.negative n count value)) b off-line)
@@ -56,10 +56,10 @@ module _ (past : Past) (l : Listed) (t : Tail) (b : ℕ) where
   fraction_empty z h at profiles samples profiles₀ samples₀ reached (in_fraction {before = before} {id = id} {done = done} {n = n} {count = count} {value = value} c g d) =
       let q : count ≡ 0 = sym d.counted ∙ z in
       let e : leb 1 count ≡ false = lt-leb 1 count (omega arith) in
-      let f : open_step (in_list id done (fraction t.negative n count value)) b ≡ none = rw (e, digit_below b h) (go (eqb b space)) in
+      let f : open_step (in_list id done (fraction t.negative n count value)) b ≡ None = rw (e, digit_below b h) (go (eqb b space)) in
       rw (reach_stop (length profiles₀ / profile_width) (length samples₀) past.place at before (in_list id done (fraction t.negative n count value)) b f (rw e)) at_stop
     where
-      go : (y : Bool) → ◌≡◌ {A = Option Open} (cond y none none) none
+      go : (y : Bool) → ◌≡◌ {A = Option Open} (cond y None None) None
       go true = refl
       go false = refl
 

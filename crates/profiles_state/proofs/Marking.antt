@@ -3,7 +3,6 @@ use Prim.Native.Nat.{ℕ, suc, ◌/◌, ◌≤◌}
 use mathlib.Core.Path.{◌≡◌, refl, ap, sym, subst, ◌∙◌}
 use mathlib.Core.Bool.{Bool, true, false}
 use mathlib.Core.List.{List, [], ◌∷◌}
-use mathlib.Core.Option.{Option, none, some}
 use native.Mathlib.Omega.{arith}
 use lib.Dec.{eqb}
 use lib.ListN.{length}
@@ -31,6 +30,7 @@ use Rattle.profiles_state.specs.declared.state.State.{State}
 use Rattle.profiles_state.specs.Open.{Open, in_list, open_step, open_end, no_digit, is_fresh, open_begins, Reached, in_row, stopped, on_byte, on_line, reach, Read, contents, machine, read}
 use Rattle.profiles_state.specs.Holds.{Holds, in_id_lem, in_whole, in_fraction, at_stop, Steps, Under, is_empty, list_begins, begins, broken_at, Turns, Passes, passed, leaves}
 use Rattle.profiles_state.proofs.Steps.{onward}
+use Rattle.std.specs.Prelude.{Option, Some, None}
 
 -- ---- contents
 
@@ -76,8 +76,8 @@ module _ (profiles samples : ℕ) where
   on_line_lem m place at before e (right row) = rw e
 
   on_byte_lem : (m : Mark) (place at : ℕ) (before : List Curve) (x : Option Open) → Under m (on_byte place at before x) (byte_at (machine profiles samples) place at before (marked_step m x))
-  on_byte_lem m place at before none = is_broken
-  on_byte_lem m place at before (some o) = refl
+  on_byte_lem m place at before None = is_broken
+  on_byte_lem m place at before (Some o) = refl
 
   reach-at-line : (place at : ℕ) (before : List Curve) (o : Open) (b : ℕ) → eqb b line_feed ≡ true
       → reach profiles samples (in_row place at before o) b ≡ on_line place at before (judge_form profiles samples before (open_end o))

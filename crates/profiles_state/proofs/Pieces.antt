@@ -3,16 +3,16 @@ use Prim.Native.Nat.{ℕ}
 use mathlib.Core.Path.{◌≡◌, refl}
 use mathlib.Core.Bool.{Bool, true, false, cond}
 use mathlib.Core.List.{List, [], ◌∷◌}
-use mathlib.Core.Option.{Option, none, some}
 use lib.Dec.{eqb}
 use borrow.Author.Tests.{eqb-true}
 use Rattle.rules.specs.Lists.{◌>>=◌}
 use Rattle.rules.specs.Bytes.{split_on, onto}
+use Rattle.std.specs.Prelude.{Option, Some, None}
 
 -- nothing follows from what is missing, whatever was there before
-pub then_none : {A B : Type 0} (x : Option A) → ◌≡◌ {A = Option B} (x >>= (λ a. none)) none
-then_none none = refl
-then_none (some a) = refl
+pub then_none : {A B : Type 0} (x : Option A) → ◌≡◌ {A = Option B} (x >>= (λ a. None)) None
+then_none None = refl
+then_none (Some a) = refl
 
 -- the separator stands in a text
 pub data Has (sep : ℕ) : List ℕ → Type 0 where

@@ -3,7 +3,6 @@ use Prim.Native.Nat.{ℕ, suc, ◌+◌, ◌*◌, ◌/◌, ◌≤◌, ◌<◌}
 use mathlib.Core.Path.{◌≡◌, refl, ap, sym, subst, ◌∙◌}
 use mathlib.Core.Bool.{Bool, true, false, not, cond}
 use mathlib.Core.List.{List, [], ◌∷◌, ◌++◌}
-use mathlib.Core.Option.{some}
 use native.Mathlib.Omega.{arith}
 use native.Mathlib.Numerals.{add-one}
 use native.Mathlib.Nat.{div-mul-le_self}
@@ -17,8 +16,6 @@ use Rattle.rules.specs.Lists.{any, over}
 use Rattle.rules.specs.Answers.{Judged, wrong, right, out_of_range, too_many, already_seen, no_room}
 use Rattle.rules.specs.Profiles.{Curve, sampled, judge_form, sample_table, profile_numbers}
 use Rattle.rules.specs.Made.{profile_made}
-use Rattle.rules.specs.declared.sizes.ProfileMade.{ProfileMade}
-use Rattle.rules.specs.declared.sizes.ProfileMade.TheVariants.{Within}
 use Rattle.tables_ids.specs.Column.{curve_ids_of}
 use Rattle.profiles_row.specs.declared.number.Number.TheVariants.{Empty}
 use Rattle.profiles_row.specs.declared.row.Past.{Past}
@@ -33,6 +30,8 @@ use Rattle.rules.proofs.Truth.{and_first, and_second}
 use Rattle.rules.proofs.Lists.{over-more}
 use Rattle.profiles_row.proofs.Tables.{sampled-more, samples_more, table_more, table-length, entry_of}
 use Rattle.profiles_row.proofs.Faults.{same_length, told}
+use Rattle.std.specs.Prelude.{Option, Some}
+use Rattle.rules.specs.declared.sizes.Profile.{Profile}
 
 -- ---- what a row without fault has kept
 
@@ -49,7 +48,7 @@ passed true more number c e = (refl, e)
 passed false more number c e = ((cc), (cc))
 
 module _ (before : List Curve) (id : ℕ) (done : List ℤ) (profiles samples : ℕ) where
-  kept : judge_form profiles samples before (some (curve id done)) ≡ right (curve id done) → Kept before id done profiles samples
+  kept : judge_form profiles samples before (Some (curve id done)) ≡ right (curve id done) → Kept before id done profiles samples
   kept e =
       let five = passed (in_range id done) _ out_of_range (curve id done) e in
       let six = passed _ _ too_many (curve id done) five.1 in
@@ -90,7 +89,7 @@ module _ {past : Past} {l : Listed} {profiles : List ℕ} {room fault : ℕ} (fa
       omega (arith, (behind e).profiles_room, e.closed.counted, same_length e.closed, div-mul-le_self (length e.profiles₀) profile_width)
 
   -- so the constructor makes the entry
-  pub profile_made_lem : Ending past l profiles room → profile_made l.id past.samples l.count ≡ Within (record { id = l.id; first = past.samples; count = l.count })
+  pub profile_made_lem : Ending past l profiles room → profile_made l.id past.samples l.count ≡ Some (record { id = l.id; first = past.samples; count = l.count })
   profile_made_lem e =
       let k = behind e in
       let id_low : e.id ≤ most_id = leb-true e.id most_id (and_first (leb e.id most_id) _ k.range) in
@@ -100,7 +99,7 @@ module _ {past : Past} {l : Listed} {profiles : List ℕ} {room fault : ℕ} (fa
         le-ltb most_sampled l.count (omega (arith, k.sampled_few, e.going.counted)),
       )
 
-  pub made-entered : Ending past l profiles room → (made : ProfileMade) (profiles' : List ℕ) → made ≡ profile_made l.id past.samples l.count
+  pub made-entered : Ending past l profiles room → (made : Option Profile) (profiles' : List ℕ) → made ≡ profile_made l.id past.samples l.count
       → profiles' ≡ entered_made made past.profiles profiles → profiles' ≡ sets profiles (past.profiles * profile_width) (l.id ∷ past.samples ∷ l.count ∷ [])
   made-entered e made profiles' m q = q ∙ ap (λ x. entered_made x past.profiles profiles) (m ∙ profile_made_lem e)
 

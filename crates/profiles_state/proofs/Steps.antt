@@ -1,10 +1,9 @@
 -- An id and the whole part of a sample: each byte takes the code's state where it takes the reading. Assumes nothing.
-use Rattle.std.specs.Prelude.{Option as Answer, Some, None}
+use Rattle.std.specs.Prelude.{Option, Some, None}
 use Prim.Native.Nat.{ℕ, suc, ◌/◌, ◌≤◌, ◌<◌, min}
 use mathlib.Core.Path.{◌≡◌, refl, ap, ◌∙◌}
 use mathlib.Core.Bool.{Bool, true, false, not, cond, ◌&&◌}
 use mathlib.Core.List.{List, [], append-nil}
-use mathlib.Core.Option.{Option, none, some}
 use native.Mathlib.Omega.{arith}
 use lib.Dec.{leb, ltb, eqb}
 use lib.ListN.{length}
@@ -52,7 +51,7 @@ module _ (profiles samples : ℕ) (place next : ℕ) (before : List Curve) where
     reach-line e = rw (eq-eqb b line_feed e)
 
     -- a byte that may not stand there, in a row that may not end there
-    pub reach_stop : open_step o b ≡ none → open_end o ≡ none → reach profiles samples (in_row place next before o) b ≡ stopped bad_row place
+    pub reach_stop : open_step o b ≡ None → open_end o ≡ None → reach profiles samples (in_row place next before o) b ≡ stopped bad_row place
     unfolding reach
     reach_stop e h = go (eqb b line_feed)
       where
@@ -69,22 +68,22 @@ samples_long {samples₀ = samples₀} {before = before} c e =
 -- ---- an id
 
 module _ (past : Past) (n : Number) (b : ℕ) where
-  id_stop : ((m : Whole) → Near n m → open_step (in_id m) b ≡ none) → (at : ℕ) → Free at (Id past n) b (Stopped bad_row past.place)
+  id_stop : ((m : Whole) → Near n m → open_step (in_id m) b ≡ None) → (at : ℕ) → Free at (Id past n) b (Stopped bad_row past.place)
   unfolding open_end
   id_stop e at profiles samples profiles₀ samples₀ reached (in_id_lem {before = before} {m = m} h c s k) =
       rw (reach_stop (length profiles₀ / profile_width) (length samples₀) past.place at before (in_id m) b (e m k) refl) at_stop
 
-  module _ (l : digit_zero ≤ b) (h : b ≤ digit_nine) (r : Answer Number) (pushes : Pushes n b r) where
-    id_byte : (m : Whole) → open_step (in_id m) b ≡ (number_step m b >>= (λ next. some (in_id next)))
+  module _ (l : digit_zero ≤ b) (h : b ≤ digit_nine) (r : Option Number) (pushes : Pushes n b r) where
+    id_byte : (m : Whole) → open_step (in_id m) b ≡ (number_step m b >>= (λ next. Some (in_id next)))
     unfolding open_step
     id_byte m = rw (ne_eqb b comma (λ q. omega arith))
 
     pub id_broken : r ≡ None → (at : ℕ) → Free at (Id past n) b (Stopped bad_row past.place)
     id_broken e = id_stop (λ m k. id_byte m ∙ go (number_step m b) (rw e at (pushes m k)))
       where
-        go : (o : Option Whole) → NearNext None o → o >>= (λ next. some (in_id next)) ≡ none
-        go none next_broken = refl
-        go (some _) x = elim x [ ]
+        go : (o : Option Whole) → NearNext None o → o >>= (λ next. Some (in_id next)) ≡ None
+        go None next_broken = refl
+        go (Some _) x = elim x [ ]
 
     pub id_digits_lem : (w : Number) → r ≡ Some w → (at : ℕ) → Free at (Id past n) b (Id past w)
     id_digits_lem w e at profiles samples profiles₀ samples₀ reached (in_id_lem {before = before} {m = m} q c s k) =
@@ -93,9 +92,9 @@ module _ (past : Past) (n : Number) (b : ℕ) where
       where
         go : (o : Option Whole) → NearNext (Some w) o
             → Holds profiles₀ samples₀ (suc at) (Id past w) profiles samples
-            (taken (length profiles₀ / profile_width) (length samples₀) past.place at before (o >>= (λ next. some (in_id next))))
-        go (some m') (next_near k') = in_id_lem {past = past} (omega arith) c s k'
-        go none x = elim x [ ]
+            (taken (length profiles₀ / profile_width) (length samples₀) past.place at before (o >>= (λ next. Some (in_id next))))
+        go (Some m') (next_near k') = in_id_lem {past = past} (omega arith) c s k'
+        go None x = elim x [ ]
 
   -- a byte that is neither a digit nor a comma
   pub id_low : (b ≡ comma → ⊥) → b < digit_zero → (at : ℕ) → Free at (Id past n) b (Stopped bad_row past.place)
@@ -106,14 +105,14 @@ module _ (past : Past) (n : Number) (b : ℕ) where
   unfolding open_step
   id_high z h = id_stop (λ m k. rw (ne_eqb b comma z, no_step m b (digit_above b h)))
 
-  module _ (z : b ≡ comma) (r : Answer ℕ) (ends : NumberEnds n r) where
+  module _ (z : b ≡ comma) (r : Option ℕ) (ends : NumberEnds n r) where
     pub id_unfit : r ≡ None → (at : ℕ) → Free at (Id past n) b (Stopped bad_row past.place)
     unfolding open_step
     id_unfit e = id_stop (λ m k. rw (eq-eqb b comma z) (go (number_end m) (rw e at (ends m k))))
       where
-        go : (o : Option ℕ) → NearEnd None o → o >>= (λ id. some (in_list id [] (whole false empty))) ≡ none
-        go none end-broken = refl
-        go (some _) x = elim x [ ]
+        go : (o : Option ℕ) → NearEnd None o → o >>= (λ id. Some (in_list id [] (whole false empty))) ≡ None
+        go None end-broken = refl
+        go (Some _) x = elim x [ ]
 
     module _ (v : ℕ) (e : r ≡ Some v) (l : Listed) (f : (l.id ≡ v) × ((l.count ≡ 0) × (l.wide ≡ ltb most_id v))) where
       wide_id : (id : ℕ) → v ≡ min id cap → l.wide ≡ not (leb id most_id && true)
@@ -131,8 +130,8 @@ module _ (past : Past) (n : Number) (b : ℕ) where
         where
           go : (o : Option ℕ) → NearEnd (Some v) o
               → Holds profiles₀ samples₀ (suc at) (InWhole past l false Empty) profiles samples
-              (taken (length profiles₀ / profile_width) (length samples₀) past.place at before (o >>= (λ id. some (in_list id [] (whole false empty)))))
-          go (some id) (end_near w) =
+              (taken (length profiles₀ / profile_width) (length samples₀) past.place at before (o >>= (λ id. Some (in_list id [] (whole false empty)))))
+          go (Some id) (end_near w) =
               in_whole {past = past} {l = l} {samples = samples} {before = before} {id = id} {done = []} c
               (record {
                 under_way = omega arith;
@@ -144,7 +143,7 @@ module _ (past : Past) (n : Number) (b : ℕ) where
                 entered = λ x y. rw append-nil s;
               })
               empty_near
-          go none x = elim x [ ]
+          go None x = elim x [ ]
 
 -- ---- the whole part of a sample
 
@@ -172,21 +171,21 @@ Lands past l state x =
     (profiles₀ : List ℕ) (samples₀ : List ℤ) (at : ℕ) (profiles : List ℕ) (samples : List ℤ) (before : List Curve) (id : ℕ) (done : List ℤ)
     → Closed profiles₀ samples₀ past profiles before → Going profiles₀ samples₀ past l (suc at) samples before id done
     → Holds profiles₀ samples₀ (suc at) state profiles samples
-    (taken (length profiles₀ / profile_width) (length samples₀) past.place at before (x >>= (λ next. some (in_list id done next))))
+    (taken (length profiles₀ / profile_width) (length samples₀) past.place at before (x >>= (λ next. Some (in_list id done next))))
 
 module _ (past : Past) (l : Listed) (negative : Bool) (n : Number) (b : ℕ) where
   abbrev inside : State
   inside = InWhole past l negative n
 
-  whole_stop : ((m : Whole) → Near n m → whole_step negative m b ≡ none) → (at : ℕ) → Free at inside b (Stopped bad_row past.place)
+  whole_stop : ((m : Whole) → Near n m → whole_step negative m b ≡ None) → (at : ℕ) → Free at inside b (Stopped bad_row past.place)
   unfolding open_step open_end
   whole_stop e at profiles samples profiles₀ samples₀ reached (in_whole {before = before} {id = id} {done = done} {m = m} c g k) =
       rw (reach_stop (length profiles₀ / profile_width) (length samples₀) past.place at before (in_list id done (whole negative m)) b none_next refl) at_stop
     where
-      none_next : open_step (in_list id done (whole negative m)) b ≡ none
+      none_next : open_step (in_list id done (whole negative m)) b ≡ None
       none_next = rw (e m k) (go (eqb b space))
         where
-          go : (t : Bool) → ◌≡◌ {A = Option Open} (cond t none none) none
+          go : (t : Bool) → ◌≡◌ {A = Option Open} (cond t None None) None
           go true = refl
           go false = refl
 
@@ -197,24 +196,24 @@ module _ (past : Past) (l : Listed) (negative : Bool) (n : Number) (b : ℕ) whe
       rw (reach-byte (length profiles₀ / profile_width) (length samples₀) past.place at before (in_list id done (whole negative m)) b not-Line, ne_eqb b space not-space)
       (f m k profiles₀ samples₀ at profiles samples before id done c (onward g))
 
-  module _ (low : digit_zero ≤ b) (high : b ≤ digit_nine) (r : Answer Number) (pushes : Pushes n b r) where
-    at_digit : (m : Whole) → whole_step negative m b ≡ (number_step m b >>= (λ next. some (whole negative next)))
+  module _ (low : digit_zero ≤ b) (high : b ≤ digit_nine) (r : Option Number) (pushes : Pushes n b r) where
+    at_digit : (m : Whole) → whole_step negative m b ≡ (number_step m b >>= (λ next. Some (whole negative next)))
     at_digit m = rw (digit_in b low high)
 
     pub whole_broken : r ≡ None → (at : ℕ) → Free at inside b (Stopped bad_row past.place)
     whole_broken e = whole_stop (λ m k. at_digit m ∙ go (number_step m b) (rw e at (pushes m k)))
       where
-        go : (o : Option Whole) → NearNext None o → o >>= (λ next. some (whole negative next)) ≡ none
-        go none next_broken = refl
-        go (some _) x = elim x [ ]
+        go : (o : Option Whole) → NearNext None o → o >>= (λ next. Some (whole negative next)) ≡ None
+        go None next_broken = refl
+        go (Some _) x = elim x [ ]
 
     pub whole_digits : (w : Number) → r ≡ Some w → (at : ℕ) → Free at inside b (InWhole past l negative w)
     whole_digits w e =
         whole_on (λ q. omega arith) (λ q. omega arith) (InWhole past l negative w) (λ m k. rw (at_digit m) (go (number_step m b) (rw e at (pushes m k))))
       where
-        go : (o : Option Whole) → NearNext (Some w) o → Lands past l (InWhole past l negative w) (o >>= (λ next. some (whole negative next)))
-        go (some m) (next_near k) profiles₀ samples₀ at profiles samples before id done c g = in_whole {past = past} {l = l} c g k
-        go none x profiles₀ samples₀ at profiles samples before id done c g = elim x [ ]
+        go : (o : Option Whole) → NearNext (Some w) o → Lands past l (InWhole past l negative w) (o >>= (λ next. Some (whole negative next)))
+        go (Some m) (next_near k) profiles₀ samples₀ at profiles samples before id done c g = in_whole {past = past} {l = l} c g k
+        go None x profiles₀ samples₀ at profiles samples before id done c g = elim x [ ]
 
   pub whole_low : (b ≡ point → ⊥) → (b ≡ minus → ⊥) → b < digit_zero → (at : ℕ) → Free at inside b (Stopped bad_row past.place)
   whole_low p q h = whole_stop (λ m k. rw (digit_below b h, ne_eqb b point p, ne_eqb b minus q))
@@ -225,13 +224,13 @@ module _ (past : Past) (l : Listed) (negative : Bool) (n : Number) (b : ℕ) whe
 -- ---- a point, and a minus
 
 module _ (past : Past) (l : Listed) (negative : Bool) (n : Number) where
-  module _ (r : Answer ℕ) (ends : NumberEnds n r) where
+  module _ (r : Option ℕ) (ends : NumberEnds n r) where
     pub point_unfit : r ≡ None → (at : ℕ) → Free at (InWhole past l negative n) point (Stopped bad_row past.place)
     point_unfit e = whole_stop past l negative n point (λ m k. go (number_end m) (rw e at (ends m k)))
       where
-        go : (o : Option ℕ) → NearEnd None o → o >>= (λ w. some (fraction negative w 0 0)) ≡ none
-        go none end-broken = refl
-        go (some _) x = elim x [ ]
+        go : (o : Option ℕ) → NearEnd None o → o >>= (λ w. Some (fraction negative w 0 0)) ≡ None
+        go None end-broken = refl
+        go (Some _) x = elim x [ ]
 
     abbrev begun : ℕ → Tail
     begun v = record { negative = negative; whole = v; digits = 0; value = 0 }
@@ -240,22 +239,22 @@ module _ (past : Past) (l : Listed) (negative : Bool) (n : Number) where
     point_value v e =
         whole_on past l negative n point (λ q. omega arith) (λ q. omega arith) (Fraction past l (begun v)) (λ m k. go (number_end m) (rw e at (ends m k)))
       where
-        go : (o : Option ℕ) → NearEnd (Some v) o → Lands past l (Fraction past l (begun v)) (o >>= (λ w. some (fraction negative w 0 0)))
-        go (some w) (end_near q) profiles₀ samples₀ at profiles samples before id done c g =
+        go : (o : Option ℕ) → NearEnd (Some v) o → Lands past l (Fraction past l (begun v)) (o >>= (λ w. Some (fraction negative w 0 0)))
+        go (Some w) (end_near q) profiles₀ samples₀ at profiles samples before id done c g =
             in_fraction {past = past} {l = l} {t = begun v} c g (record { same_whole = q; counted = refl; same_value = refl; few = omega arith })
-        go none x profiles₀ samples₀ at profiles samples before id done c g = elim x [ ]
+        go None x profiles₀ samples₀ at profiles samples before id done c g = elim x [ ]
 
   -- a second minus, or one after a digit
   pub minus_again : negative ≡ true → (at : ℕ) → Free at (InWhole past l negative n) minus (Stopped bad_row past.place)
   minus_again e = whole_stop past l negative n minus (λ m k. rw e)
 
-  minus_late : ((m : Whole) → Near n m → negated negative m ≡ none) → (at : ℕ) → Free at (InWhole past l negative n) minus (Stopped bad_row past.place)
+  minus_late : ((m : Whole) → Near n m → negated negative m ≡ None) → (at : ℕ) → Free at (InWhole past l negative n) minus (Stopped bad_row past.place)
   minus_late e = whole_stop past l negative n minus e
 
   pub minus_zero : negative ≡ false → n ≡ Zero → (at : ℕ) → Free at (InWhole past l negative n) minus (Stopped bad_row past.place)
   minus_zero e q = minus_late (rw (e, q) go)
     where
-      go : (m : Whole) → Near Zero m → negated false m ≡ none
+      go : (m : Whole) → Near Zero m → negated false m ≡ None
       go zero zero_near = refl
       go empty x = elim x [ ]
       go (digits _) x = elim x [ ]
@@ -263,7 +262,7 @@ module _ (past : Past) (l : Listed) (negative : Bool) (n : Number) where
   pub minus_digits : (v : ℕ) → negative ≡ false → n ≡ Digits v → (at : ℕ) → Free at (InWhole past l negative n) minus (Stopped bad_row past.place)
   minus_digits v e q = minus_late (rw (e, q) go)
     where
-      go : (m : Whole) → Near (Digits v) m → negated false m ≡ none
+      go : (m : Whole) → Near (Digits v) m → negated false m ≡ None
       go (digits w) (digits_near k) = refl
       go empty x = elim x [ ]
       go zero x = elim x [ ]

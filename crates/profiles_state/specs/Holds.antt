@@ -1,6 +1,5 @@
 -- What the code's state and the lent tables say of a text's rows that are read so far.
-use Rattle.std.specs.Prelude.{ℕ, suc, ◌+◌, ◌/◌, ◌≤◌, ◌≡◌, Bool, true, false, cond, List, eqb, length, drop, ℤ}
-use Rattle.std.proofs.Math.Option.{some}
+use Rattle.std.specs.Prelude.{ℕ, suc, ◌+◌, ◌/◌, ◌≤◌, ◌≡◌, Bool, true, false, cond, List, eqb, length, drop, ℤ, Some}
 use Rattle.rules.specs.Limits.{profile_width}
 use Rattle.rules.specs.Lists.{over}
 use Rattle.rules.specs.Answers.{bad_row}
@@ -64,7 +63,7 @@ Ends at past l profiles room state profiles' =
     → room ≡ length samples₀ → Closed profiles₀ samples₀ past profiles before → Going profiles₀ samples₀ past l (suc at) samples before id done
     → Holds profiles₀ samples₀ (suc at) state profiles' samples
     (on_line past.place at before
-    (judge_form (length profiles₀ / profile_width) (length samples₀) before (some (curve id done))))
+    (judge_form (length profiles₀ / profile_width) (length samples₀) before (Some (curve id done))))
 
 -- ---- a text
 

@@ -1,6 +1,5 @@
 -- A row of profiles byte by byte: the id, then samples with one space between.
-use Rattle.std.specs.Prelude.{ℕ, suc, Bool, true, false, cond, List, [], ◌∷◌, ◌++◌, eqb, ℤ}
-use Rattle.std.proofs.Math.Option.{Option, none, some}
+use Rattle.std.specs.Prelude.{ℕ, suc, Bool, true, false, cond, List, [], ◌∷◌, ◌++◌, eqb, ℤ, Option, Some, None}
 use Rattle.rules.specs.Lists.{◌>>=◌}
 use Rattle.rules.specs.Answers.{bad_row, profiles_file, Reading, Judged, wrong, right}
 use Rattle.rules.specs.Bytes.{line_feed, comma, space}
@@ -25,16 +24,16 @@ start = in_id empty
 
 unfoldable pub open_step : Open → ℕ → Option Open
 open_step (in_id m) b =
-    cond (eqb b comma) (number_end m >>= (λ id. some (in_list id [] fresh))) (number_step m b >>= (λ next. some (in_id next)))
+    cond (eqb b comma) (number_end m >>= (λ id. Some (in_list id [] fresh))) (number_step m b >>= (λ next. Some (in_id next)))
 open_step (in_list id samples x) b =
     cond (eqb b space)
-    (sample_end x >>= (λ kw. some (in_list id (samples ++ kw ∷ []) fresh)))
-    (sample_step x b >>= (λ next. some (in_list id samples next)))
+    (sample_end x >>= (λ kw. Some (in_list id (samples ++ kw ∷ []) fresh)))
+    (sample_step x b >>= (λ next. Some (in_list id samples next)))
 
 -- a row that ends here
 unfoldable pub open_end : Open → Option Curve
-open_end (in_id m) = none
-open_end (in_list id samples x) = sample_end x >>= (λ kw. some (curve id (samples ++ kw ∷ [])))
+open_end (in_id m) = None
+open_end (in_list id samples x) = sample_end x >>= (λ kw. Some (curve id (samples ++ kw ∷ [])))
 
 -- nothing of the open field is read
 abbrev pub no_digit : Number → Bool
@@ -59,8 +58,8 @@ pub data Reached : Type 0 where
   stopped : (number place : ℕ) → Reached
 
 abbrev pub on_byte : (place next : ℕ) → List Curve → Option Open → Reached
-on_byte place next before none = stopped bad_row place
-on_byte place next before (some o) = in_row place (suc next) before o
+on_byte place next before None = stopped bad_row place
+on_byte place next before (Some o) = in_row place (suc next) before o
 
 abbrev pub on_line : (place next : ℕ) → List Curve → Judged Curve → Reached
 on_line place next before (wrong n) = stopped n place

@@ -1,7 +1,6 @@
 -- The earliest timetable, worked: over rows, and then over document 01's texts. The checker computes them.
-use Rattle.std.specs.Prelude.{ℕ, ◌-◌, ◌≡◌, refl, List, [], ◌∷◌, replicate, length}
+use Rattle.std.specs.Prelude.{ℕ, ◌-◌, ◌≡◌, refl, List, [], ◌∷◌, replicate, length, Option, Some, None}
 use Prim.Native.String.{String}
-use Rattle.std.proofs.Math.Option.{Option, none, some}
 use Rattle.rules.specs.Limits.{unsigned_fill, byte_fill}
 use Rattle.rules.specs.Answers.{refusal, no_solution, no_room, no_file}
 use Rattle.rules.specs.Timetable.{Row, row, configuration, timetable_header}
@@ -32,7 +31,7 @@ between a b k low high type = record { kind = k; first = a; second = b; low = lo
 
 -- leg 1 with a profile at one second, leg 2 at another
 abbrev at : (d p e : ℕ) → Option (List Configuration)
-at d p e = some (c d 4 p ∷ c e 3 8 ∷ [])
+at d p e = Some (c d 4 p ∷ c e 3 8 ∷ [])
 
 -- 10 with profile 9 is listed before 10 with profile 7, which is no matter of the nominal; 5 and 31 have other travel times
 free : earliest draft_rows [] ≡ at 10 9 40
@@ -45,7 +44,7 @@ unfolding computed
 waits = refl
 
 -- 14 + 32 = 46: there is none
-never : earliest draft_rows (between 0 1 dwell 32 0 0) ≡ none
+never : earliest draft_rows (between 0 1 dwell 32 0 0) ≡ None
 unfolding computed
 never = refl
 
@@ -55,16 +54,16 @@ unfolding computed
 pushed = refl
 
 -- a leg an hour before itself; a connection whose maximum is below its minimum
-alone : earliest draft_rows (between 0 0 headway 3_600 0 0) ≡ none
+alone : earliest draft_rows (between 0 0 headway 3_600 0 0) ≡ None
 unfolding computed
 alone = refl
 
-crossed : earliest draft_rows (between 0 1 connection 30 29 by_departure) ≡ none
+crossed : earliest draft_rows (between 0 1 connection 30 29 by_departure) ≡ None
 unfolding computed
 crossed = refl
 
 -- no legs: there is always one
-empty : earliest [] [] ≡ some []
+empty : earliest [] [] ≡ Some []
 unfolding computed
 empty = refl
 

@@ -7,7 +7,6 @@ pub mod Numbers
 -- The tokens of constraints.json, the table of kinds, and what a caller states
 pub mod TokenLaws
 pub mod KindRule
-pub mod StatedLaws
 -- The worked examples, computed
 pub mod Examples
 pub mod DutyExamples

@@ -3,7 +3,6 @@ use Prim.Native.Nat.{ℕ, zero, suc, ◌+◌, ◌*◌, ◌-◌, ◌^◌, ◌/◌
 use mathlib.Core.Path.{◌≡◌, refl, ap, sym, ◌∙◌}
 use mathlib.Core.List.{List, [], ◌∷◌, ◌++◌, append-nil}
 use mathlib.Core.Bool.{Bool, true, false, not, ◌&&◌, and-false}
-use mathlib.Core.Option.{some}
 use native.Mathlib.Omega.{arith}
 use native.Mathlib.Nat.{pow-suc, div-lt_iff_lt-mul, le_refl}
 use lib.Dec.{T, leb, ltb, eqb, leb→le, T_not}
@@ -13,6 +12,7 @@ use Rattle.rules.specs.Lists.{every}
 use Rattle.rules.specs.Bytes.{digit_zero, digit_nine, is_digit, value_from, plain, whole_of, spelled_from, spelled}
 use Rattle.rules.proofs.Truth.{is_true, holds, and_both, both_and, every_all, all_map, under-test}
 use Rattle.rules.proofs.Pieces.{Free}
+use Rattle.std.specs.Prelude.{Some}
 
 -- ---- a digit is from 0 to 9
 
@@ -86,10 +86,10 @@ pub digits_spelled : (n : ℕ) → T (every is_digit (spelled n))
 digits_spelled n = spelled_digits (suc n) n [] (le_refl (suc n)) tt
 
 -- a number that was written is read back
-pub whole_spelled : (n : ℕ) → whole_of (spelled n) ≡ some n
+pub whole_spelled : (n : ℕ) → whole_of (spelled n) ≡ Some n
 whole_spelled n =
     rw (is_true (plain (spelled n) && every is_digit (spelled n)) (both_and (plain (spelled n)) (every is_digit (spelled n)) (plain-spelled n) (digits_spelled n)))
-    (ap (λ (m : ℕ). some m) (spelled_value (suc n) n [] (le_refl (suc n))))
+    (ap (λ (m : ℕ). Some m) (spelled_value (suc n) n [] (le_refl (suc n))))
 
 -- ---- writing what was read
 
@@ -144,7 +144,7 @@ spelled-value_of (b ∷ c ∷ s) h k =
     ∙ ap (λ (r : List ℕ). b ∷ c ∷ r) (append-nil s)
 
 -- a number that was read has no other spelling
-pub spelled_whole : (s : List ℕ) (n : ℕ) → whole_of s ≡ some n → spelled n ≡ s
+pub spelled_whole : (s : List ℕ) (n : ℕ) → whole_of s ≡ Some n → spelled n ≡ s
 spelled_whole s n e =
     let k : T (plain s && every is_digit s) × (value_from 0 s ≡ n) = under-test (plain s && every is_digit s) (value_from 0 s) n e in
     let both : T (plain s) × T (every is_digit s) = and_both (plain s) (every is_digit s) k.0 in

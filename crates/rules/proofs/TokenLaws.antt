@@ -4,13 +4,13 @@ use Prim.Native.Nat.{ℕ, zero, suc, ◌+◌, ◌-◌, ◌≤◌, ◌<◌, pred}
 use mathlib.Core.Path.{◌≡◌, refl, sym, ap, subst, ◌∙◌}
 use mathlib.Core.Bool.{Bool, true, false, not, cond, ◌||◌}
 use mathlib.Core.List.{List, [], ◌∷◌}
-use mathlib.Core.Option.{Option, none, some}
 use native.Mathlib.Omega.{arith}
 use native.Mathlib.Nat.{add-zero}
 use lib.Dec.{eqb}
 use lib.ListN.{length, get_or, drop, length-drop}
 use lib.Seq.{drop-cons, drop-length, drop-drop}
-use Rattle.rules.specs.Lists.{lead, is_some}
+use Rattle.rules.specs.Lists.{lead}
+use Rattle.std.specs.Prelude.{is_some, Option, Some, None}
 use Rattle.rules.specs.Tokens.{Token, token, is_white, quote, sign_of, in_run, in_string, string_token, run_token, sign_token, token_at, tokens_from, tokens_of}
 use Rattle.rules.specs.Constraints.{class_number}
 use Rattle.rules.specs.declared.tokens.Class.{Class}
@@ -35,8 +35,8 @@ string_placed place w (b ∷ s) = go (eqb b quote)
     go false = refl
 
 sign_placed : (place b : ℕ) (s : List ℕ) (c : Option Class) → sign_token place b s c ≡ placed place (sign_token 0 b s c)
-sign_placed place b s (some c) = refl
-sign_placed place b s none = refl
+sign_placed place b s (Some c) = refl
+sign_placed place b s None = refl
 
 -- the place of a token is where it was looked for; its class, word and size do not depend on it
 pub token-placed : (place b : ℕ) (s : List ℕ) → token_at place b s ≡ placed place (token_at 0 b s)
@@ -73,8 +73,8 @@ string_sound place n w (b ∷ s) h =
 
 -- no sign is the end
 abbrev Sign : Option Class → Type 0
-Sign none = Unit
-Sign (some c) = is_end c ≡ false
+Sign None = Unit
+Sign (Some c) = is_end c ≡ false
 
 sign_inner : (b : ℕ) → Sign (sign_of b)
 sign_inner b =
@@ -86,7 +86,7 @@ sign_inner b =
     by_case Sign (eqb b (code ",")) _ _ (λ e. refl) (λ e. tt))))))
 
 -- a byte that is neither white, nor a quote, nor a sign starts a run
-run_starts : (b : ℕ) → is_white b ≡ false → eqb b quote ≡ false → sign_of b ≡ none → in_run b ≡ true
+run_starts : (b : ℕ) → is_white b ≡ false → eqb b quote ≡ false → sign_of b ≡ None → in_run b ≡ true
 run_starts b black unquoted unsigned =
     ap (λ (t : Bool). not (t || (eqb b quote || is_some (sign_of b)))) black
     ∙ ap (λ (t : Bool). not (t || is_some (sign_of b))) unquoted
@@ -99,8 +99,8 @@ sign_sound : (place b : ℕ) (s : List ℕ) → is_white b ≡ false → eqb b q
 sign_sound place b s black unquoted = go (sign_of b) refl (sign_inner b)
   where
     go : (c : Option Class) → sign_of b ≡ c → Sign c → Sound (suc (length s)) (sign_token place b s c)
-    go (some c) e h = record { inner = h; some_bytes = omega arith; within = omega arith }
-    go none e h =
+    go (Some c) e h = record { inner = h; some_bytes = omega arith; within = omega arith }
+    go None e h =
         let k = lead_within in_run s in
         subst (λ (w : List ℕ). Sound (suc (length s)) (run_token place w)) (sym (lead_next in_run b s (run_starts b black unquoted e)))
         (record { inner = refl; some_bytes = omega arith; within = omega arith })
@@ -201,10 +201,10 @@ other_token : (place b : ℕ) (s : List ℕ) (c : Option Class) → eqb b quote 
 other_token place b s c unquoted e = rw (unquoted, e)
 
 -- at a sign that sign, at any other byte a run
-pub sign_token_lem : (place b : ℕ) (s : List ℕ) (c : Class) → eqb b quote ≡ false → sign_of b ≡ some c → token_at place b s ≡ token c [] place 1
-sign_token_lem place b s c unquoted e = other_token place b s (some c) unquoted e
+pub sign_token_lem : (place b : ℕ) (s : List ℕ) (c : Class) → eqb b quote ≡ false → sign_of b ≡ Some c → token_at place b s ≡ token c [] place 1
+sign_token_lem place b s c unquoted e = other_token place b s (Some c) unquoted e
 
-pub run-token : (place b : ℕ) (s : List ℕ) → is_white b ≡ false → eqb b quote ≡ false → sign_of b ≡ none
+pub run-token : (place b : ℕ) (s : List ℕ) → is_white b ≡ false → eqb b quote ≡ false → sign_of b ≡ None
     → token_at place b s ≡ run_token place (b ∷ lead in_run s)
 run-token place b s black unquoted e =
-    other_token place b s none unquoted e ∙ ap (run_token place) (lead_next in_run b s (run_starts b black unquoted e))
+    other_token place b s None unquoted e ∙ ap (run_token place) (lead_next in_run b s (run_starts b black unquoted e))

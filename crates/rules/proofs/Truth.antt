@@ -2,13 +2,13 @@
 use mathlib.Core.Path.{◌≡◌, refl, sym, subst}
 use mathlib.Core.Bool.{Bool, true, false, cond, ◌&&◌, true≢false}
 use mathlib.Core.List.{List, [], ◌∷◌, ◌++◌}
-use mathlib.Core.Option.{Option, none, some}
 use Prim.Native.Nat.{ℕ}
 use native.Mathlib.Omega.{arith}
 use lib.Dec.{T, eqb}
 use borrow.Author.Tests.{eq-eqb, ne_eqb, eqb-true, eqb-false}
 use Rattle.rules.specs.Lists.{◌>>=◌, every}
 use Rattle.rules.specs.Verdict.{All}
+use Rattle.std.specs.Prelude.{Option, Some, None}
 
 pub is_true : (t : Bool) → T t → t ≡ true
 is_true true h = refl
@@ -74,15 +74,15 @@ every_all p (x ∷ s) h = let k : T (p x) × T (every p s) = and_both (p x) (eve
 -- ---- what may be missing
 
 -- nothing is not something
-pub missing : {A B : Type 0} (y : A) → none ≡ some y → B
+pub missing : {A B : Type 0} (y : A) → None ≡ Some y → B
 missing y e = let z : ◌≡◌ {A = ℕ} 0 1 = cc in absurd (omega arith)
 
 -- something under a test: the test holds
-pub under-test : {A : Type 0} (t : Bool) (x y : A) → cond t (some x) none ≡ some y → T t × (x ≡ y)
+pub under-test : {A : Type 0} (t : Bool) (x y : A) → cond t (Some x) None ≡ Some y → T t × (x ≡ y)
 under-test true x y e = (tt, cc)
 under-test false x y e = missing y e
 
 -- something that follows from what may be missing: that is there
-pub found_first : {A B : Type 0} (o : Option A) (k : A → Option B) (y : B) → (o >>= k) ≡ some y → (x : A) × (o ≡ some x) × (k x ≡ some y)
-found_first none k y e = missing y e
-found_first (some x) k y e = (x, refl, e)
+pub found_first : {A B : Type 0} (o : Option A) (k : A → Option B) (y : B) → (o >>= k) ≡ Some y → (x : A) × (o ≡ Some x) × (k x ≡ Some y)
+found_first None k y e = missing y e
+found_first (Some x) k y e = (x, refl, e)

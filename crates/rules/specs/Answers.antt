@@ -1,6 +1,7 @@
 -- The three answers of document 01, and the numbers of "Refusal numbers" by their names. Every reading and every verdict ends in one of them.
 use Rattle.std.specs.Prelude.{ℕ, Bool, true, false, cond, List, [], ◌∷◌}
 use Rattle.rules.specs.declared.answers.Refusal.{Refusal}
+use Rattle.rules.specs.declared.answers.Fault.{Fault}
 use Rattle.rules.specs.declared.answers.Violation.{Violation}
 use Rattle.rules.specs.declared.answers.Answer.{Answer}
 use Rattle.rules.specs.declared.answers.Answer.TheVariants.{Accepted, Violated, Refused}
@@ -107,6 +108,10 @@ duties_file = 6
 
 abbrev pub refusal : (number file place : ℕ) → Refusal
 refusal number file place = record { number = number; file = file; place = place }
+
+-- of a text, before its file is named
+abbrev pub fault_at : (number place : ℕ) → Fault
+fault_at number place = record { number = number; place = place }
 
 abbrev pub violation : (kind position inequality shortfall file : ℕ) → Violation
 violation kind position inequality shortfall file =

@@ -1,8 +1,7 @@
 -- How a text writes whole numbers, decimals, pieces and lines, byte by byte (document 01, "The CSV rows"). Reading and writing are both held to this.
-use Rattle.std.specs.Prelude.{ℕ, zero, suc, ◌+◌, ◌*◌, ◌-◌, ◌^◌, ◌/◌, ◌%◌, Bool, true, false, not, cond, ◌&&◌, List, [], ◌∷◌, ◌++◌, leb, ltb, eqb, length, ℤ, pos, neg_ℤ}
+use Rattle.std.specs.Prelude.{ℕ, zero, suc, ◌+◌, ◌*◌, ◌-◌, ◌^◌, ◌/◌, ◌%◌, Bool, true, false, not, cond, ◌&&◌, List, [], ◌∷◌, ◌++◌, leb, ltb, eqb, length, ℤ, pos, neg_ℤ, Option, Some, None, option_map}
 use Prim.Native.Char.{code}
 use Prim.Native.String.{String, [] as end, ◌∷◌ as ◌then◌}
-use Rattle.std.proofs.Math.Option.{Option, none, some, map}
 use Rattle.rules.specs.Lists.{◌>>=◌, each, every}
 
 -- the bytes of a text that is written here as it stands in a file
@@ -75,13 +74,13 @@ less_return (b ∷ c ∷ s) = b ∷ less_return (c ∷ s)
 
 -- the pieces of a field between quotes: the content alone, or nothing, the content and nothing
 abbrev pub between : List (List ℕ) → Option (List ℕ)
-between [] = none
-between (p ∷ []) = some p
-between (p ∷ q ∷ []) = none
-between ([] ∷ q ∷ [] ∷ []) = some q
-between ([] ∷ q ∷ (b ∷ r) ∷ []) = none
-between ((b ∷ p) ∷ q ∷ r ∷ []) = none
-between (p ∷ q ∷ r ∷ x ∷ more) = none
+between [] = None
+between (p ∷ []) = Some p
+between (p ∷ q ∷ []) = None
+between ([] ∷ q ∷ [] ∷ []) = Some q
+between ([] ∷ q ∷ (b ∷ r) ∷ []) = None
+between ((b ∷ p) ∷ q ∷ r ∷ []) = None
+between (p ∷ q ∷ r ∷ x ∷ more) = None
 
 -- "Any CSV field, header names too, may now stand in a pair of quotes"; a quote in the content breaks the form
 abbrev pub content_of : List ℕ → Option (List ℕ)
@@ -107,26 +106,26 @@ plain (b ∷ []) = true
 plain (b ∷ c ∷ bs) = not (eqb b digit_zero)
 
 abbrev pub whole_of : List ℕ → Option ℕ
-whole_of s = cond (plain s && every is_digit s) (some (value_from 0 s)) none
+whole_of s = cond (plain s && every is_digit s) (Some (value_from 0 s)) None
 
 -- ---- decimals, read as thousandths: a sample in MW is read as whole kW
 
 -- one to three digits after the point
 abbrev pub thousandths_of : List ℕ → Option ℕ
 thousandths_of s =
-    cond (leb 1 (length s) && (leb (length s) 3 && every is_digit s)) (some (value_from 0 s * 10 ^ (3 - length s))) none
+    cond (leb 1 (length s) && (leb (length s) 3 && every is_digit s)) (Some (value_from 0 s * 10 ^ (3 - length s))) None
 
 abbrev pub decimal_of : List (List ℕ) → Option ℕ
-decimal_of [] = none
-decimal_of (w ∷ []) = none
-decimal_of (w ∷ f ∷ []) = whole_of w >>= (λ n. thousandths_of f >>= (λ k. some (n * 1_000 + k)))
-decimal_of (w ∷ f ∷ g ∷ more) = none
+decimal_of [] = None
+decimal_of (w ∷ []) = None
+decimal_of (w ∷ f ∷ []) = whole_of w >>= (λ n. thousandths_of f >>= (λ k. Some (n * 1_000 + k)))
+decimal_of (w ∷ f ∷ g ∷ more) = None
 
 -- an optional minus, a whole number, a point and one to three digits
 abbrev pub sample_of : List ℕ → Option ℤ
-sample_of [] = none
+sample_of [] = None
 sample_of (b ∷ s) =
-    cond (eqb b minus) (map (λ n. neg_ℤ (pos n)) (decimal_of (split_on point s))) (map pos (decimal_of (split_on point (b ∷ s))))
+    cond (eqb b minus) (option_map (λ n. neg_ℤ (pos n)) (decimal_of (split_on point s))) (option_map pos (decimal_of (split_on point (b ∷ s))))
 
 -- ---- a number written: its digits, with no needless zero
 

@@ -1,11 +1,9 @@
 -- How constraints.json is read (document 01): an automaton goes over its tokens, and the first token at fault is refused with its lowest number. What it read
 -- fills the table of constraints and the table of tracks.
-use Rattle.std.specs.Prelude.{ℕ, ◌+◌, ◌-◌, ◌^◌, Bool, not, cond, ◌||◌, List, [], ◌∷◌, ◌++◌, leb, ltb, eqb, length, get_or}
-use Rattle.std.proofs.Math.Option
-use Rattle.std.proofs.Math.Option.{Option, none, some}
+use Rattle.std.specs.Prelude.{ℕ, ◌+◌, ◌-◌, ◌^◌, Bool, not, cond, ◌||◌, List, [], ◌∷◌, ◌++◌, leb, ltb, eqb, length, get_or, is_some, Option, Some, None, unwrap_or}
 use Rattle.std.specs.Int.Bits.{bit_and, bit_or}
 use Rattle.rules.specs.Limits.{most_text, most_id, most_seconds, most_constraints, most_subnets, most_tracks}
-use Rattle.rules.specs.Lists.{any, only, first_place, is_some}
+use Rattle.rules.specs.Lists.{any, only, first_place}
 use Rattle.rules.specs.Answers.{refusal, too_long, out_of_range, too_many, already_seen, bad_json, unknown_name, repeated_or_missing, not_there, no_subnet, no_room, constraints_file, Reading, refused, good, Test, ◌needs◌}
 use Rattle.rules.specs.Bytes.{whole_of}
 use Rattle.rules.specs.Timetable.{Row}
@@ -188,7 +186,7 @@ past t = t.place + t.size
 
 -- the number that a run says, and whether it says one
 abbrev pub number_of : Token → ℕ
-number_of t = Option.get_or (whole_of t.word) 0
+number_of t = unwrap_or (whole_of t.word) 0
 
 abbrev pub is_number : Token → Bool
 is_number t = is_some (whole_of t.word)
@@ -257,7 +255,7 @@ module _ (legs : List ℕ) (constraints tracks : ℕ) where
       ∷ not_there needs is_some (row_of_leg legs (number_of t))
       ∷ [])
       t
-      (on (with_entry (entered st.key (Option.get_or (row_of_leg legs (number_of t)) 0) st.entry) st) d)
+      (on (with_entry (entered st.key (unwrap_or (row_of_leg legs (number_of t)) 0) st.entry) st) d)
 
   unfoldable pub subnet_value : State → Document → Token → Turn
   subnet_value st d t =
@@ -351,8 +349,8 @@ track_numbers t = t.id ∷ t.subnet ∷ []
 -- ---- a leg's subnet: where its track stands; 15 where it stands nowhere
 
 abbrev pub subnet_of : List Track → (track : ℕ) → Option ℕ
-subnet_of [] track = none
-subnet_of (t ∷ ts) track = cond (eqb t.id track) (some t.subnet) (subnet_of ts track)
+subnet_of [] track = None
+subnet_of (t ∷ ts) track = cond (eqb t.id track) (Some t.subnet) (subnet_of ts track)
 
 abbrev pub subnet_fault : List Track → Row → Option ℕ
-subnet_fault tracks r = cond (is_some (subnet_of tracks r.track)) none (some no_subnet)
+subnet_fault tracks r = cond (is_some (subnet_of tracks r.track)) None (Some no_subnet)

@@ -1,7 +1,6 @@
 -- Rolling stock duties (document 02, E13, after Table 8 of document 004): how the file is read, the six rules that its rows keep, and the balance of each node.
-use Rattle.std.specs.Prelude.{ℕ, suc, ◌+◌, ◌/◌, ◌%◌, min, Bool, true, false, not, cond, ◌&&◌, ◌||◌, List, [], ◌∷◌, ◌++◌, map, leb, ltb, eqb, length, get_or, ℤ, pos, ◌-ℤ◌}
+use Rattle.std.specs.Prelude.{ℕ, suc, ◌+◌, ◌/◌, ◌%◌, min, Bool, true, false, not, cond, ◌&&◌, ◌||◌, List, [], ◌∷◌, ◌++◌, map, leb, ltb, eqb, length, get_or, ℤ, pos, ◌-ℤ◌, Option, Some, None}
 use Prim.Native.Char.{code}
-use Rattle.std.proofs.Math.Option.{Option, none, some}
 use Rattle.rules.specs.Limits.{most_events, most_nodes, node_width, least_name, most_name, most_time, day_seconds, hour_seconds, minute_seconds, unsigned_fill, signed_fill}
 use Rattle.rules.specs.Lists.{◌>>=◌, every, any, same_list, sum_of, over}
 use Rattle.rules.specs.Answers.{Judged, wrong, judge, Test, ◌needs◌, Reading, refused, good, bad_row, out_of_range, too_many, unknown_name, no_room, duties_file, broken_rule}
@@ -123,7 +122,7 @@ ten_of line fields =
     (eqb (length fields) columns
     && (is_name (field duty_column) && (is_name (field from_column) && (is_name (field to_column) && is_course (field type_column) (field course_column)))))
     (whole_of (field seq_column) >>= (λ seq. whole_of (field start_column) >>= (λ start. whole_of (field end_column) >>= (λ end.
-    some
+    Some
     (record {
       duty = field duty_column;
       seq = seq;
@@ -137,7 +136,7 @@ ten_of line fields =
       from_at = place_in from_column line;
       to_at = place_in to_column line;
     })))))
-    none
+    None
 
 abbrev pub form_of : List ℕ → Option Event
 form_of line = contents_of line >>= ten_of line
@@ -171,8 +170,8 @@ module _ (room : ℕ) where
       ∷ []
 
   abbrev pub judge_form : List Event → Option Event → Judged Event
-  judge_form before none = wrong bad_row
-  judge_form before (some e) = judge (row_tests before e) e
+  judge_form before None = wrong bad_row
+  judge_form before (Some e) = judge (row_tests before e) e
 
   abbrev pub row_of : List Event → List ℕ → Judged Event
   row_of before line = judge_form before (form_of line)
@@ -216,24 +215,24 @@ pub record Before : Type 0 where
   pub last : Option Event
 
 abbrev pub nothing_before : Before
-nothing_before = record { seen = []; last = none }
+nothing_before = record { seen = []; last = None }
 
 abbrev pub after : Before → Event → Before
-after b e = record { seen = with_name b.seen e.duty; last = some e }
+after b e = record { seen = with_name b.seen e.duty; last = Some e }
 
 -- the event before is of the same duty
 abbrev pub follows : Option Event → Event → Bool
-follows none e = false
-follows (some p) e = same_list p.duty e.duty
+follows None e = false
+follows (Some p) e = same_list p.duty e.duty
 
 abbrev pub seq_after : Option Event → ℕ
-seq_after none = 1
-seq_after (some p) = p.seq + 1
+seq_after None = 1
+seq_after (Some p) = p.seq + 1
 
 -- it starts at the time and node at which the one before ended
 abbrev pub meets : Option Event → Event → Bool
-meets none e = true
-meets (some p) e = eqb e.start p.end && same_list p.to e.from
+meets None e = true
+meets (Some p) e = eqb e.start p.end && same_list p.to e.from
 
 -- every event ends after it starts; only TRAIN events may end at a node other than their start; rows of one duty stand together; SEQ runs from 1;
 -- each event starts at the previous one's time and node; the HHMMSS columns match the seconds
@@ -249,12 +248,12 @@ rules b e =
 
 -- the lowest that does not hold
 abbrev pub lowest : List Test → Option ℕ
-lowest [] = none
-lowest (t ∷ ts) = cond t.holds (lowest ts) (some t.number)
+lowest [] = None
+lowest (t ∷ ts) = cond t.holds (lowest ts) (Some t.number)
 
 -- the first row that breaks a rule, from row n on, with its lowest rule
 abbrev pub broken_from : ℕ → Before → List Event → Option RowFault
-broken_from n b [] = none
+broken_from n b [] = None
 broken_from n b (e ∷ es) = or_else n (lowest (rules b e)) (broken_from (suc n) (after b e) es)
 
 abbrev pub broken : List Event → Option RowFault
@@ -264,15 +263,15 @@ broken = broken_from 0 nothing_before
 
 abbrev pub starts_from : Option Event → List Event → List (List ℕ)
 starts_from p [] = []
-starts_from p (e ∷ es) = cond (follows p e) (starts_from (some e) es) (e.from ∷ starts_from (some e) es)
+starts_from p (e ∷ es) = cond (follows p e) (starts_from (Some e) es) (e.from ∷ starts_from (Some e) es)
 
 abbrev pub end_of : Option Event → List (List ℕ) → List (List ℕ)
-end_of none ends = ends
-end_of (some p) ends = p.to ∷ ends
+end_of None ends = ends
+end_of (Some p) ends = p.to ∷ ends
 
 abbrev pub ends_from : Option Event → List Event → List (List ℕ)
 ends_from p [] = end_of p []
-ends_from p (e ∷ es) = cond (follows p e) (ends_from (some e) es) (end_of p (ends_from (some e) es))
+ends_from p (e ∷ es) = cond (follows p e) (ends_from (Some e) es) (end_of p (ends_from (Some e) es))
 
 -- how often a node is among others
 abbrev pub times : List ℕ → List (List ℕ) → ℕ
@@ -283,7 +282,7 @@ abbrev pub balance_from : Option Event → List Event → List ℕ → ℤ
 balance_from p es n = pos (times n (ends_from p es)) -ℤ pos (times n (starts_from p es))
 
 abbrev pub balances : List Event → List ℤ
-balances es = map (balance_from none es) (nodes_of es)
+balances es = map (balance_from None es) (nodes_of es)
 
 -- ---- the nodes' table: where each name first stands in the text, and how long it is
 
@@ -310,9 +309,9 @@ module _ (text nodes : List ℕ) (balance : List ℤ) where
   not_accepted a = record { answer = a; nodes = filled unsigned_fill nodes; balance = filled signed_fill balance }
 
   abbrev pub duties_judged : List Event → Option RowFault → DutiesChecked
-  duties_judged es none =
+  duties_judged es None =
       record { answer = Accepted (length (nodes_of es)); nodes = over (places_from text 0 [] es) nodes; balance = over (balances es) balance }
-  duties_judged es (some f) = not_accepted (Broken (broken_rule f.row f.number (place_of_row text f.row)))
+  duties_judged es (Some f) = not_accepted (Broken (broken_rule f.row f.number (place_of_row text f.row)))
 
   abbrev pub duties_from : Reading (List Event) → DutiesChecked
   duties_from (refused r) = not_accepted (Refused r)

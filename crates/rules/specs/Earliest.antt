@@ -1,8 +1,7 @@
 -- The earliest timetable (document 02, E10): "keep each leg's nominal travel time and propose the earliest solution". The legs begin at their soonest offers; then, one after
 -- another, the leg that an inequality holds back is moved on to its next offer, until every inequality holds or there is no offer left. That no accepted solution with those travel
 -- times has any leg leaving sooner is a theorem (`earliest_theorems`).
-use Rattle.std.specs.Prelude.{ℕ, zero, suc, ◌+◌, ◌-◌, cond, ◌&&◌, List, [], ◌∷◌, map, leb, eqb, get_or, set}
-use Rattle.std.proofs.Math.Option.{Option, none, some}
+use Rattle.std.specs.Prelude.{ℕ, zero, suc, ◌+◌, ◌-◌, cond, ◌&&◌, List, [], ◌∷◌, map, leb, eqb, get_or, set, Option, Some, None}
 use Rattle.rules.specs.Lists.{◌>>=◌, each, only}
 use Rattle.rules.specs.Timetable.{Row, listed}
 use Rattle.rules.specs.Kinds.{Inequality, connection}
@@ -25,12 +24,12 @@ abbrev pub timed_rows : List Row → List (List Configuration)
 timed_rows rows = map timed rows
 
 abbrev pub sooner_than : Configuration → Option Configuration → Option Configuration
-sooner_than o none = some o
-sooner_than o (some c) = some (sooner o c)
+sooner_than o None = Some o
+sooner_than o (Some c) = Some (sooner o c)
 
 -- of the offers that leave at second m or after it, the one that leaves soonest; "where two offers differ only in profile, take the first listed"
 abbrev pub soonest : ℕ → List Configuration → Option Configuration
-soonest m [] = none
+soonest m [] = None
 soonest m (o ∷ os) = cond (leb m o.departure) (sooner_than o (soonest m os)) (soonest m os)
 
 -- ---- a leg that has to leave later
@@ -49,34 +48,34 @@ held_back c i = cond (eqb c.kind connection && eqb i at_most) c.first c.second
 
 -- the first inequality that fails, from inequality i on: its row has to leave later, by the shortfall
 abbrev pub late_from : Constraint → ℕ → List Inequality → Option Late
-late_from c i [] = none
+late_from c i [] = None
 late_from c i (q ∷ qs) =
-    cond (leb q.left q.right) (late_from c (suc i) qs) (some (record { row = held_back c i; by = q.left - q.right }))
+    cond (leb q.left q.right) (late_from c (suc i) qs) (Some (record { row = held_back c i; by = q.left - q.right }))
 
 abbrev pub or_next : Option Late → Option Late → Option Late
-or_next none next = next
-or_next (some l) next = some l
+or_next None next = next
+or_next (Some l) next = Some l
 
 -- in the constraint table's order
 abbrev pub first_late : List Configuration → List Constraint → Option Late
-first_late s [] = none
+first_late s [] = None
 first_late s (c ∷ cs) = or_next (late_from c 1 (inequalities s c)) (first_late s cs)
 
 -- ---- the search
 
 module _ (offers : List (List Configuration)) (cs : List Constraint) where
   abbrev pub on_offer : (List Configuration → Option (List Configuration)) → List Configuration → (row : ℕ) → Option Configuration → Option (List Configuration)
-  on_offer more s row none = none
-  on_offer more s row (some c) = more (set s row c)
+  on_offer more s row None = None
+  on_offer more s row (Some c) = more (set s row c)
 
   -- the late row goes on to the soonest offer that leaves late enough
   abbrev pub on_late : (List Configuration → Option (List Configuration)) → List Configuration → Option Late → Option (List Configuration)
-  on_late more s none = some s
-  on_late more s (some l) = on_offer more s l.row (soonest ((choice_at s l.row).departure + l.by) (get_or offers l.row []))
+  on_late more s None = Some s
+  on_late more s (Some l) = on_offer more s l.row (soonest ((choice_at s l.row).departure + l.by) (get_or offers l.row []))
 
   -- n is more than the steps that are needed
   unfoldable pub raised : ℕ → List Configuration → Option (List Configuration)
-  raised zero s = none
+  raised zero s = None
   raised (suc n) s = on_late (raised n) s (first_late s cs)
 
 -- every step passes over an offer, so there are no more steps than offers

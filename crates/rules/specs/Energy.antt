@@ -1,6 +1,5 @@
 -- The energies of an accepted solution (document 01, "Energy"): its curves, their sums and quarters, and the desk tool's four doubles. A sample is an average over one second, so energy is a plain sum.
-use Rattle.std.specs.Prelude.{ℕ, zero, suc, ◌+◌, ◌-◌, ◌*◌, ◌/◌, ◌%◌, max, min, Bool, false, cond, ◌&&◌, List, [], ◌∷◌, map, leb, ltb, eqb, get_or, ℤ, pos, negsuc, ◌+ℤ◌, ◌-ℤ◌, Float}
-use Rattle.std.proofs.Math.Option.{Option, none, some}
+use Rattle.std.specs.Prelude.{ℕ, zero, suc, ◌+◌, ◌-◌, ◌*◌, ◌/◌, ◌%◌, max, min, Bool, false, cond, ◌&&◌, List, [], ◌∷◌, map, leb, ltb, eqb, get_or, ℤ, pos, negsuc, ◌+ℤ◌, ◌-ℤ◌, Float, Option, Some, None}
 use Rattle.std.specs.Int.Signed.{le_z}
 use Rattle.std.specs.Float.{binary64}
 use Rattle.std.specs.Float.Ieee.{round}
@@ -71,8 +70,8 @@ module _ (samples : ℕ → List ℤ) where
   leg_at c t = cond (running c t) (get_or (samples c.profile) (t - c.departure) (pos 0)) (pos 0)
 
   abbrev pub is_home : Option ℕ → ℕ → Bool
-  is_home none s = false
-  is_home (some u) s = eqb u s
+  is_home None s = false
+  is_home (Some u) s = eqb u s
 
   -- P(s, t)
   abbrev pub power : List (Option ℕ) → List Configuration → (s t : ℕ) → ℤ
@@ -134,8 +133,8 @@ quarter_sums f H = tabulate most_quarters (λ k. pos (quarter f H k))
 -- ---- of the files that were read
 
 abbrev pub samples_or : Option Curve → List ℤ
-samples_or none = []
-samples_or (some c) = c.samples
+samples_or None = []
+samples_or (Some c) = c.samples
 
 abbrev pub samples_in : List Curve → ℕ → List ℤ
 samples_in curves id = samples_or (curve_of curves id)

@@ -1,6 +1,5 @@
 -- These definitions say what each public entry answers, and what it leaves in every lent table and text, for every input.
-use Rattle.std.specs.Prelude.{ℕ, ◌*◌, ◌/◌, Bool, true, false, ◌&&◌, List, leb, length, replicate, ℤ, pos}
-use Rattle.std.proofs.Math.Option.{Option, none, some}
+use Rattle.std.specs.Prelude.{ℕ, ◌*◌, ◌/◌, Bool, true, false, ◌&&◌, List, leb, length, replicate, ℤ, pos, Option, Some, None}
 use Rattle.rules.specs.Limits.{most_text, configuration_width, unsigned_fill, signed_fill, byte_fill}
 use Rattle.rules.specs.Lists.{flat, over}
 use Rattle.rules.specs.Answers.{refusal, unequal_travel, no_solution, no_room, no_file, solution_file, second_file, Reading, refused, good, ◌>>=◌}
@@ -247,8 +246,8 @@ module _ (t : Tables) (c d text : List ℕ) where
 
   -- 17 lies in the second solution, at the row
   abbrev pub merge_travel : (second_text : List ℕ) → (merge : List Configuration → List Configuration → List Configuration) → Option ℕ → Both → Merged
-  merge_travel second_text merge (some row) b = merge_refused (refusal unequal_travel second_file (place_of_row second_text row))
-  merge_travel second_text merge none b = merge_written (text_of (chosen b.files.rows (merge b.first b.second))) b
+  merge_travel second_text merge (Some row) b = merge_refused (refusal unequal_travel second_file (place_of_row second_text row))
+  merge_travel second_text merge None b = merge_written (text_of (chosen b.files.rows (merge b.first b.second))) b
 
   -- the verdict of the first, of the second, 17, 16; a violation has its own verdict's tally
   abbrev pub merge_second : (second_text : List ℕ) → (merge : List Configuration → List Configuration → List Configuration) → Finding → Tally → Both → Merged
@@ -313,8 +312,8 @@ module _ (t : Tables) (c text : List ℕ) where
 
   -- 19
   abbrev pub propose_found : Option (List Configuration) → Files → Proposed
-  propose_found none f = propose_refused (refusal no_solution no_file 0)
-  propose_found (some x) f = propose_judged (verdict_of f x).finding (verdict_of f x).tally f x
+  propose_found None f = propose_refused (refusal no_solution no_file 0)
+  propose_found (Some x) f = propose_judged (verdict_of f x).finding (verdict_of f x).tally f x
 
   abbrev pub propose_from : Reading Files → Proposed
   propose_from (refused r) = propose_refused r

@@ -1,10 +1,9 @@
 -- The five kinds with the keys that each must carry, in one table (document 01, "constraints.json").
-use Rattle.std.specs.Prelude.{ℕ, ◌+◌, Bool, true, false, cond, ◌&&◌, List, [], ◌∷◌, eqb, get_or, take}
+use Rattle.std.specs.Prelude.{ℕ, ◌+◌, Bool, true, false, cond, ◌&&◌, List, [], ◌∷◌, eqb, get_or, take, Option, Some, None}
 use Rattle.rules.specs.Lists.{same_list}
 use Rattle.rules.specs.Bytes.{bytes}
 use Rattle.rules.specs.declared.kinds.Kind.{Kind}
-use Rattle.rules.specs.declared.kinds.Time.{Time}
-use Rattle.rules.specs.declared.kinds.Time.TheVariants.{At, Unknown}
+use Rattle.rules.specs.declared.kinds.Anchor.{Anchor}
 use Rattle.rules.specs.declared.sizes.Configuration.{Configuration}
 
 -- ---- the kinds by number; 0 is a choice that is not offered
@@ -168,13 +167,13 @@ abbrev pub cannot_hold : Inequality
 cannot_hold = 1 ≤? 0
 
 -- x of kind 5; another type has none
-abbrev pub anchored : (type : ℕ) → Configuration → Time
-anchored type x = cond (eqb type by_arrival) (At (arrival x)) (cond (eqb type by_departure) (At (departure x)) Unknown)
+abbrev pub anchored : (type : ℕ) → Configuration → Option ℕ
+anchored type x = cond (eqb type by_arrival) (Some (arrival x)) (cond (eqb type by_departure) (Some (departure x)) None)
 
 -- an inequality about a time: where there is none it cannot hold
-abbrev pub about : Time → (ℕ → Inequality) → Inequality
-about (At x) asked = asked x
-about Unknown asked = cannot_hold
+abbrev pub about : Option ℕ → (ℕ → Inequality) → Inequality
+about (Some x) asked = asked x
+about None asked = cannot_hold
 
 -- THE TABLE: a record's numbers low and high, its type, and the choices of its first and second leg
 abbrev pub Rule : Type 0
@@ -206,27 +205,44 @@ rule_of kind = get_or rules kind no_rule
 
 -- ---- the same table as the code's constant holds it: keys, number of inequalities, anchors
 
-abbrev pub kind_row : (keys inequalities : ℕ) → List ℕ → Kind
+abbrev pub kind_row : (keys inequalities : ℕ) → List Anchor → Kind
 kind_row keys inequalities anchors = record { keys = keys; inequalities = inequalities; anchors = anchors }
 
 -- what is no kind: one inequality, and no anchors
 abbrev pub no_kind : Kind
 no_kind = kind_row 0 1 []
 
-abbrev pub no_anchor : ℕ
-no_anchor = 0
+abbrev pub no_anchor : Anchor
+no_anchor = Anchor.None
 
-abbrev pub by_d : ℕ
-by_d = 1
+-- d, and d + t
+abbrev pub by_d : Anchor
+by_d = Anchor.Departure
 
-abbrev pub by_d_t : ℕ
-by_d_t = 2
+abbrev pub by_d_t : Anchor
+by_d_t = Anchor.Arrival
 
-abbrev pub by_x : ℕ
-by_x = 3
+-- x, and x as what bounds the second leg from above
+abbrev pub by_x : Anchor
+by_x = Anchor.Connection
 
-abbrev pub latest : ℕ
-latest = 4
+abbrev pub latest : Anchor
+latest = Anchor.Latest
+
+-- the number of an anchor, as the code counts them
+abbrev pub anchor_number : Anchor → ℕ
+anchor_number Anchor.None = 0
+anchor_number Anchor.Departure = 1
+anchor_number Anchor.Arrival = 2
+anchor_number Anchor.Connection = 3
+anchor_number Anchor.Latest = 4
+
+abbrev pub is_latest : Anchor → Bool
+is_latest Anchor.None = false
+is_latest Anchor.Departure = false
+is_latest Anchor.Arrival = false
+is_latest Anchor.Connection = false
+is_latest Anchor.Latest = true
 
 abbrev pub kind_table : List Kind
 kind_table =
@@ -240,23 +256,25 @@ kind_table =
 -- ---- the rule of a row of that table
 
 -- a leg by an anchor; without one it has no time
-abbrev pub measured : (anchor type : ℕ) → Configuration → Time
-measured anchor type x =
-    cond (eqb anchor by_d) (At (departure x))
-    (cond (eqb anchor by_d_t) (At (arrival x)) (cond (eqb anchor by_x) (anchored type x) (cond (eqb anchor latest) (anchored type x) Unknown)))
+abbrev pub measured : Anchor → (type : ℕ) → Configuration → Option ℕ
+measured Anchor.None type x = None
+measured Anchor.Departure type x = Some (departure x)
+measured Anchor.Arrival type x = Some (arrival x)
+measured Anchor.Connection type x = anchored type x
+measured Anchor.Latest type x = anchored type x
 
 -- the least seconds, where the kind has further keys than those of its two legs
 abbrev pub with_least : (keys low : ℕ) → ℕ → ℕ
 with_least keys low x = cond (eqb keys (first_leg + second_leg)) x (x + low)
 
 -- one inequality, by the anchors of the first leg and of the second
-abbrev pub by_anchor : (keys : ℕ) → (first second : ℕ) → (low high type : ℕ) → Configuration → Configuration → Inequality
+abbrev pub by_anchor : (keys : ℕ) → (first second : Anchor) → (low high type : ℕ) → Configuration → Configuration → Inequality
 by_anchor keys first second low high type one two =
-    about (measured first type one) (λ x. about (measured second type two) (λ y. cond (eqb first latest) (y ≤? x + high) (with_least keys low x ≤? y)))
+    about (measured first type one) (λ x. about (measured second type two) (λ y. cond (is_latest first) (y ≤? x + high) (with_least keys low x ≤? y)))
 
 -- the inequalities of a row, as many as it says: the first by its first two anchors, the second by its last two
 unfoldable pub by_anchors : Kind → Rule
 by_anchors row low high type one two =
-    let at : ℕ → ℕ = λ i. get_or row.anchors i no_anchor in
+    let at : ℕ → Anchor = λ i. get_or row.anchors i no_anchor in
     take row.inequalities
     (by_anchor row.keys (at 0) (at 1) low high type one two ∷ by_anchor row.keys (at 2) (at 3) low high type one two ∷ [])

@@ -1,17 +1,16 @@
 -- The words about lists that the definitions share. None of them knows what a timetable is.
-use Rattle.std.specs.Prelude.{ℕ, suc, ◌+◌, Bool, true, false, cond, ◌&&◌, ◌||◌, List, [], ◌∷◌, ◌++◌, eqb, length, drop}
-use Rattle.std.proofs.Math.Option.{Option, none, some}
+use Rattle.std.specs.Prelude.{ℕ, suc, ◌+◌, Bool, true, false, cond, ◌&&◌, ◌||◌, List, [], ◌∷◌, ◌++◌, eqb, length, drop, Option, Some, None}
 
 infixl 20 ◌>>=◌
 -- what may be missing, and then what follows from it
 abbrev pub ◌>>=◌ : {A B : Type 0} → Option A → (A → Option B) → Option B
-none >>= k = none
-some a >>= k = k a
+None >>= k = None
+Some a >>= k = k a
 
 -- every element gives something: all of it in order
 abbrev pub each : {A B : Type 0} → (A → Option B) → List A → Option (List B)
-each f [] = some []
-each f (x ∷ xs) = f x >>= (λ y. each f xs >>= (λ ys. some (y ∷ ys)))
+each f [] = Some []
+each f (x ∷ xs) = f x >>= (λ y. each f xs >>= (λ ys. Some (y ∷ ys)))
 
 abbrev pub every : {A : Type 0} → (A → Bool) → List A → Bool
 every p [] = true
@@ -33,20 +32,16 @@ lead p (x ∷ xs) = cond (p x) (x ∷ lead p xs) []
 
 -- the place of the first that passes a test, where the list starts at place n
 abbrev pub place_from : {A : Type 0} → ℕ → (A → Bool) → List A → Option ℕ
-place_from n p [] = none
-place_from n p (x ∷ xs) = cond (p x) (some n) (place_from (suc n) p xs)
+place_from n p [] = None
+place_from n p (x ∷ xs) = cond (p x) (Some n) (place_from (suc n) p xs)
 
 abbrev pub first_place : {A : Type 0} → (A → Bool) → List A → Option ℕ
 first_place = place_from 0
 
 -- the first that passes a test
 abbrev pub first : {A : Type 0} → (A → Bool) → List A → Option A
-first p [] = none
-first p (x ∷ xs) = cond (p x) (some x) (first p xs)
-
-abbrev pub is_some : {A : Type 0} → Option A → Bool
-is_some none = false
-is_some (some a) = true
+first p [] = None
+first p (x ∷ xs) = cond (p x) (Some x) (first p xs)
 
 abbrev pub sum_of : {A : Type 0} → (A → ℕ) → List A → ℕ
 sum_of f [] = 0

@@ -1,7 +1,6 @@
 -- How two accepted solutions are merged (document 01, "Merged texts"): at each leg the earlier or the later choice is taken, and the draft is written with these
 -- choices as a timetable.
-use Rattle.std.specs.Prelude.{ℕ, suc, ◌≡◌, cond, List, [], ◌∷◌, ◌++◌, map, leb, eqb}
-use Rattle.std.proofs.Math.Option.{Option, none, some}
+use Rattle.std.specs.Prelude.{ℕ, suc, ◌≡◌, cond, List, [], ◌∷◌, ◌++◌, map, leb, eqb, Option, Some, None}
 use Rattle.rules.specs.Lists.{flat}
 use Rattle.rules.specs.Bytes.{spelled, joined, line_feed, comma, space, underscore}
 use Rattle.rules.specs.Timetable.{Row, row, timetable_header}
@@ -45,9 +44,9 @@ SameTravel (a ∷ r) (b ∷ bs) = (a.travel ≡ b.travel) × SameTravel r bs
 
 -- 17: the first row, from row n on, whose two choices have unequal travel times
 abbrev pub unequal_from : ℕ → List Configuration → List Configuration → Option ℕ
-unequal_from n [] bs = none
-unequal_from n (a ∷ r) [] = none
-unequal_from n (a ∷ r) (b ∷ bs) = cond (eqb a.travel b.travel) (unequal_from (suc n) r bs) (some n)
+unequal_from n [] bs = None
+unequal_from n (a ∷ r) [] = None
+unequal_from n (a ∷ r) (b ∷ bs) = cond (eqb a.travel b.travel) (unequal_from (suc n) r bs) (Some n)
 
 -- ---- the text: the header, then the draft's rows with the chosen configuration as nominal and the draft's list
 

@@ -1,8 +1,7 @@
 -- How profiles.csv is read (document 01), and what is then asked of the timetable's rows: that each profile is there (12), with a sample for each second of travel (13).
-use Rattle.std.specs.Prelude.{ℕ, ◌+◌, Bool, true, not, cond, ◌&&◌, List, [], ◌∷◌, leb, ltb, eqb, length, ℤ, nat_abs}
-use Rattle.std.proofs.Math.Option.{Option, none, some}
+use Rattle.std.specs.Prelude.{ℕ, ◌+◌, Bool, true, not, cond, ◌&&◌, List, [], ◌∷◌, leb, ltb, eqb, length, ℤ, nat_abs, is_some, Option, Some, None}
 use Rattle.rules.specs.Limits.{most_id, most_kw, most_profiles, most_sampled, most_samples}
-use Rattle.rules.specs.Lists.{◌>>=◌, each, every, any, first, is_some, sum_of, flat}
+use Rattle.rules.specs.Lists.{◌>>=◌, each, every, any, first, sum_of, flat}
 use Rattle.rules.specs.Answers.{Judged, wrong, judge, Test, ◌needs◌, Reading, bad_row, out_of_range, too_many, already_seen, not_there, wrong_samples, no_room, profiles_file}
 use Rattle.rules.specs.Bytes.{bytes, whole_of, sample_of, split_on, contents_of, space}
 use Rattle.rules.specs.Rows.{header_of, csv_of}
@@ -25,13 +24,13 @@ abbrev pub samples_of : List ℕ → Option (List ℤ)
 samples_of s = each sample_of (split_on space s)
 
 abbrev pub two_of : List (List ℕ) → Option Curve
-two_of [] = none
-two_of (i ∷ []) = none
+two_of [] = None
+two_of (i ∷ []) = None
 two_of (i ∷ l ∷ []) = do
   id ← whole_of i
   samples ← samples_of l
-  some (record { id = id; samples = samples })
-two_of (i ∷ l ∷ x ∷ more) = none
+  Some (record { id = id; samples = samples })
+two_of (i ∷ l ∷ x ∷ more) = None
 
 abbrev pub form_of : List ℕ → Option Curve
 form_of line = contents_of line >>= two_of
@@ -51,8 +50,8 @@ module _ (profiles samples : ℕ) where
       ∷ []
 
   abbrev pub judge_form : List Curve → Option Curve → Judged Curve
-  judge_form before none = wrong bad_row
-  judge_form before (some c) = judge (row_tests before c) c
+  judge_form before None = wrong bad_row
+  judge_form before (Some c) = judge (row_tests before c) c
 
   abbrev pub row_of : List Curve → List ℕ → Judged Curve
   row_of before line = judge_form before (form_of line)
@@ -67,14 +66,14 @@ curve_of curves id = first (λ c. eqb c.id id) curves
 
 -- the profile, where there is one, has a sample for each second of travel
 abbrev pub lasts : ℕ → Option Curve → Bool
-lasts t none = true
-lasts t (some c) = eqb (length c.samples) t
+lasts t None = true
+lasts t (Some c) = eqb (length c.samples) t
 
 abbrev pub profile_fault : List Curve → Row → Option ℕ
 profile_fault curves r =
     cond (every (λ c. is_some (curve_of curves c.profile)) r.list)
-    (cond (every (λ c. lasts c.travel (curve_of curves c.profile)) r.list) none (some wrong_samples))
-    (some not_there)
+    (cond (every (λ c. lasts c.travel (curve_of curves c.profile)) r.list) None (Some wrong_samples))
+    (Some not_there)
 
 -- ---- the tables
 

@@ -1,6 +1,5 @@
 -- Everything is read in document 01's order, and the first refusal ends it: what is stated; timetable; profiles; 12 and 13; constraints; 15; solution; 14; then a second solution.
-use Rattle.std.specs.Prelude.{ℕ, suc, ◌/◌, Bool, cond, ◌&&◌, List, [], ◌∷◌, map, eqb, length}
-use Rattle.std.proofs.Math.Option.{Option, none, some}
+use Rattle.std.specs.Prelude.{ℕ, suc, ◌/◌, Bool, cond, ◌&&◌, List, [], ◌∷◌, map, eqb, length, Option, Some, None}
 use Rattle.rules.specs.Limits.{leg_width, configuration_width, profile_width, constraint_width, track_width}
 use Rattle.rules.specs.Answers.{refusal, differs, timetable_file, Reading, refused, good, ◌>>=◌}
 use Rattle.rules.specs.Rows.{place_of_row, first_fault, passed}
@@ -56,14 +55,14 @@ same_leg a b =
 
 -- the place of the first row that differs, from row n on; the text's length where rows are missing
 abbrev pub differs_from : ℕ → (text : List ℕ) → (draft solution : List Row) → Option ℕ
-differs_from n text [] [] = none
-differs_from n text [] (b ∷ bs) = some (place_of_row text n)
-differs_from n text (a ∷ r) [] = some (length text)
-differs_from n text (a ∷ r) (b ∷ bs) = cond (same_leg a b) (differs_from (suc n) text r bs) (some (place_of_row text n))
+differs_from n text [] [] = None
+differs_from n text [] (b ∷ bs) = Some (place_of_row text n)
+differs_from n text (a ∷ r) [] = Some (length text)
+differs_from n text (a ∷ r) (b ∷ bs) = cond (same_leg a b) (differs_from (suc n) text r bs) (Some (place_of_row text n))
 
 abbrev pub matched : (file : ℕ) → Option ℕ → List Row → Reading (List Row)
-matched file none rows = good rows
-matched file (some place) rows = refused (refusal differs file place)
+matched file None rows = good rows
+matched file (Some place) rows = refused (refusal differs file place)
 
 -- a solution's choices, as its nominal column has them; room is the numbers that the choice table takes
 unfoldable pub choices_read : (H : ℕ) → Files → (file room : ℕ) → List ℕ → Reading (List Configuration)

@@ -1,6 +1,5 @@
 -- A CSV text (document 01; document 02, E1) is its header, then rows, each ended by LF or CR LF, the last too. A row's place is its first byte.
-use Rattle.std.specs.Prelude.{ℕ, suc, ◌+◌, Bool, false, cond, List, [], ◌∷◌, ◌++◌, leb, length}
-use Rattle.std.proofs.Math.Option.{Option, none, some}
+use Rattle.std.specs.Prelude.{ℕ, suc, ◌+◌, Bool, false, cond, List, [], ◌∷◌, ◌++◌, leb, length, Option, Some, None}
 use Rattle.rules.specs.Limits.{most_text}
 use Rattle.rules.specs.Lists.{same_lists}
 use Rattle.rules.specs.Answers.{refusal, too_long, bad_header, bad_row, Reading, refused, good, Judged, wrong, right}
@@ -12,8 +11,8 @@ header_of names = joined comma names ++ line_feed ∷ []
 
 -- a line is read as a header by its contents
 abbrev pub are_names : List (List ℕ) → Option (List (List ℕ)) → Bool
-are_names names none = false
-are_names names (some fields) = same_lists fields names
+are_names names None = false
+are_names names (Some fields) = same_lists fields names
 
 abbrev pub heads : List (List ℕ) → List ℕ → Bool
 heads names line = are_names names (contents_of (less_return line))
@@ -58,14 +57,14 @@ pub record RowFault : Type 0 where
   pub number : ℕ
 
 abbrev pub or_else : (row : ℕ) → Option ℕ → Option RowFault → Option RowFault
-or_else n none later = later
-or_else n (some k) later = some (record { row = n; number = k })
+or_else n None later = later
+or_else n (Some k) later = Some (record { row = n; number = k })
 
 abbrev pub first_fault : {A : Type 0} → ℕ → (A → Option ℕ) → List A → Option RowFault
-first_fault n fault [] = none
+first_fault n fault [] = None
 first_fault n fault (x ∷ xs) = or_else n (fault x) (first_fault (suc n) fault xs)
 
 -- a test over a text's rows that finds none at fault, or refuses at the row's place
 abbrev pub passed : {A : Type 0} → (file : ℕ) (text : List ℕ) → Option RowFault → A → Reading A
-passed file text none x = good x
-passed file text (some f) x = refused (refusal f.number file (place_of_row text f.row))
+passed file text None x = good x
+passed file text (Some f) x = refused (refusal f.number file (place_of_row text f.row))

@@ -1,13 +1,12 @@
 -- What a caller states beside the texts, H and the edition of constraints.json, is tested before any of them: 1, then 21 (document 02, E4).
-use Rattle.std.specs.Prelude.{ℕ, cond, ◌&&◌, ◌||◌, leb, eqb}
+use Rattle.std.specs.Prelude.{ℕ, cond, ◌&&◌, ◌||◌, leb, eqb, Result, Ok, Err}
 use Rattle.rules.specs.Limits.{least_horizon, most_horizon}
 use Rattle.rules.specs.Answers.{refusal, bad_horizon, unknown_edition, no_file, Reading, refused, good, ◌>>=◌}
 use Rattle.rules.specs.Kinds.{table_edition, example_edition}
 use Rattle.rules.specs.Constraints.{rules_in}
 use Rattle.rules.specs.declared.tokens.Rules.{Rules}
 use Rattle.rules.specs.declared.stated.Stated.{Stated}
-use Rattle.rules.specs.declared.stated.Known.{Known}
-use Rattle.rules.specs.declared.stated.Known.TheVariants.{Whole, Refused}
+use Rattle.rules.specs.declared.answers.Refusal.{Refusal}
 
 abbrev pub stated : (horizon edition : ℕ) → Stated
 stated horizon edition = record { horizon = horizon; edition = edition }
@@ -31,6 +30,6 @@ known s = do
   good s
 
 -- as the code answers it
-abbrev pub known_of : Reading Stated → Known
-known_of (refused r) = Refused r
-known_of (good s) = Whole
+abbrev pub known_of : Reading Stated → Result (Unit {0}) Refusal
+known_of (refused r) = Err r
+known_of (good s) = Ok tt

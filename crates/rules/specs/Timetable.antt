@@ -1,6 +1,5 @@
 -- How timetable.csv is read, and a solution, which is again such a file (document 01, "The CSV rows"); and how its rows stand in the tables ("The tables").
-use Rattle.std.specs.Prelude.{ℕ, ◌+◌, Bool, not, ◌&&◌, List, [], ◌∷◌, map, leb, ltb, eqb, length}
-use Rattle.std.proofs.Math.Option.{Option, none, some, get_or}
+use Rattle.std.specs.Prelude.{ℕ, ◌+◌, Bool, not, ◌&&◌, List, [], ◌∷◌, map, leb, ltb, eqb, length, Option, Some, None, unwrap_or}
 use Rattle.rules.specs.Limits.{most_id, least_travel, most_travel, most_listed, most_legs, most_configurations}
 use Rattle.rules.specs.Lists.{◌>>=◌, each, every, any, first_place, sum_of, flat}
 use Rattle.rules.specs.Answers.{Judged, wrong, judge, Test, ◌needs◌, Reading, bad_row, out_of_range, too_many, already_seen, nominal_not_listed, no_room, timetable_file}
@@ -31,15 +30,15 @@ abbrev pub configuration : (departure travel profile : ℕ) → Configuration
 configuration d t p = record { departure = d; travel = t; profile = p }
 
 abbrev pub three_of : List (List ℕ) → Option Configuration
-three_of [] = none
-three_of (d ∷ []) = none
-three_of (d ∷ t ∷ []) = none
+three_of [] = None
+three_of (d ∷ []) = None
+three_of (d ∷ t ∷ []) = None
 three_of (d ∷ t ∷ p ∷ []) = do
   departure ← whole_of d
   travel ← whole_of t
   profile ← whole_of p
-  some (configuration departure travel profile)
-three_of (d ∷ t ∷ p ∷ x ∷ more) = none
+  Some (configuration departure travel profile)
+three_of (d ∷ t ∷ p ∷ x ∷ more) = None
 
 abbrev pub configuration_of : List ℕ → Option Configuration
 configuration_of s = three_of (split_on underscore s)
@@ -61,13 +60,13 @@ abbrev pub row : (leg train track start end : ℕ) → Configuration → List Co
 row a b c d e n l = record { leg = a; train = b; track = c; start = d; end = e; nominal = n; list = l }
 
 abbrev pub seven_of : List (List ℕ) → Option Row
-seven_of [] = none
-seven_of (a ∷ []) = none
-seven_of (a ∷ b ∷ []) = none
-seven_of (a ∷ b ∷ c ∷ []) = none
-seven_of (a ∷ b ∷ c ∷ d ∷ []) = none
-seven_of (a ∷ b ∷ c ∷ d ∷ e ∷ []) = none
-seven_of (a ∷ b ∷ c ∷ d ∷ e ∷ n ∷ []) = none
+seven_of [] = None
+seven_of (a ∷ []) = None
+seven_of (a ∷ b ∷ []) = None
+seven_of (a ∷ b ∷ c ∷ []) = None
+seven_of (a ∷ b ∷ c ∷ d ∷ []) = None
+seven_of (a ∷ b ∷ c ∷ d ∷ e ∷ []) = None
+seven_of (a ∷ b ∷ c ∷ d ∷ e ∷ n ∷ []) = None
 seven_of (a ∷ b ∷ c ∷ d ∷ e ∷ n ∷ l ∷ []) = do
   leg ← whole_of a
   train ← whole_of b
@@ -76,8 +75,8 @@ seven_of (a ∷ b ∷ c ∷ d ∷ e ∷ n ∷ l ∷ []) = do
   end ← whole_of e
   nominal ← configuration_of n
   list ← list_of l
-  some (row leg train track start end nominal list)
-seven_of (a ∷ b ∷ c ∷ d ∷ e ∷ n ∷ l ∷ x ∷ more) = none
+  Some (row leg train track start end nominal list)
+seven_of (a ∷ b ∷ c ∷ d ∷ e ∷ n ∷ l ∷ x ∷ more) = None
 
 abbrev pub form_of : List ℕ → Option Row
 form_of line = contents_of line >>= seven_of
@@ -114,8 +113,8 @@ module _ (H : ℕ) (fits : List Row → Row → Bool) where
       ∷ []
 
   abbrev pub judge_form : List Row → Option Row → Judged Row
-  judge_form before none = wrong bad_row
-  judge_form before (some r) = judge (row_tests before r) r
+  judge_form before None = wrong bad_row
+  judge_form before (Some r) = judge (row_tests before r) r
 
   abbrev pub row_of : List Row → List ℕ → Judged Row
   row_of before line = judge_form before (form_of line)
@@ -138,7 +137,7 @@ solution_of H file choices = csv_of file (row_of H (solution_fits choices)) time
 
 -- the lowest place of the nominal in its list
 abbrev pub nominal_place : Row → ℕ
-nominal_place r = get_or (first_place (same r.nominal) r.list) 0
+nominal_place r = unwrap_or (first_place (same r.nominal) r.list) 0
 
 abbrev pub leg_of : (first : ℕ) → Row → Leg
 leg_of first r =

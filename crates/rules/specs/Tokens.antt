@@ -1,8 +1,7 @@
 -- How constraints.json falls into tokens: it is RFC 8259 text, narrowed (document 01, "constraints.json", "Refusal numbers").
-use Rattle.std.specs.Prelude.{ℕ, zero, suc, ◌+◌, pred, Bool, not, cond, ◌&&◌, ◌||◌, List, [], ◌∷◌, ◌++◌, leb, eqb, length, drop}
+use Rattle.std.specs.Prelude.{ℕ, zero, suc, ◌+◌, pred, Bool, not, cond, ◌&&◌, ◌||◌, List, [], ◌∷◌, ◌++◌, leb, eqb, length, drop, is_some, Option, Some, None}
 use Prim.Native.Char.{code}
-use Rattle.std.proofs.Math.Option.{Option, none, some}
-use Rattle.rules.specs.Lists.{lead, is_some}
+use Rattle.rules.specs.Lists.{lead}
 use Rattle.rules.specs.declared.tokens.Class.{Class}
 use Rattle.rules.specs.declared.tokens.Class.TheVariants.{OpenBrace, CloseBrace, OpenBracket, CloseBracket, Colon, Comma, Quoted, Run, End, Unclosed, Forbidden}
 
@@ -21,13 +20,13 @@ backslash = code "\\"
 -- { } [ ] : ,
 abbrev pub sign_of : ℕ → Option Class
 sign_of b =
-    cond (eqb b (code "{")) (some OpenBrace)
-    (cond (eqb b (code "}")) (some CloseBrace)
-    (cond (eqb b (code "[")) (some OpenBracket)
-    (cond (eqb b (code "]")) (some CloseBracket)
-    (cond (eqb b (code ":")) (some Colon)
-    (cond (eqb b (code ",")) (some Comma)
-    none)))))
+    cond (eqb b (code "{")) (Some OpenBrace)
+    (cond (eqb b (code "}")) (Some CloseBrace)
+    (cond (eqb b (code "[")) (Some OpenBracket)
+    (cond (eqb b (code "]")) (Some CloseBracket)
+    (cond (eqb b (code ":")) (Some Colon)
+    (cond (eqb b (code ",")) (Some Comma)
+    None)))))
 
 -- a run is made of all other bytes
 abbrev pub in_run : ℕ → Bool
@@ -58,8 +57,8 @@ abbrev pub run_token : (place : ℕ) (w : List ℕ) → Token
 run_token place w = token Run w place (length w)
 
 abbrev pub sign_token : (place b : ℕ) → List ℕ → Option Class → Token
-sign_token place b s (some c) = token c [] place 1
-sign_token place b s none = run_token place (lead in_run (b ∷ s))
+sign_token place b s (Some c) = token c [] place 1
+sign_token place b s None = run_token place (lead in_run (b ∷ s))
 
 -- the token that starts at a byte which is not white
 abbrev pub token_at : (place : ℕ) → ℕ → List ℕ → Token

@@ -1,6 +1,6 @@
 // The three answers of document 01: accepted, the first violation, a numbered refusal; and a verdict's tally. The duties have their own three.
 ghost use Rattle.std.specs.Prelude.{◌≡◌};
-ghost use Rattle.rules.specs.Answers.{refusal, violation, broken_rule};
+ghost use Rattle.rules.specs.Answers.{refusal, fault_at, violation, broken_rule};
 ghost use Rattle.rules.specs.Tally.{no_tests, counted, Countable};
 
 use crate::kinds::Kind;
@@ -79,6 +79,27 @@ impl Refusal {
             file,
             place,
         }
+    }
+}
+
+// Why a text is refused, by whoever reads it and does not know which file it is.
+#[derive(Clone, Copy)]
+pub struct Fault {
+    pub number: u8,
+    pub place: u32,
+}
+
+impl Fault {
+    pub fn new(number: u8, place: u32) -> Fault
+        ensures { result ≡ fault_at number place }
+    {
+        Fault { number, place }
+    }
+
+    pub fn in_file(self, file: u8) -> Refusal
+        ensures { result ≡ refusal self.number file self.place }
+    {
+        Refusal::new(self.number, file, self.place)
     }
 }
 

@@ -43,29 +43,16 @@ impl Edition {
 }
 
 // What an inequality measures a leg by.
-#[derive(Clone, Copy)]
-pub struct Anchor {}
-
-impl Anchor {
+#[derive(Clone, Copy, PartialEq, Eq)]
+pub enum Anchor {
     // There is no second inequality; a leg has no time by it.
-    pub const NONE: u8 = 0;
-
+    None,
     // d, and d + t.
-    pub const DEPARTURE: u8 = 1;
-
-    pub const ARRIVAL: u8 = 2;
-
+    Departure,
+    Arrival,
     // x of kind 5, by the record's type, with its least seconds; and as what bounds the second leg from above, with its greatest.
-    pub const CONNECTION: u8 = 3;
-
-    pub const LATEST: u8 = 4;
-}
-
-// The time of a leg by an anchor. There is none where nobody knows the anchor, or the type that it asks for; an inequality about no time cannot hold.
-#[derive(Clone, Copy)]
-pub enum Time {
-    At(u64),
-    Unknown,
+    Connection,
+    Latest,
 }
 
 // A kind: the keys of its records, how many inequalities it has, and the anchors of both legs in each.
@@ -73,7 +60,7 @@ pub enum Time {
 pub struct Kind {
     pub keys: u16,
     pub inequalities: u8,
-    pub anchors: [u8; 4],
+    pub anchors: [Anchor; 4],
 }
 
 impl Kind {
@@ -98,40 +85,40 @@ const KINDS: [Kind; Kind::COUNT] = [
         keys: Key::FIRST_LEG + Key::SECOND_LEG + Key::MIN_HEADWAY,
         inequalities: 2,
         anchors: [
-            Anchor::DEPARTURE,
-            Anchor::DEPARTURE,
-            Anchor::ARRIVAL,
-            Anchor::ARRIVAL,
+            Anchor::Departure,
+            Anchor::Departure,
+            Anchor::Arrival,
+            Anchor::Arrival,
         ],
     },
     Kind {
         keys: Key::FIRST_LEG + Key::SECOND_LEG,
         inequalities: 1,
         anchors: [
-            Anchor::ARRIVAL,
-            Anchor::DEPARTURE,
-            Anchor::NONE,
-            Anchor::NONE,
+            Anchor::Arrival,
+            Anchor::Departure,
+            Anchor::None,
+            Anchor::None,
         ],
     },
     Kind {
         keys: Key::FIRST_LEG + Key::SECOND_LEG + Key::MIN_DWELL,
         inequalities: 1,
         anchors: [
-            Anchor::ARRIVAL,
-            Anchor::DEPARTURE,
-            Anchor::NONE,
-            Anchor::NONE,
+            Anchor::Arrival,
+            Anchor::Departure,
+            Anchor::None,
+            Anchor::None,
         ],
     },
     Kind {
         keys: Key::FIRST_LEG + Key::SECOND_LEG + Key::MIN_TURNAROUND,
         inequalities: 1,
         anchors: [
-            Anchor::ARRIVAL,
-            Anchor::DEPARTURE,
-            Anchor::NONE,
-            Anchor::NONE,
+            Anchor::Arrival,
+            Anchor::Departure,
+            Anchor::None,
+            Anchor::None,
         ],
     },
     Kind {
@@ -142,10 +129,10 @@ const KINDS: [Kind; Kind::COUNT] = [
             + Key::CONNECTION_TYPE,
         inequalities: 2,
         anchors: [
-            Anchor::CONNECTION,
-            Anchor::DEPARTURE,
-            Anchor::LATEST,
-            Anchor::DEPARTURE,
+            Anchor::Connection,
+            Anchor::Departure,
+            Anchor::Latest,
+            Anchor::Departure,
         ],
     },
 ];

@@ -9,12 +9,6 @@ pub struct Horizon {
     pub seconds: u32,
 }
 
-#[derive(Clone, Copy)]
-pub enum HorizonMade {
-    Within(Horizon),
-    OutOfRange,
-}
-
 impl Horizon {
     pub const LEAST: u32 = 1;
 
@@ -25,16 +19,13 @@ impl Horizon {
 
     pub const QUARTERS: usize = 196;
 
-    pub fn new(seconds: u32) -> HorizonMade
+    pub fn new(seconds: u32) -> Option<Horizon>
         ensures { result ≡ horizon_made seconds }
     {
-        if seconds < Self::LEAST {
-            return HorizonMade::OutOfRange;
+        if seconds < Self::LEAST || Self::MOST < seconds {
+            return None;
         }
-        if Self::MOST < seconds {
-            return HorizonMade::OutOfRange;
-        }
-        HorizonMade::Within(Horizon { seconds })
+        Some(Horizon { seconds })
     }
 }
 
@@ -62,12 +53,6 @@ pub struct Configuration {
     pub profile: u32,
 }
 
-#[derive(Clone, Copy)]
-pub enum ConfigurationMade {
-    Within(Configuration),
-    OutOfRange,
-}
-
 impl Configuration {
     pub const WIDTH: usize = 3;
 
@@ -85,25 +70,19 @@ impl Configuration {
     pub const MOST_TRAVEL: u32 = 3_600;
 
     // Within a horizon of `h` seconds.
-    pub fn new(departure: u32, travel: u32, profile: u32, h: u32) -> ConfigurationMade
+    pub fn new(departure: u32, travel: u32, profile: u32, h: u32) -> Option<Configuration>
         ensures { result ≡ configuration_made departure travel profile h }
     {
-        if travel < Self::LEAST_TRAVEL {
-            return ConfigurationMade::OutOfRange;
-        }
-        if Self::MOST_TRAVEL < travel {
-            return ConfigurationMade::OutOfRange;
-        }
-        if h < travel {
-            return ConfigurationMade::OutOfRange;
+        if travel < Self::LEAST_TRAVEL || Self::MOST_TRAVEL < travel || h < travel {
+            return None;
         }
         if h - travel < departure {
-            return ConfigurationMade::OutOfRange;
+            return None;
         }
         if Id::MOST < profile {
-            return ConfigurationMade::OutOfRange;
+            return None;
         }
-        ConfigurationMade::Within(Configuration {
+        Some(Configuration {
             departure,
             travel,
             profile,
@@ -130,12 +109,6 @@ pub struct Leg {
     pub first: u32,
     pub count: u32,
     pub nominal: u32,
-}
-
-#[derive(Clone, Copy)]
-pub enum LegMade {
-    Within(Leg),
-    OutOfRange,
 }
 
 impl Leg {
@@ -173,34 +146,19 @@ impl Leg {
     pub const MOST_CONFIGURATIONS: u32 = 64;
 
     // The five ids are within theirs, the count is one that a row may have, and the nominal is one of the list.
-    pub fn new(ids: [u32; Leg::IDS], first: u32, count: u32, nominal: u32) -> LegMade
+    pub fn new(ids: [u32; Leg::IDS], first: u32, count: u32, nominal: u32) -> Option<Leg>
         ensures { result ≡ leg_made ids first count nominal }
     {
-        if Id::MOST < ids[Self::ID_AT] {
-            return LegMade::OutOfRange;
+        if ids.iter().any(|&id| Id::MOST < id) {
+            return None;
         }
-        if Id::MOST < ids[Self::TRAIN_AT] {
-            return LegMade::OutOfRange;
-        }
-        if Id::MOST < ids[Self::TRACK_AT] {
-            return LegMade::OutOfRange;
-        }
-        if Id::MOST < ids[Self::START_AT] {
-            return LegMade::OutOfRange;
-        }
-        if Id::MOST < ids[Self::END_AT] {
-            return LegMade::OutOfRange;
-        }
-        if count < Self::LEAST_CONFIGURATIONS {
-            return LegMade::OutOfRange;
-        }
-        if Self::MOST_CONFIGURATIONS < count {
-            return LegMade::OutOfRange;
+        if count < Self::LEAST_CONFIGURATIONS || Self::MOST_CONFIGURATIONS < count {
+            return None;
         }
         if count <= nominal {
-            return LegMade::OutOfRange;
+            return None;
         }
-        LegMade::Within(Leg {
+        Some(Leg {
             id: ids[Self::ID_AT],
             train: ids[Self::TRAIN_AT],
             track: ids[Self::TRACK_AT],
@@ -219,12 +177,6 @@ pub struct Profile {
     pub id: u32,
     pub first: u32,
     pub count: u32,
-}
-
-#[derive(Clone, Copy)]
-pub enum ProfileMade {
-    Within(Profile),
-    OutOfRange,
 }
 
 impl Profile {
@@ -248,19 +200,16 @@ impl Profile {
 
     pub const MOST_SAMPLES: u32 = 3_600;
 
-    pub fn new(id: u32, first: u32, count: u32) -> ProfileMade
+    pub fn new(id: u32, first: u32, count: u32) -> Option<Profile>
         ensures { result ≡ profile_made id first count }
     {
         if Id::MOST < id {
-            return ProfileMade::OutOfRange;
+            return None;
         }
-        if count < Self::LEAST_SAMPLES {
-            return ProfileMade::OutOfRange;
+        if count < Self::LEAST_SAMPLES || Self::MOST_SAMPLES < count {
+            return None;
         }
-        if Self::MOST_SAMPLES < count {
-            return ProfileMade::OutOfRange;
-        }
-        ProfileMade::Within(Profile { id, first, count })
+        Some(Profile { id, first, count })
     }
 }
 
@@ -270,30 +219,22 @@ pub struct Sample {
     pub kw: i32,
 }
 
-#[derive(Clone, Copy)]
-pub enum SampleMade {
-    Within(Sample),
-    OutOfRange,
-}
-
 impl Sample {
     pub const MOST: usize = 1_048_576;
 
     pub const MOST_KW: u32 = 20_000;
 
     // A magnitude and a sign; -0 is 0.
-    pub fn new(minus: bool, kw: u32) -> SampleMade
+    pub fn new(minus: bool, kw: u32) -> Option<Sample>
         ensures { result ≡ sample_made minus kw }
     {
         if Self::MOST_KW < kw {
-            return SampleMade::OutOfRange;
+            return None;
         }
         let size = kw as i32;
-        if minus {
-            let below = 0 - size;
-            return SampleMade::Within(Sample { kw: below });
-        }
-        SampleMade::Within(Sample { kw: size })
+        Some(Sample {
+            kw: if minus { -size } else { size },
+        })
     }
 }
 

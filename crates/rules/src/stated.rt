@@ -4,7 +4,7 @@ ghost use Rattle.rules.specs.Stated.{rules_by, known, known_of};
 
 use crate::answers::{File, Refusal};
 use crate::kinds::Edition;
-use crate::sizes::{Horizon, HorizonMade};
+use crate::sizes::Horizon;
 use crate::tokens::{Lists, Rules};
 
 // Each number as the caller gives it.
@@ -14,28 +14,19 @@ pub struct Stated {
     pub edition: u32,
 }
 
-// Whether all of it is known, or the first refusal.
-#[derive(Clone, Copy)]
-pub enum Known {
-    Whole,
-    Refused(Refusal),
-}
-
 impl Stated {
-    // 1 comes before 21.
-    pub fn test(self) -> Known
+    // Whether all of it is known, or the first refusal: 1 comes before 21.
+    #[tactic(auto, unfolding(crate::specs::Stated::known))]
+    pub fn test(self) -> Result<(), Refusal>
         ensures { result ≡ known_of (known self) }
     {
-        let HorizonMade::Within(_) = Horizon::new(self.horizon) else {
-            return Known::Refused(Refusal::new(Refusal::HORIZON, File::NONE, 0));
-        };
-        if self.edition == Edition::TABLE {
-            return Known::Whole;
+        if Horizon::new(self.horizon).is_none() {
+            return Err(Refusal::new(Refusal::HORIZON, File::NONE, 0));
         }
-        if self.edition == Edition::EXAMPLE {
-            return Known::Whole;
+        match self.edition {
+            Edition::TABLE | Edition::EXAMPLE => Ok(()),
+            _ => Err(Refusal::new(Refusal::UNKNOWN_EDITION, File::NONE, 0)),
         }
-        Known::Refused(Refusal::new(Refusal::UNKNOWN_EDITION, File::NONE, 0))
     }
 
     // How constraints.json is read.

@@ -3,14 +3,14 @@ use Prim.Native.Nat.{ℕ}
 use mathlib.Core.Path.{◌≡◌, refl, sym, ap, subst}
 use mathlib.Core.Bool.{Bool, true, false, not, cond, true≢false}
 use mathlib.Core.List.{List}
-use mathlib.Core.Option.{Option, none, some, get_or}
 use native.Mathlib.Omega.{arith}
 use lib.Dec.{leb, ltb, eqb}
 use lib.Bits.{bit_and}
 use lib.ListN.{length}
 use borrow.Author.Tests.{eqb-true}
 use Rattle.rules.specs.Limits.{most_id, most_seconds, most_constraints, most_subnets, most_tracks}
-use Rattle.rules.specs.Lists.{any, is_some}
+use Rattle.rules.specs.Lists.{any}
+use Rattle.std.specs.Prelude.{is_some, Option, Some, None, unwrap_or}
 use Rattle.rules.specs.Bytes.{whole_of}
 use Rattle.rules.specs.Answers.{out_of_range, too_many, already_seen, bad_json, unknown_name, repeated_or_missing, not_there, no_room, Reading, good}
 use Rattle.rules.specs.Kinds.{unknown, subnets, connection_type, subnet_id, track_ids}
@@ -24,9 +24,9 @@ use Rattle.rules_json.proofs.Same.{opening, closing, with_member, entry_with}
 use Rattle.rules_json.proofs.Turns.{leg_no_id}
 
 -- a run that says a number
-number_is : (o : Option ℕ) → is_some o ≡ true → o ≡ some (get_or o 0)
-number_is none h = absurd (true≢false (sym h))
-number_is (some n) h = refl
+number_is : (o : Option ℕ) → is_some o ≡ true → o ≡ Some (unwrap_or o 0)
+number_is None h = absurd (true≢false (sym h))
+number_is (Some n) h = refl
 
 module _ (legs : List ℕ) (constraints tracks : ℕ) (more : State → Document → Reading Document) (D : Document) where
   -- a turn after which D was read
@@ -96,7 +96,7 @@ module _ (legs : List ℕ) (constraints tracks : ℕ) (more : State → Document
         (eqb-true _ _ a.0, a.1)
 
     pub track_said : Read (track_number legs constraints tracks st d t)
-        → (whole_of t.word ≡ some (number_of t)) × (leb (number_of t) most_id ≡ true) × (more (goes AfterTrack st) (with_track (number_of t) d) ≡ good D)
+        → (whole_of t.word ≡ Some (number_of t)) × (leb (number_of t) most_id ≡ true) × (more (goes AfterTrack st) (with_track (number_of t) d) ≡ good D)
     unfolding track_number
     track_said e =
         let a = test bad_json (is_number t) _ e in
@@ -108,7 +108,7 @@ module _ (legs : List ℕ) (constraints tracks : ℕ) (more : State → Document
     -- a number under its key
     abbrev pub NumberSaid : Type 0
     NumberSaid =
-        (whole_of t.word ≡ some (number_of t))
+        (whole_of t.word ≡ Some (number_of t))
         × (in_range legs (number st.key (number_of t)) ≡ true)
         × (more (with_entry (entry_with legs (number st.key (number_of t)) st.entry) st) (with_member (number st.key (number_of t)) d) ≡ good D)
 

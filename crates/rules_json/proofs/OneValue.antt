@@ -3,7 +3,6 @@ use Prim.Native.Nat.{ℕ}
 use mathlib.Core.Path.{◌≡◌, refl, sym, ap, ap₂, ◌∙◌}
 use mathlib.Core.Bool.{true, false, true≢false}
 use mathlib.Core.List.{List, [], ◌∷◌}
-use mathlib.Core.Option.{get_or}
 use lib.Dec.{eqb}
 use lib.ListN.{drop}
 use borrow.Author.Tests.{eqb-false}
@@ -23,6 +22,7 @@ use Rattle.rules_json.proofs.Names.{list_named_lem, key_in_named, type_named_lem
 use Rattle.rules_json.proofs.Passes.{value_passes}
 use Rattle.rules_json.proofs.Text.{laid_said}
 use Rattle.rules_json.proofs.Fine.{pieces_fine}
+use Rattle.std.specs.Prelude.{unwrap_or}
 
 -- ---- the tokens say one list of pieces
 
@@ -34,7 +34,7 @@ piece_of CloseBracket word = close_bracket
 piece_of Colon word = colon
 piece_of Comma word = comma
 piece_of Quoted word = string word
-piece_of Run word = whole (get_or (whole_of word) 0)
+piece_of Run word = whole (unwrap_or (whole_of word) 0)
 piece_of End word = comma
 piece_of Unclosed word = comma
 piece_of Forbidden word = comma
@@ -48,7 +48,7 @@ says_piece close_bracket t says = ap (λ (c : Class). piece_of c t.word) says
 says_piece colon t says = ap (λ (c : Class). piece_of c t.word) says
 says_piece comma t says = ap (λ (c : Class). piece_of c t.word) says
 says_piece (string word) t says = ap₂ piece_of says.0 says.1
-says_piece (whole n) t says = ap (λ (c : Class). piece_of c t.word) says.0 ∙ ap (λ o. whole (get_or o 0)) says.1
+says_piece (whole n) t says = ap (λ (c : Class). piece_of c t.word) says.0 ∙ ap (λ o. whole (unwrap_or o 0)) says.1
 
 inner : (x : Piece) → is_end (class_of x) ≡ false
 inner open_brace = refl

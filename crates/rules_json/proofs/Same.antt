@@ -3,7 +3,6 @@ use Prim.Native.Nat.{ℕ}
 use mathlib.Core.Path.{◌≡◌}
 use mathlib.Core.Bool.{true, cond}
 use mathlib.Core.List.{List, [], ◌∷◌}
-use mathlib.Core.Option.{some}
 use lib.Dec.{eqb}
 use lib.Bits.{bit_and, bit_or}
 use Rattle.rules.specs.Bytes.{whole_of}
@@ -17,6 +16,7 @@ use Rattle.rules.specs.declared.tokens.Class.TheVariants.{OpenBrace, CloseBrace,
 use Rattle.rules_theorems.proofs.Keys.{has}
 use Rattle.rules_json.specs.Value.{Member, number, type, track_list, Listed, Value, key_of, worth, six_lists, Among, in_range}
 use Rattle.rules_json.specs.Written.{Piece, open_brace, close_brace, open_bracket, close_bracket, colon, comma, string, whole, all_keys}
+use Rattle.std.specs.Prelude.{Some}
 
 -- ---- tokens and pieces
 
@@ -28,7 +28,7 @@ Says close_bracket t = t.class ≡ CloseBracket
 Says colon t = t.class ≡ Colon
 Says comma t = t.class ≡ Comma
 Says (string word) t = (t.class ≡ Quoted) × (t.word ≡ word)
-Says (whole n) t = (t.class ≡ Run) × (whole_of t.word ≡ some n)
+Says (whole n) t = (t.class ≡ Run) × (whole_of t.word ≡ Some n)
 
 abbrev pub class_of : Piece → Class
 class_of open_brace = OpenBrace

@@ -4,7 +4,6 @@ use Prim.Native.Nat.{ℕ, zero, suc, ◌+◌, ◌≤◌}
 use mathlib.Core.Path.{◌≡◌, refl, sym, ap, subst, ◌∙◌}
 use mathlib.Core.Bool.{Bool, true, false, true≢false}
 use mathlib.Core.List.{List, [], ◌∷◌, ◌++◌, append_assoc}
-use mathlib.Core.Option.{Option, none, some}
 use native.Mathlib.Omega.{arith}
 use lib.Dec.{eqb}
 use lib.ListN.{length, drop, length-drop}
@@ -20,6 +19,7 @@ use Rattle.rules.proofs.Numbers.{spelled_whole}
 use Rattle.rules.proofs.TokenLaws.{is_end, white_next, token_next, token-sound}
 use Rattle.rules_json.specs.Written.{Piece, open_brace, close_brace, open_bracket, close_bracket, colon, comma, string, whole, bytes_of, Laid, done, white, next}
 use Rattle.rules_json.proofs.Same.{Says, Same}
+use Rattle.std.specs.Prelude.{Option, Some, None}
 
 -- ---- the bytes of a token
 
@@ -60,8 +60,8 @@ string_shown place w (c ∷ after) s e b opens =
 
 -- a sign
 abbrev SignShown : ℕ → List ℕ → Option Class → Type 0
-SignShown b s none = Unit {0}
-SignShown b s (some c) = Shown (b ∷ s) (token c [] 0 1) c
+SignShown b s None = Unit {0}
+SignShown b s (Some c) = Shown (b ∷ s) (token c [] 0 1) c
 
 sign_shown : (b : ℕ) (s : List ℕ) → SignShown b s (sign_of b)
 sign_shown b s =
@@ -83,8 +83,8 @@ token-shown place b s =
     (λ other. go (sign_of b) (sign_shown b s))
   where
     go : (o : Option Class) → SignShown b s o → Shown (b ∷ s) (sign_token place b s o) (sign_token place b s o).class
-    go none h = lead-drop in_run (b ∷ s)
-    go (some c) h = at_place c h
+    go None h = lead-drop in_run (b ∷ s)
+    go (Some c) h = at_place c h
       where
         at_place : (c : Class) → Shown (b ∷ s) (token c [] 0 1) c → Shown (b ∷ s) (token c [] place 1) c
         at_place OpenBrace h = h

@@ -4,7 +4,6 @@ use Prim.Native.Nat.{ℕ, suc, ◌+◌}
 use mathlib.Core.Path.{◌≡◌, refl, sym, ap, subst, ◌∙◌}
 use mathlib.Core.Bool.{Bool, true, false, true≢false}
 use mathlib.Core.List.{List, [], ◌∷◌, ◌++◌, append_assoc}
-use mathlib.Core.Option.{none}
 use native.Mathlib.Omega.{arith}
 use lib.Dec.{T, eqb}
 use lib.ListN.{length, drop, length-append}
@@ -20,6 +19,7 @@ use Rattle.rules.proofs.TokenLaws.{white_next, token_next, quoted-token, run-tok
 use Rattle.rules_theorems.proofs.DocumentWords.{and_first, and_second}
 use Rattle.rules_json.specs.Written.{Piece, open_brace, close_brace, open_bracket, close_bracket, colon, comma, string, whole, bytes_of, Laid, done, white, next}
 use Rattle.rules_json.proofs.Same.{Same}
+use Rattle.std.specs.Prelude.{None}
 
 -- ---- pieces that no reader can take for others: strings are clean, and no two numbers stand side by side
 
@@ -103,7 +103,7 @@ digit_black b h =
 digit_unquoted : (b : ℕ) → is_digit b ≡ true → eqb b quote ≡ false
 digit_unquoted b h = let range = digit_range b (holds (is_digit b) h) in ne_eqb b quote (omega arith)
 
-digit_unsigned : (b : ℕ) → is_digit b ≡ true → sign_of b ≡ none
+digit_unsigned : (b : ℕ) → is_digit b ≡ true → sign_of b ≡ None
 digit_unsigned b h =
     let range = digit_range b (holds (is_digit b) h) in
     rw (

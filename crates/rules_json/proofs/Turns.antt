@@ -3,14 +3,14 @@ use Prim.Native.Nat.{ℕ, ◌-◌, ◌≤◌, ◌<◌}
 use mathlib.Core.Path.{◌≡◌, refl, sym, ap, ◌∙◌}
 use mathlib.Core.Bool.{Bool, true, false, cond, ◌&&◌, ◌||◌, true≢false}
 use mathlib.Core.List.{List, [], ◌∷◌, ◌++◌}
-use mathlib.Core.Option.{some, get_or}
 use native.Mathlib.Omega.{arith}
 use lib.Dec.{leb, eqb}
 use lib.ListN.{length, length-append}
 use borrow.Author.Tests.{lt-ltb, le-leb, eq-eqb, ne_eqb, eqb-true}
 use Rattle.rules.specs.Limits.{most_id, most_seconds, most_constraints, most_subnets, most_tracks}
 use Rattle.rules.specs.Answers.{Reading}
-use Rattle.rules.specs.Lists.{any, is_some}
+use Rattle.rules.specs.Lists.{any}
+use Rattle.std.specs.Prelude.{is_some, Some, unwrap_or}
 use Rattle.rules.specs.Bytes.{whole_of}
 use Rattle.rules.specs.Kinds.{subnets, first_leg, second_leg, subnet_id}
 use Rattle.rules.specs.Tokens.{Token}
@@ -92,7 +92,7 @@ module _ (legs : List ℕ) (constraints tracks : ℕ) where
     unfolding record_ends
     record_ended e = rw (eq-eqb st.keys (keys_of st.list) e)
 
-    module _ (n : ℕ) (says : whole_of t.word ≡ some n) where
+    module _ (n : ℕ) (says : whole_of t.word ≡ Some n) where
       pub track_read : n ≤ most_id → Fits constraints tracks (with_track n d)
           → track_number legs constraints tracks st d t ≡ on (goes AfterTrack st) (with_track n d)
       unfolding track_number
@@ -108,7 +108,7 @@ module _ (legs : List ℕ) (constraints tracks : ℕ) where
           )
 
       leg-read : leb n most_id && is_some (row_of_leg legs n) ≡ true
-          → leg_value legs constraints tracks st d t ≡ on (with_entry (entered st.key (get_or (row_of_leg legs n) 0) st.entry) st) d
+          → leg_value legs constraints tracks st d t ≡ on (with_entry (entered st.key (unwrap_or (row_of_leg legs n) 0) st.entry) st) d
       unfolding leg_value
       leg-read ok = rw (says, and_first (leb n most_id) (is_some (row_of_leg legs n)) ok, and_second (leb n most_id) (is_some (row_of_leg legs n)) ok)
 

@@ -1,9 +1,8 @@
 -- A document of constraints as a plain value: its lists in any order, each record with its keys in any order; which tables it means, and when it is
 -- lawful (document 01, "constraints.json", "Sizes").
-use Rattle.std.specs.Prelude.{ℕ, ◌+◌, ◌-◌, ◌≤◌, ◌≡◌, Bool, true, false, cond, ◌&&◌, ◌||◌, List, [], ◌∷◌, ◌++◌, map, leb, eqb, length, get_or}
-use Rattle.std.proofs.Math.Option
+use Rattle.std.specs.Prelude.{ℕ, ◌+◌, ◌-◌, ◌≤◌, ◌≡◌, Bool, true, false, cond, ◌&&◌, ◌||◌, List, [], ◌∷◌, ◌++◌, map, leb, eqb, length, get_or, is_some, unwrap_or}
 use Rattle.rules.specs.Limits.{most_id, most_seconds, most_constraints, most_subnets, most_tracks}
-use Rattle.rules.specs.Lists.{any, every, flat, is_some}
+use Rattle.rules.specs.Lists.{any, every, flat}
 use Rattle.rules.specs.Kinds.{headway, single_track, dwell, turnaround, connection, subnets, first_leg, second_leg, min_headway, min_dwell, min_turnaround, min_connection, max_connection, connection_type, subnet_id, track_ids, by_arrival, by_departure, no_type}
 use Rattle.rules.specs.Constraints.{Document, document, is_low, row_of_leg}
 use Rattle.rules.specs.Verdict.{All}
@@ -39,7 +38,7 @@ is_leg key = eqb key first_leg || eqb key second_leg
 
 -- what a member puts into its constraint: of a leg the row
 abbrev pub worth : (legs : List ℕ) → Member → ℕ
-worth legs (number key n) = cond (is_leg key) (Option.get_or (row_of_leg legs n) 0) n
+worth legs (number key n) = cond (is_leg key) (unwrap_or (row_of_leg legs n) 0) n
 worth legs (type t) = t
 worth legs (track_list ids) = 0
 

@@ -1,6 +1,5 @@
 -- How a value is written: its pieces one after the other, with any white space between them (RFC 8259, narrowed by document 01).
-use Rattle.std.specs.Prelude.{ℕ, ◌-◌, ◌≤◌, ◌≡◌, true, List, [], ◌∷◌, ◌++◌, eqb, length, get_or}
-use Rattle.std.proofs.Math.Option
+use Rattle.std.specs.Prelude.{ℕ, ◌-◌, ◌≤◌, ◌≡◌, true, List, [], ◌∷◌, ◌++◌, eqb, length, get_or, unwrap_or}
 use Rattle.rules.specs.Bytes.{bytes, spelled}
 use Rattle.rules.specs.Limits.{most_text}
 use Rattle.rules.specs.Tokens.{is_white, quote}
@@ -23,7 +22,7 @@ all_keys =
     first_leg ∷ second_leg ∷ min_headway ∷ min_dwell ∷ min_turnaround ∷ min_connection ∷ max_connection ∷ connection_type ∷ subnet_id ∷ track_ids ∷ []
 
 abbrev pub key_name : (key : ℕ) → List ℕ
-key_name key = get_or key_names (Option.get_or (first_place (eqb key) all_keys) (length all_keys)) []
+key_name key = get_or key_names (unwrap_or (first_place (eqb key) all_keys) (length all_keys)) []
 
 -- in a record of a list, by an edition
 abbrev pub key_name_in : (E list : ℕ) → (key : ℕ) → List ℕ

@@ -3,13 +3,13 @@ use Prim.Native.Nat.{ℕ, zero, suc}
 use mathlib.Core.Path.{◌≡◌, refl, sym, ◌∙◌}
 use mathlib.Core.Bool.{Bool, true, false, cond, true≢false}
 use mathlib.Core.List.{List, [], ◌∷◌, ◌++◌, map}
-use mathlib.Core.Option.{Option, some}
 use lib.ListN.{get_or}
 use Rattle.rules.specs.Lists.{each, any, only, first, flat}
 use Rattle.rules.specs.Verdict.{All}
 use Rattle.rules.proofs.Truth.{by_case, all_append, missing, found_first}
 use Rattle.rules_theorems.specs.Lists.{Pairs, Along}
 use Rattle.rules_theorems.proofs.DocumentWords.{or_first, or_second}
+use Rattle.std.specs.Prelude.{Option, Some}
 
 module _ {A : Type 0} (P : A → Type 0) where
   pub all_second : (xs ys : List A) → All P (xs ++ ys) → All P ys
@@ -40,11 +40,11 @@ module _ {A : Type 0} (P : A → Type 0) where
       (λ e h. (λ t. absurd (true≢false (sym t ∙ e)), only_all p l h)) h
 
   -- the first that passes a test
-  pub first_keeps : (p : A → Bool) (l : List A) (y : A) → All P l → first p l ≡ some y → P y
+  pub first_keeps : (p : A → Bool) (l : List A) (y : A) → All P l → first p l ≡ Some y → P y
   first_keeps p [] y h e = missing y e
   first_keeps p (x ∷ l) y h e = go (p x) e (first_keeps p l y h.1)
     where
-      go : (t : Bool) → cond t (some x) (first p l) ≡ some y → (first p l ≡ some y → P y) → P y
+      go : (t : Bool) → cond t (Some x) (first p l) ≡ Some y → (first p l ≡ Some y → P y) → P y
       go true e ih = let same : x ≡ y = cc in rw (← same) h.0
       go false e ih = ih e
 
@@ -79,13 +79,13 @@ module _ {A B : Type 0} (R : A → B → Type 0) where
 
 -- each element gives its partner
 module _ {A B : Type 0} (f : A → Option B) (R : A → B → Type 0) where
-  pub along_each : ((x : A) (y : B) → R x y → f x ≡ some y) → (xs : List A) (ys : List B) → Along R xs ys → each f xs ≡ some ys
+  pub along_each : ((x : A) (y : B) → R x y → f x ≡ Some y) → (xs : List A) (ys : List B) → Along R xs ys → each f xs ≡ Some ys
   along_each g [] [] h = refl
   along_each g [] (y ∷ ys) h = absurd h
   along_each g (x ∷ xs) [] h = absurd h
   along_each g (x ∷ xs) (y ∷ ys) h = rw (g x y h.0, along_each g xs ys h.1)
 
-  pub each_along : ((x : A) (y : B) → f x ≡ some y → R x y) → (xs : List A) (ys : List B) → each f xs ≡ some ys → Along R xs ys
+  pub each_along : ((x : A) (y : B) → f x ≡ Some y → R x y) → (xs : List A) (ys : List B) → each f xs ≡ Some ys → Along R xs ys
   each_along g [] ys e = let q : [] ≡ ys = cc in rw (← q) tt
   each_along g (x ∷ xs) ys e =
       let a = found_first (f x) _ ys e in

@@ -3,7 +3,6 @@ use Prim.Native.Nat.{ℕ, ◌+◌, ◌/◌, ◌≤◌}
 use mathlib.Core.Path.{◌≡◌, refl, ap, sym, ◌∙◌}
 use mathlib.Core.Bool.{Bool, true, false, not, cond}
 use mathlib.Core.List.{List, [], ◌∷◌, ◌++◌}
-use mathlib.Core.Option.{Option, some}
 use lib.Dec.{leb, ltb, eqb}
 use lib.ListN.{length}
 use Rattle.rules.specs.Limits.{most_text, most_id, most_constraints, most_tracks, configuration_width}
@@ -29,6 +28,7 @@ use Rattle.rules_theorems.proofs.GoodText.{never_good, good_test}
 use Rattle.rules_theorems.proofs.GoodRows.{form_right, curve_right, timetable_good, solution_good, profiles_good}
 use Rattle.rules_theorems.proofs.LawfulRows.{choices_fit}
 use Rattle.rules_theorems.proofs.GoodFiles.{files_good, columns_many, choices_good, good_choices, all_good, both_good}
+use Rattle.std.specs.Prelude.{Option, Some}
 
 -- ---- CSV: two judges that take a line for the same row, where neither finds it wrong
 
@@ -63,7 +63,7 @@ module _ {A : Type 0} (file : ℕ) (one two : List A → List ℕ → Judged A)
       let short = leb (length s) most_text in
       headed_alike names (split_on line_feed s) rs qs (good_test short _ _ rs e).1 (good_test short _ _ qs k).1
 
-one_form : {A : Type 0} (o : Option A) (r q : A) → o ≡ some r → o ≡ some q → r ≡ q
+one_form : {A : Type 0} (o : Option A) (r q : A) → o ≡ Some r → o ≡ Some q → r ≡ q
 one_form o r q e k = cc
 
 timetables_alike : (H legs₁ configurations₁ legs₂ configurations₂ : ℕ) (s : List ℕ) (rs qs : List Row)

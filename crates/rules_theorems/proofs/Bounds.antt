@@ -5,7 +5,6 @@ use native.Mathlib.Nat.{le_trans, mul-le-mul_right}
 use mathlib.Core.Path.{◌≡◌, refl, sym, subst}
 use mathlib.Core.Bool.{Bool, true, false, cond}
 use mathlib.Core.List.{List, [], ◌∷◌}
-use mathlib.Core.Option.{Option}
 use lib.ListN.{length, get_or}
 use lib.IntN.{ℤ, pos, neg_ℤ, nat_abs}
 use lib.Signed.{le_z}
@@ -21,6 +20,7 @@ use Rattle.rules_theorems.proofs.Parts.{Part, above-part, below-part, size-part,
 use Rattle.rules_theorems.proofs.Order.{up, down, extreme-at}
 use Rattle.rules_theorems.proofs.Runs.{legs-sum}
 use Rattle.rules_theorems.proofs.Energies.{stands, home_sum, before-seconds, drawn-seconds}
+use Rattle.std.specs.Prelude.{Option}
 
 -- ---- the greatest numbers
 

@@ -3,7 +3,6 @@ use Prim.Native.Nat.{ℕ, suc}
 use mathlib.Core.Path.{◌≡◌, refl, ap, sym, ◌∙◌}
 use mathlib.Core.Bool.{Bool, true, false, ◌&&◌, ◌||◌, or_assoc}
 use mathlib.Core.List.{List, [], ◌∷◌, ◌++◌}
-use mathlib.Core.Option.{none}
 use lib.Dec.{T, leb, eqb}
 use lib.ListN.{length}
 use borrow.Author.Tests.{eq-eqb}
@@ -19,6 +18,7 @@ use Rattle.rules_theorems.specs.Lists.{EachAfter}
 use Rattle.rules_theorems.specs.WellFormed.{Passed, any_room, Lawful}
 use Rattle.rules_theorems.proofs.Sums.{sum_more, length_more}
 use Rattle.rules_theorems.proofs.Tables.{same_eq}
+use Rattle.std.specs.Prelude.{None}
 
 -- what every entry of a list keeps, an offered choice keeps
 pub offered_keeps : (P : Configuration → Type 0) (l : List Configuration) (c : Configuration) → T (offers l c) → All P l → P c
@@ -100,7 +100,7 @@ chosen-leg r c =
     rw (eq-eqb r.leg r.leg refl, eq-eqb r.train r.train refl, eq-eqb r.track r.track refl, eq-eqb r.start r.start refl, eq-eqb r.end r.end refl)
 
 -- their first five columns are the draft's
-pub chosen_matches : (n : ℕ) (text : List ℕ) (rows : List Row) (s : List Configuration) → Offered (offered rows) s → differs_from n text rows (chosen rows s) ≡ none
+pub chosen_matches : (n : ℕ) (text : List ℕ) (rows : List Row) (s : List Configuration) → Offered (offered rows) s → differs_from n text rows (chosen rows s) ≡ None
 chosen_matches n text [] s o = refl
 chosen_matches n text (r ∷ rows) [] o = absurd o
 chosen_matches n text (r ∷ rows) (c ∷ s) o = rw (chosen-leg r c) (chosen_matches (suc n) text rows s o.1)

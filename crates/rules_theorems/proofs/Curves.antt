@@ -4,7 +4,6 @@ use native.Mathlib.Omega.{arith}
 use mathlib.Core.Path.{◌≡◌, refl, ap₂, ◌∙◌}
 use mathlib.Core.Bool.{cond}
 use mathlib.Core.List.{List, [], ◌∷◌}
-use mathlib.Core.Option.{Option}
 use lib.ListN.{length}
 use lib.IntN.{ℤ, pos, ◌+ℤ◌, +ℤ_comm}
 use Rattle.rules.specs.declared.sizes.Configuration.{Configuration}
@@ -13,6 +12,7 @@ use Rattle.rules.specs.Energy.{is_home, leg_at, power, above, before, before_at}
 use Rattle.rules.specs.Merge.{sooner, tardier, earlier, later}
 use Rattle.rules_theorems.proofs.Parts.{interchange}
 use Rattle.rules_theorems.proofs.Merges.{picks}
+use Rattle.std.specs.Prelude.{Option}
 
 module _ (samples : ℕ → List ℤ) where
   -- at every subnet u and second t

@@ -3,7 +3,6 @@ use Prim.Native.Nat.{ℕ, ◌*◌}
 use mathlib.Core.Path.{◌≡◌, refl}
 use mathlib.Core.Bool.{Bool, true, false, ◌&&◌}
 use mathlib.Core.List.{List}
-use mathlib.Core.Option.{Option, none, some}
 use native.Mathlib.Omega.{arith}
 use lib.Dec.{leb}
 use lib.ListN.{length}
@@ -21,6 +20,7 @@ use Rattle.rules.specs.declared.answers.Violation.{Violation}
 use Rattle.rules.specs.declared.answers.Answer.TheVariants.{Accepted, Violated}
 use Rattle.rules_theorems.specs.Demands.{IsRefused, DemandOne, EmptiedCheck, EmptiedReport, EmptiedMerge}
 use Rattle.rules_theorems.proofs.OneOutcome.{one_outcome}
+use Rattle.std.specs.Prelude.{Option, Some, None}
 
 -- an accepted or violated answer is no refusal
 pub accepted_not_refused : IsRefused Accepted → ⊥
@@ -82,10 +82,10 @@ module _ (S : Stated) (x : Texts) (s : List ℕ) (t : Tables) (c : List ℕ) whe
         fitted false written b e = record { tally = refl; tables = refl; choices = refl; second = refl; text = refl; length = refl }
 
         travelled : (o : Option ℕ) (b : Both) → Emptied (merge_travel t c d text s₂ merge o b)
-        travelled none b e =
+        travelled None b e =
             let written = text_of (chosen b.files.rows (merge b.first b.second)) in
             fitted (leb (length written) (length text) && leb (length written) most_text) written b e
-        travelled (some row) b e = record { tally = refl; tables = refl; choices = refl; second = refl; text = refl; length = refl }
+        travelled (Some row) b e = record { tally = refl; tables = refl; choices = refl; second = refl; text = refl; length = refl }
 
         second : (v : Finding) (n : Tally) (b : Both) → Emptied (merge_second t c d text s₂ merge v n b)
         second accepted tally b e = travelled (unequal_from 0 b.first b.second) b e

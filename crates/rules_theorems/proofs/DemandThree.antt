@@ -3,7 +3,6 @@ use Prim.Native.Nat.{ℕ, ◌+◌, ◌*◌, ◌/◌, ◌%◌, ◌≤◌}
 use mathlib.Core.Path.{◌≡◌, refl, sym, ◌∙◌}
 use mathlib.Core.Bool.{true}
 use mathlib.Core.List.{List}
-use mathlib.Core.Option.{none}
 use lib.ListN.{length, take}
 use lib.Seq.{take-append_seam}
 use lib.IntN.{ℤ, ◌+ℤ◌}
@@ -29,6 +28,7 @@ use Rattle.rules_theorems.proofs.Verdicts.{verdict_accepted}
 use Rattle.rules_theorems.proofs.Merges.{travel_lengths, merge_verdicts, unequal_none}
 use Rattle.rules_theorems.proofs.Curves.{curves_add}
 use Rattle.rules_theorems.proofs.DemandTwo.{answer_accepted, checked-answer}
+use Rattle.std.specs.Prelude.{None}
 
 -- what is written over a buffer stands at its front
 pub over_front : {A : Type 0} (w t : List A) → take (length w) (over w t) ≡ w
@@ -41,7 +41,7 @@ over_front w t = take-append_seam w _
 module _ (S : Stated) (x : Texts) (a b : List ℕ) (t : Tables) (c d text : List ℕ) (merge : List Configuration → List Configuration → List Configuration)
     (f : Files) (s r : List Configuration) (files_read : files_of S x (rooms_of t) ≡ good f)
     (first_read : choices_read S.horizon f solution_file (length c) a ≡ good s) (second_read : choices_read S.horizon f second_file (length d) b ≡ good r)
-    (first_accepted : (verdict_of f s).finding ≡ accepted) (second_accepted : (verdict_of f r).finding ≡ accepted) (no-unequal : unequal_from 0 s r ≡ none)
+    (first_accepted : (verdict_of f s).finding ≡ accepted) (second_accepted : (verdict_of f r).finding ≡ accepted) (no-unequal : unequal_from 0 s r ≡ None)
     (merge_accepted : (verdict_of f (merge s r)).finding ≡ accepted) where
   abbrev written : List ℕ
   written = text_of (chosen f.rows (merge s r))

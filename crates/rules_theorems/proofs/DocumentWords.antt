@@ -3,12 +3,12 @@ use Prim.Native.Nat.{ℕ, suc, ◌+◌, ◌<◌}
 use mathlib.Core.Path.{◌≡◌, refl, sym, ap, ap₂, ◌∙◌}
 use mathlib.Core.Bool.{Bool, true, false, not, ◌&&◌, ◌||◌, true≢false}
 use mathlib.Core.List.{List, [], ◌∷◌}
-use mathlib.Core.Option.{some, get_or}
 use native.Mathlib.Omega.{arith}
 use lib.Dec.{eqb}
 use lib.ListN.{length}
 use borrow.Author.Tests.{eqb-true}
-use Rattle.rules.specs.Lists.{any, every, place_from, is_some}
+use Rattle.rules.specs.Lists.{any, every, place_from}
+use Rattle.std.specs.Prelude.{is_some, Some, unwrap_or}
 use Rattle.rules.proofs.Truth.{by_case}
 pub use Rattle.rules.proofs.Truth.{and_first, and_second}
 
@@ -52,8 +52,8 @@ exclude p q l all n there h k =
 -- ---- places
 
 -- a place that is found lies within the list
-pub place_within : {A : Type 0} (p : A → Bool) (l : List A) (n : ℕ) → is_some (place_from n p l) ≡ true → get_or (place_from n p l) 0 < n + length l
+pub place_within : {A : Type 0} (p : A → Bool) (l : List A) (n : ℕ) → is_some (place_from n p l) ≡ true → unwrap_or (place_from n p l) 0 < n + length l
 place_within p [] n = λ there. absurd (true≢false (sym there))
 place_within p (x ∷ l) n =
-    by_case (λ o. is_some o ≡ true → get_or o 0 < n + suc (length l)) (p x) (some n) (place_from (suc n) p l)
+    by_case (λ o. is_some o ≡ true → unwrap_or o 0 < n + suc (length l)) (p x) (Some n) (place_from (suc n) p l)
     (λ e there. omega arith) (λ e there. omega (arith, place_within p l (suc n) there))

@@ -3,14 +3,14 @@ use Prim.Native.Nat.{ℕ, ◌≤◌, ◌<◌}
 use mathlib.Core.Path.{◌≡◌, refl, sym, ap, subst, ◌∙◌}
 use mathlib.Core.Bool.{Bool, true, false, not, cond, ◌||◌, true≢false}
 use mathlib.Core.List.{List, [], ◌∷◌}
-use mathlib.Core.Option.{get_or}
 use native.Mathlib.Omega.{arith}
 use lib.Dec.{leb, ltb, eqb}
 use lib.Bits.{bit_and}
 use lib.ListN.{length}
 use borrow.Author.Tests.{eqb-true, eqb-false, leb-true, ltb-true, not-true}
 use Rattle.rules.specs.Limits.{most_text, most_id, most_seconds, most_constraints, most_subnets, most_tracks}
-use Rattle.rules.specs.Lists.{any, is_some}
+use Rattle.rules.specs.Lists.{any}
+use Rattle.std.specs.Prelude.{is_some, unwrap_or}
 use Rattle.rules.specs.Answers.{refusal, too_long, out_of_range, too_many, already_seen, bad_json, unknown_name, repeated_or_missing, not_there, no_room, constraints_file, refused, good}
 use Rattle.rules.specs.Kinds.{list_named, key_in, type_named, unknown, subnets, first_leg, second_leg, max_connection, connection_type, subnet_id, track_ids}
 use Rattle.rules.specs.Tokens.{Token, tokens_of}
@@ -184,7 +184,7 @@ module _ (legs : List ℕ) (constraints tracks : ℕ) where
           tested bad_json (is_number t) _ refl (λ number.
           tested out_of_range (leb (number_of t) most_id) _ refl (λ low.
           tested not_there (is_some (row_of_leg legs (number_of t))) _ refl (λ there.
-          stays (value_given legs constraints st.list st.key st.keys st.entry d at (get_or (row_of_leg legs (number_of t)) 0)
+          stays (value_given legs constraints st.list st.key st.keys st.entry d at (unwrap_or (row_of_leg legs (number_of t)) 0)
           (is_false (eqb st.key subnet_id) (no_leg_lem (λ k. eqb k subnet_id) refl st.key at.in_keys leg))
           (record {
             first_row_lem = λ e. row_within legs (number_of t) there;

@@ -3,7 +3,6 @@ use Prim.Native.Nat.{ℕ, suc, ◌+◌, ◌*◌}
 use mathlib.Core.Path.{◌≡◌, refl, ◌∙◌}
 use mathlib.Core.Bool.{Bool, true, false, cond}
 use mathlib.Core.List.{List}
-use mathlib.Core.Option.{Option, none, some}
 use lib.Dec.{ltb, eqb}
 use lib.IntN.{ℤ, pos}
 use Rattle.rules.specs.Limits.{quarter_seconds}
@@ -12,11 +11,12 @@ use Rattle.rules.specs.declared.sizes.Configuration.{Configuration}
 use Rattle.rules_theorems.specs.Sized.{Sized, Fits}
 use Rattle.rules_theorems.proofs.Sums.{sum_ext, sum_zero, sum_add, sum_swap, sum_once}
 use Rattle.rules_theorems.proofs.Runs.{legs-sum}
+use Rattle.std.specs.Prelude.{Option, Some, None}
 
 -- whether a leg's home is one of n subnets
 abbrev pub stands : ℕ → Option ℕ → Bool
-stands n none = false
-stands n (some u) = ltb u n
+stands n None = false
+stands n (Some u) = ltb u n
 
 module _ (samples : ℕ → List ℤ) where
   -- before recuperation: second by second, it is the sum of all positive chosen samples
@@ -47,8 +47,8 @@ module _ (samples : ℕ → List ℤ) where
   -- a leg adds to its own subnet alone
   pub home_sum : (f : ℤ → ℕ) → f (pos 0) ≡ 0 → (n : ℕ) (u : Option ℕ) (x : ℤ)
       → sum_to (λ s. f (cond (is_home samples u s) x (pos 0))) n ≡ cond (stands n u) (f x) 0
-  home_sum f z n none x = sum_zero (λ s. f (pos 0)) n (λ s k. z)
-  home_sum f z n (some u) x =
+  home_sum f z n None x = sum_zero (λ s. f (pos 0)) n (λ s k. z)
+  home_sum f z n (Some u) x =
       sum_ext (λ s. f (cond (eqb u s) x (pos 0))) (λ s. cond (eqb u s) (f x) 0) n (λ s k. inner (eqb u s)) ∙ sum_once u (f x) n
     where
       inner : (b : Bool) → f (cond b x (pos 0)) ≡ cond b (f x) 0

@@ -3,7 +3,6 @@ use Prim.Native.Nat.{ℕ, ◌≤◌, ◌<◌}
 use mathlib.Core.Path.{◌≡◌, refl, sym, ap, subst, ◌∙◌}
 use mathlib.Core.Bool.{Bool, true, false, ◌&&◌, ◌||◌, true≢false}
 use mathlib.Core.List.{List}
-use mathlib.Core.Option.{get_or}
 use mathlib.Core.Logic.{◌⊎◌, inl, inr}
 use native.Mathlib.Omega.{arith}
 use lib.Dec.{eqb, leb}
@@ -11,7 +10,8 @@ use lib.Bits.{bit_and, bit_or}
 use lib.ListN.{length}
 use borrow.Author.Tests.{eqb-true, leb-true}
 use Rattle.rules.specs.Limits.{most_seconds}
-use Rattle.rules.specs.Lists.{every, is_some}
+use Rattle.rules.specs.Lists.{every}
+use Rattle.std.specs.Prelude.{is_some, unwrap_or}
 use Rattle.rules.specs.Kinds.{headway, single_track, connection, subnets, first_leg, second_leg, max_connection, connection_type, by_arrival, by_departure, no_type}
 use Rattle.rules.specs.Constraints.{keys_of, is_low, entered, no_entry, row_of_leg}
 use Rattle.rules.specs.declared.sizes.Constraint.{Constraint}
@@ -48,7 +48,7 @@ module _ (legs : List ℕ) where
   -- ---- numbers that fit
 
   -- a leg that is there has a row
-  pub row_within : (id : ℕ) → is_some (row_of_leg legs id) ≡ true → get_or (row_of_leg legs id) 0 < length legs
+  pub row_within : (id : ℕ) → is_some (row_of_leg legs id) ≡ true → unwrap_or (row_of_leg legs id) 0 < length legs
   row_within id there = omega (arith, place_within (λ leg. eqb leg id) legs 0 there)
 
   -- a type

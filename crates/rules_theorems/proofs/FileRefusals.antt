@@ -2,11 +2,11 @@
 use Prim.Native.Nat.{ℕ, suc, ◌+◌}
 use mathlib.Core.Bool.{Bool, true, false, cond, ◌&&◌, ◌||◌}
 use mathlib.Core.List.{List, [], ◌∷◌, ◌++◌}
-use mathlib.Core.Option.{Option, none, some}
 use lib.Dec.{T, leb, eqb}
-use lib.ListN.{length, drop}
+use lib.ListN.{length}
 use Rattle.rules.specs.Limits.{least_horizon, most_horizon, most_text}
-use Rattle.rules.specs.Lists.{every, is_some, starts_with}
+use Rattle.rules.specs.Lists.{every}
+use Rattle.std.specs.Prelude.{is_some, Option, Some, None}
 use Rattle.rules.specs.Answers.{
   bad_horizon,
   too_long,
@@ -151,12 +151,12 @@ module _ {P : Refusal → Type 0} {A : Type 0} (l : Line) (allows : Allows P l) 
 -- ---- timetable, solution, profiles
 
 row_wrongs : (H : ℕ) (fits : List Row → Row → Bool) (Q : ℕ → Type 0) (before : List Row) (o : Option Row) → Q bad_row → ((r : Row) → All (λ t. Q t.number) (row_tests H fits before r)) → Wrongs Q (judge_form H fits before o)
-row_wrongs H fits Q before none form tests = form
-row_wrongs H fits Q before (some r) form tests = judged Q (row_tests H fits before r) r (tests r)
+row_wrongs H fits Q before None form tests = form
+row_wrongs H fits Q before (Some r) form tests = judged Q (row_tests H fits before r) r (tests r)
 
 curve_wrongs : (profiles samples : ℕ) (before : List Curve) (o : Option Curve) → Wrongs (In profiles_line) (Profiles.judge_form profiles samples before o)
-curve_wrongs profiles samples before none = tt
-curve_wrongs profiles samples before (some c) = judged (In profiles_line) (Profiles.row_tests profiles samples before c) c (tt, (tt, (tt, (tt, tt))))
+curve_wrongs profiles samples before None = tt
+curve_wrongs profiles samples before (Some c) = judged (In profiles_line) (Profiles.row_tests profiles samples before c) c (tt, (tt, (tt, (tt, tt))))
 
 module _ {P : Refusal → Type 0} where
   pub timetable-refuses : (H legs configurations : ℕ) (s : List ℕ) → Allows P timetable_line → Refuses P (timetable_of H legs configurations s)
@@ -192,8 +192,8 @@ module _ {P : Refusal → Type 0} where
 -- ---- 12 and 13, 15, 14
 
 abbrev Gives : (ℕ → Type 0) → Option ℕ → Type 0
-Gives Q none = Unit {0}
-Gives Q (some n) = Q n
+Gives Q None = Unit {0}
+Gives Q (Some n) = Q n
 
 profile_fault_lem : (curves : List Curve) (r : Row) → Gives (In timetable_line) (profile_fault curves r)
 profile_fault_lem curves r =
@@ -211,12 +211,12 @@ module _ {P : Refusal → Type 0} (l : Line) (allows : Allows P l) where
   passed-refuses text n test (a ∷ rows) x q = go (test a) (q a) (passed-refuses text (suc n) test rows x q)
     where
       go : (o : Option ℕ) → Gives (In l) o → Refuses P (passed l.file text (first_fault (suc n) test rows) x) → Refuses P (passed l.file text (or_else n o (first_fault (suc n) test rows)) x)
-      go none g later = later
-      go (some k) g later = refuses (allows.at_place k (place_of_row text n) g)
+      go None g later = later
+      go (Some k) g later = refuses (allows.at_place k (place_of_row text n) g)
 
   matched-refuses : (o : Option ℕ) (rows : List Row) → In l differs → Refuses P (matched l.file o rows)
-  matched-refuses none rows d = reads
-  matched-refuses (some place) rows d = refuses (allows.at_place differs place d)
+  matched-refuses None rows d = reads
+  matched-refuses (Some place) rows d = refuses (allows.at_place differs place d)
 
 -- ---- constraints.json: each action's numbers
 

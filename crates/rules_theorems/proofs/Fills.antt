@@ -4,7 +4,6 @@ use mathlib.Core.Path.{◌≡◌, refl}
 use mathlib.Core.Bool.{Bool, true, false}
 use mathlib.Core.List.{List, [], ◌∷◌}
 use mathlib.Core.Logic.{◌⊎◌, inl, inr}
-use mathlib.Core.Option.{some, get_or}
 use native.Mathlib.Omega.{arith}
 use lib.Dec.{eqb}
 use lib.ListN.{length, length-map}
@@ -36,6 +35,7 @@ use Rattle.rules_theorems.proofs.Documents.{good_is_lawful}
 use Rattle.rules_theorems.proofs.Ordered.{ordered_keeps}
 use Rattle.rules_theorems.proofs.GoodFiles.{files_good, choices_good}
 use Rattle.rules_theorems.proofs.Sized.{figures_bounded}
+use Rattle.std.specs.Prelude.{Some, unwrap_or}
 
 -- ---- timetables
 
@@ -43,10 +43,10 @@ configuration_unfilled : (H : ℕ) → H ≤ most_horizon → (c : Configuration
 configuration_unfilled H h c k = (omega (arith, k.ends), (omega (arith, k.travel_most), (omega (arith, k.profile_id), tt)))
 
 -- a place in a list is at most its length
-place_most : {A : Type 0} (p : A → Bool) (l : List A) (n : ℕ) → get_or (place_from n p l) 0 ≤ n + length l
+place_most : {A : Type 0} (p : A → Bool) (l : List A) (n : ℕ) → unwrap_or (place_from n p l) 0 ≤ n + length l
 place_most p [] n = omega arith
 place_most p (x ∷ l) n =
-    by_case (λ o. get_or o 0 ≤ n + suc (length l)) (p x) (some n) (place_from (suc n) p l) (λ e. omega arith) (λ e. omega (arith, place_most p l (suc n)))
+    by_case (λ o. unwrap_or o 0 ≤ n + suc (length l)) (p x) (Some n) (place_from (suc n) p l) (λ e. omega arith) (λ e. omega (arith, place_most p l (suc n)))
 
 legs_unfilled : (H first : ℕ) (rows : List Row) → All (KeptRow H) rows → first + listed rows ≤ most_configurations → All (λ l. Unfilled (leg_numbers l)) (legs_from first rows)
 legs_unfilled H first [] h k = tt

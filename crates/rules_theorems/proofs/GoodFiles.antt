@@ -4,13 +4,13 @@ use mathlib.Core.Path.{◌≡◌, refl, ap, sym, ◌∙◌}
 use mathlib.Core.Bool.{Bool, true, false, cond, ◌&&◌, ◌||◌, or-true}
 use mathlib.Core.List.{List, [], ◌∷◌, map}
 use mathlib.Core.Logic.{inl, inr}
-use mathlib.Core.Option.{Option, none, some}
 use native.Mathlib.Omega.{arith}
 use lib.Dec.{T, leb, eqb, leb→le, eqb→eq}
 use lib.ListN.{length, length-map}
 use borrow.Author.Tests.{le-leb, eq-eqb, eqb-true}
 use Rattle.rules.specs.Limits.{least_horizon, most_horizon, leg_width, configuration_width, profile_width, constraint_width, track_width}
-use Rattle.rules.specs.Lists.{every, is_some}
+use Rattle.rules.specs.Lists.{every}
+use Rattle.std.specs.Prelude.{is_some, Option, Some, None}
 use Rattle.rules.specs.Answers.{refusal, unknown_edition, no_file, Reading, refused, good, ◌>>=◌, not_there, wrong_samples, no_subnet, timetable_file, solution_file, second_file}
 use Rattle.rules.specs.Rows.{RowFault, or_else, first_fault, passed, place_of_row}
 use Rattle.rules.specs.Timetable.{Row, ids_of, timetable_of, solution_of}
@@ -35,13 +35,13 @@ pub good_first : {A B : Type 0} (m : Reading A) (k : A → Reading B) (y : B) �
 good_first (refused r) k y e = never_good r y e
 good_first (good x) k y e = (x, refl, e)
 
-pub passed_good : {A : Type 0} (file : ℕ) (text : List ℕ) (o : Option RowFault) (x y : A) → passed file text o x ≡ good y → o ≡ none
-passed_good file text none x y e = refl
-passed_good file text (some f) x y e = never_good _ y e
+pub passed_good : {A : Type 0} (file : ℕ) (text : List ℕ) (o : Option RowFault) (x y : A) → passed file text o x ≡ good y → o ≡ None
+passed_good file text None x y e = refl
+passed_good file text (Some f) x y e = never_good _ y e
 
-matched_good : (file : ℕ) (o : Option ℕ) (rows same : List Row) → matched file o rows ≡ good same → o ≡ none
-matched_good file none rows same e = refl
-matched_good file (some place) rows same e = never_good _ same e
+matched_good : (file : ℕ) (o : Option ℕ) (rows same : List Row) → matched file o rows ≡ good same → o ≡ None
+matched_good file None rows same e = refl
+matched_good file (Some place) rows same e = never_good _ same e
 
 -- 1 to 176,400
 pub horizon_good : (H n : ℕ) → horizon_of H ≡ good n → (least_horizon ≤ H) × (H ≤ most_horizon)
@@ -80,22 +80,22 @@ good_known S h e = rw (good_horizon S.horizon h, good_edition S.edition e)
 -- ---- no row at fault
 
 -- where the first row at fault is none, no row is
-no_fault : {A : Type 0} (fault : A → Option ℕ) (n : ℕ) (xs : List A) → first_fault n fault xs ≡ none → All (λ x. fault x ≡ none) xs
+no_fault : {A : Type 0} (fault : A → Option ℕ) (n : ℕ) (xs : List A) → first_fault n fault xs ≡ None → All (λ x. fault x ≡ None) xs
 no_fault fault n [] e = tt
 no_fault fault n (x ∷ xs) e = go (fault x) e (no_fault fault (suc n) xs)
   where
-    go : (o : Option ℕ) → or_else n o (first_fault (suc n) fault xs) ≡ none → (first_fault (suc n) fault xs ≡ none → All (λ x. fault x ≡ none) xs)
-        → (o ≡ none) × All (λ x. fault x ≡ none) xs
-    go none e ih = (refl, ih e)
-    go (some k) e ih = missing _ (sym e)
+    go : (o : Option ℕ) → or_else n o (first_fault (suc n) fault xs) ≡ None → (first_fault (suc n) fault xs ≡ None → All (λ x. fault x ≡ None) xs)
+        → (o ≡ None) × All (λ x. fault x ≡ None) xs
+    go None e ih = (refl, ih e)
+    go (Some k) e ih = missing _ (sym e)
 
 -- and the other way round
-fault_none : {A : Type 0} (fault : A → Option ℕ) (n : ℕ) (xs : List A) → All (λ x. fault x ≡ none) xs → first_fault n fault xs ≡ none
+fault_none : {A : Type 0} (fault : A → Option ℕ) (n : ℕ) (xs : List A) → All (λ x. fault x ≡ None) xs → first_fault n fault xs ≡ None
 fault_none fault n [] h = refl
 fault_none fault n (x ∷ xs) h = rw h.0 (fault_none fault (suc n) xs h.1)
 
 -- a test that gives no number holds
-test-holds : (t : Bool) (o : Option ℕ) (k : ℕ) → cond t o (some k) ≡ none → T t × (o ≡ none)
+test-holds : (t : Bool) (o : Option ℕ) (k : ℕ) → cond t o (Some k) ≡ None → T t × (o ≡ None)
 test-holds true o k e = (tt, e)
 test-holds false o k e = missing k (sym e)
 
@@ -106,18 +106,18 @@ module _ (curves : List Curve) where
   has_profile c = go (curve_of curves c.profile) refl
     where
       go : (o : Option Curve) → curve_of curves c.profile ≡ o → T (is_some o) → T (lasts c.travel o) → HasProfile curves c
-      go none e there counts = absurd there
-      go (some k) e there counts = record { curve = k; exists = e; counted = omega (arith, eqb→eq (length k.samples) c.travel counts) }
+      go None e there counts = absurd there
+      go (Some k) e there counts = record { curve = k; exists = e; counted = omega (arith, eqb→eq (length k.samples) c.travel counts) }
 
   profiles_there : (l : List Configuration) → All (λ c. T (is_some (curve_of curves c.profile))) l → All (λ c. T (lasts c.travel (curve_of curves c.profile))) l
       → All (HasProfile curves) l
   profiles_there [] there counts = tt
   profiles_there (c ∷ l) there counts = (has_profile c there.0 counts.0, profiles_there l there.1 counts.1)
 
-  row_powered : (r : Row) → profile_fault curves r ≡ none → All (HasProfile curves) r.list
+  row_powered : (r : Row) → profile_fault curves r ≡ None → All (HasProfile curves) r.list
   row_powered r e =
       let a = test-holds (every (λ c. is_some (curve_of curves c.profile)) r.list) _ not_there e in
-      let b = test-holds (every (λ c. lasts c.travel (curve_of curves c.profile)) r.list) none wrong_samples a.1 in
+      let b = test-holds (every (λ c. lasts c.travel (curve_of curves c.profile)) r.list) None wrong_samples a.1 in
       profiles_there r.list (every_all _ r.list a.0) (every_all _ r.list b.0)
 
   all_there : (l : List Configuration) → All (HasProfile curves) l → every (λ c. is_some (curve_of curves c.profile)) l ≡ true
@@ -128,20 +128,20 @@ module _ (curves : List Curve) where
   all_last [] h = refl
   all_last (c ∷ l) h = rw (h.0.exists, eq-eqb (length h.0.curve.samples) c.travel (omega (arith, h.0.counted))) (all_last l h.1)
 
-  powered_row : (r : Row) → All (HasProfile curves) r.list → profile_fault curves r ≡ none
+  powered_row : (r : Row) → All (HasProfile curves) r.list → profile_fault curves r ≡ None
   powered_row r h = rw (all_there r.list h, all_last r.list h)
 
 -- ---- 15: each row's track is in a subnet
 
 module _ (tracks : List Track) where
-  row-placed : (r : Row) → subnet_fault tracks r ≡ none → HasSubnet tracks r
+  row-placed : (r : Row) → subnet_fault tracks r ≡ None → HasSubnet tracks r
   row-placed r = go (subnet_of tracks r.track) refl
     where
-      go : (o : Option ℕ) → subnet_of tracks r.track ≡ o → cond (is_some o) none (some no_subnet) ≡ none → HasSubnet tracks r
-      go none e k = missing no_subnet (sym k)
-      go (some u) e k = record { subnet = u; inside = e }
+      go : (o : Option ℕ) → subnet_of tracks r.track ≡ o → cond (is_some o) None (Some no_subnet) ≡ None → HasSubnet tracks r
+      go None e k = missing no_subnet (sym k)
+      go (Some u) e k = record { subnet = u; inside = e }
 
-  placed_row : (r : Row) → HasSubnet tracks r → subnet_fault tracks r ≡ none
+  placed_row : (r : Row) → HasSubnet tracks r → subnet_fault tracks r ≡ None
   placed_row r h = rw h.inside
 
 -- ---- all files
@@ -162,9 +162,9 @@ files_good S x room files e =
     made : (rows : List Row) (curves : List Curve) (document : Document) → (least_horizon ≤ S.horizon) × (S.horizon ≤ most_horizon) × KnownEdition S.edition
         → timetable_of S.horizon (room.legs / leg_width) (room.configurations / configuration_width) x.timetable ≡ good rows
         → profiles_of (room.profiles / profile_width) room.samples x.profiles ≡ good curves
-        → first_fault 0 (profile_fault curves) rows ≡ none
+        → first_fault 0 (profile_fault curves) rows ≡ None
         → constraints_of (leg_ids rows) (room.constraints / constraint_width) (room.tracks / track_width) (rules_by S) x.constraints ≡ good document
-        → first_fault 0 (subnet_fault document.tracks) rows ≡ none
+        → first_fault 0 (subnet_fault document.tracks) rows ≡ None
         → ◌≡◌ {A = Reading Files} (good (record { rows = rows; curves = curves; document = document })) (good files)
         → GoodFiles ByAutomaton S x room files
     made rows curves document h t p q d s e =
@@ -175,9 +175,9 @@ files_good S x room files e =
           edition = h.2;
           timetable = (timetable_good S.horizon (room.legs / leg_width) (room.configurations / configuration_width) x.timetable rows).0 t;
           profiles = (profiles_good (room.profiles / profile_width) room.samples x.profiles curves).0 p;
-          powered = all_map (λ r. profile_fault curves r ≡ none) _ (row_powered curves) rows (no_fault (profile_fault curves) 0 rows q);
+          powered = all_map (λ r. profile_fault curves r ≡ None) _ (row_powered curves) rows (no_fault (profile_fault curves) 0 rows q);
           constraints = d;
-          placed = all_map (λ r. subnet_fault document.tracks r ≡ none) _ (row-placed document.tracks) rows (no_fault (subnet_fault document.tracks) 0 rows s);
+          placed = all_map (λ r. subnet_fault document.tracks r ≡ None) _ (row-placed document.tracks) rows (no_fault (subnet_fault document.tracks) 0 rows s);
         })
 
 -- and the other way round: such files are read
@@ -188,10 +188,10 @@ good_files S x room files g =
       good_known S g.horizon g.edition,
       (timetable_good S.horizon (room.legs / leg_width) (room.configurations / configuration_width) x.timetable files.rows).1 g.timetable,
       (profiles_good (room.profiles / profile_width) room.samples x.profiles files.curves).1 g.profiles,
-      fault_none (profile_fault files.curves) 0 files.rows (all_map _ (λ r. profile_fault files.curves r ≡ none) (powered_row files.curves) files.rows g.powered),
+      fault_none (profile_fault files.curves) 0 files.rows (all_map _ (λ r. profile_fault files.curves r ≡ None) (powered_row files.curves) files.rows g.powered),
       g.constraints,
       fault_none (subnet_fault files.document.tracks) 0 files.rows
-          (all_map (HasSubnet files.document.tracks) (λ r. subnet_fault files.document.tracks r ≡ none) (placed_row files.document.tracks) files.rows g.placed),
+          (all_map (HasSubnet files.document.tracks) (λ r. subnet_fault files.document.tracks r ≡ None) (placed_row files.document.tracks) files.rows g.placed),
     )
 
 -- whatever else says when constraints.json is read
@@ -228,18 +228,18 @@ ids-same a b e =
     let t : a.end ≡ b.end = cc in
     rw (eq-eqb a.leg b.leg p, eq-eqb a.train b.train q, eq-eqb a.track b.track r, eq-eqb a.start b.start s, eq-eqb a.end b.end t)
 
-columns-same : (n : ℕ) (text : List ℕ) (draft rows : List Row) → differs_from n text draft rows ≡ none → map ids_of rows ≡ map ids_of draft
+columns-same : (n : ℕ) (text : List ℕ) (draft rows : List Row) → differs_from n text draft rows ≡ None → map ids_of rows ≡ map ids_of draft
 columns-same n text [] [] e = refl
 columns-same n text [] (b ∷ bs) e = missing _ (sym e)
 columns-same n text (a ∷ r) [] e = missing _ (sym e)
 columns-same n text (a ∷ r) (b ∷ bs) e = go (same_leg a b) (same-ids a b) e (columns-same (suc n) text r bs)
   where
-    go : (t : Bool) → (T t → ids_of b ≡ ids_of a) → cond t (differs_from (suc n) text r bs) (some (place_of_row text n)) ≡ none
-        → (differs_from (suc n) text r bs ≡ none → map ids_of bs ≡ map ids_of r) → ids_of b ∷ map ids_of bs ≡ ids_of a ∷ map ids_of r
+    go : (t : Bool) → (T t → ids_of b ≡ ids_of a) → cond t (differs_from (suc n) text r bs) (Some (place_of_row text n)) ≡ None
+        → (differs_from (suc n) text r bs ≡ None → map ids_of bs ≡ map ids_of r) → ids_of b ∷ map ids_of bs ≡ ids_of a ∷ map ids_of r
     go true same e ih = cc (same tt, ih e)
     go false same e ih = missing _ (sym e)
 
-same-columns : (n : ℕ) (text : List ℕ) (draft rows : List Row) → map ids_of rows ≡ map ids_of draft → differs_from n text draft rows ≡ none
+same-columns : (n : ℕ) (text : List ℕ) (draft rows : List Row) → map ids_of rows ≡ map ids_of draft → differs_from n text draft rows ≡ None
 same-columns n text [] [] e = refl
 same-columns n text [] (b ∷ bs) e = let z : ◌≡◌ {A = ℕ} 0 1 = cc in absurd (omega arith)
 same-columns n text (a ∷ r) [] e = let z : ◌≡◌ {A = ℕ} 0 1 = cc in absurd (omega arith)

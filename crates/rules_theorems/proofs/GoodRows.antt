@@ -3,7 +3,6 @@ use Prim.Native.Nat.{ℕ, zero, suc, ◌-◌, ◌≤◌, ◌<◌}
 use mathlib.Core.Path.{◌≡◌, refl, ap, sym, ◌∙◌}
 use mathlib.Core.Bool.{Bool}
 use mathlib.Core.List.{List, [], ◌∷◌, ◌++◌, map}
-use mathlib.Core.Option.{Option, none, some}
 use mathlib.Core.Logic.{◌↔◌}
 use native.Mathlib.Omega.{arith}
 use lib.Dec.{T}
@@ -26,6 +25,7 @@ use Rattle.rules_theorems.proofs.Each.{each_map, each_two}
 use Rattle.rules_theorems.proofs.GoodText.{never_right, right_judged, passed_own, told_good}
 use Rattle.rules_theorems.proofs.Forms.{line_of, line_free_lem, line-contents, form_spelled, form_one}
 use Rattle.rules_theorems.proofs.Samples.{fields_read, read_fields}
+use Rattle.std.specs.Prelude.{Option, Some, None}
 
 flat_map : {A B C : Type 0} (f : B → List C) (g : A → B) (xs : List A) → flat f (map g xs) ≡ flat (λ x. f (g x)) xs
 flat_map f g [] = refl
@@ -46,20 +46,20 @@ module _ (H : ℕ) (fits : List Row → Row → Bool) where
   tests-together : (before : List Row) (r : Row) → Passed (row_tests H any_room before r) → T (fits before r) → Passed (row_tests H fits before r)
   tests-together before r h k = (h.0, (h.1.0, (h.1.1.0, (h.1.1.1.0, (k, tt)))))
 
-  pub form_right : (before : List Row) (o : Option Row) (r : Row) → judge_form H fits before o ≡ right r → (o ≡ some r) × Passed (row_tests H fits before r)
-  form_right before none r e = never_right bad_row r e
-  form_right before (some q) r e = passed_own (row_tests H fits before) q r e
+  pub form_right : (before : List Row) (o : Option Row) (r : Row) → judge_form H fits before o ≡ right r → (o ≡ Some r) × Passed (row_tests H fits before r)
+  form_right before None r e = never_right bad_row r e
+  form_right before (Some q) r e = passed_own (row_tests H fits before) q r e
 
   -- a line that is right has its row's contents, and the row passes its tests
   pub row_right : (before : List Row) (line : List ℕ) (r : Row) → row_of H fits before line ≡ right r
-      → (contents_of line ≡ some (fields_of r)) × Passed (row_tests H any_room before r) × T (fits before r)
+      → (contents_of line ≡ Some (fields_of r)) × Passed (row_tests H any_room before r) × T (fits before r)
   row_right before line r e = settle (form_right before (form_of line) r e)
     where
-      settle : (form_of line ≡ some r) × Passed (row_tests H fits before r) → (contents_of line ≡ some (fields_of r)) × Passed (row_tests H any_room before r) × T (fits before r)
+      settle : (form_of line ≡ Some r) × Passed (row_tests H fits before r) → (contents_of line ≡ Some (fields_of r)) × Passed (row_tests H any_room before r) × T (fits before r)
       settle k = let a = tests-apart before r k.1 in (form_one line r k.0, a.0, a.1)
 
   -- a row that passes its tests is read from a line with its contents
-  pub right_row : (before : List Row) (line : List ℕ) (r : Row) → contents_of line ≡ some (fields_of r) → Passed (row_tests H any_room before r) → T (fits before r)
+  pub right_row : (before : List Row) (line : List ℕ) (r : Row) → contents_of line ≡ Some (fields_of r) → Passed (row_tests H any_room before r) → T (fits before r)
       → row_of H fits before line ≡ right r
   right_row before line r e h k =
       ap (judge_form H fits before) (form_spelled line r e (offers_some r.list r.nominal h.1.1.1.0)) ∙ right_judged (row_tests H fits before r) r (tests-together before r h k)
@@ -67,7 +67,7 @@ module _ (H : ℕ) (fits : List Row → Row → Bool) where
   -- what a line that is right tells
   row_told : (before : List Row) (line : List ℕ) (r : Row)
       → (row_of H fits before (less_return line) ≡ right r) ↔ (Tells RowFields line r × (Passed (row_tests H any_room before r) × T (fits before r)))
-  row_told before line r = (there, λ t. right_row before (less_return line) r (t.0.contents ∙ ap (λ (fs : List (List ℕ)). some fs) t.0.says) t.1.0 t.1.1)
+  row_told before line r = (there, λ t. right_row before (less_return line) r (t.0.contents ∙ ap (λ (fs : List (List ℕ)). Some fs) t.0.says) t.1.0 t.1.1)
     where
       there : row_of H fits before (less_return line) ≡ right r → Tells RowFields line r × (Passed (row_tests H any_room before r) × T (fits before r))
       there e = let k = row_right before (less_return line) r e in (record { fields = fields_of r; contents = k.0; says = refl }, (k.1, k.2))
@@ -130,9 +130,9 @@ solution_good H file choices s rows = rows_good H file (solution_fits choices) s
 -- ---- profiles
 
 module _ (profiles samples : ℕ) where
-  pub curve_right : (before : List Curve) (o : Option Curve) (c : Curve) → judge_curve profiles samples before o ≡ right c → (o ≡ some c) × Passed (curve_tests profiles samples before c)
-  curve_right before none c e = never_right bad_row c e
-  curve_right before (some q) c e = passed_own (curve_tests profiles samples before) q c e
+  pub curve_right : (before : List Curve) (o : Option Curve) (c : Curve) → judge_curve profiles samples before o ≡ right c → (o ≡ Some c) × Passed (curve_tests profiles samples before c)
+  curve_right before None c e = never_right bad_row c e
+  curve_right before (Some q) c e = passed_own (curve_tests profiles samples before) q c e
 
   -- what a line that is right tells
   curve-told : (before : List Curve) (line : List ℕ) (c : Curve)

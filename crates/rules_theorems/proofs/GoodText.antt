@@ -3,7 +3,6 @@ use Prim.Native.Nat.{ℕ, ◌+◌, ◌≤◌}
 use mathlib.Core.Path.{◌≡◌, refl, ap, sym, subst, ◌∙◌}
 use mathlib.Core.Bool.{Bool, true, false, cond}
 use mathlib.Core.List.{List, [], ◌∷◌, ◌++◌, append-nil, append_assoc}
-use mathlib.Core.Option.{Option, none, some}
 use mathlib.Core.Logic.{◌↔◌}
 use native.Mathlib.Omega.{arith}
 use lib.Dec.{T, leb, leb→le}
@@ -21,6 +20,7 @@ use Rattle.rules.proofs.Lists.{all_self, all_equal}
 use Rattle.rules.proofs.Pieces.{Free, ended, split_ended, split_free, joined_split, joined_ended}
 use Rattle.rules_theorems.specs.Lists.{EachAfter, Along}
 use Rattle.rules_theorems.specs.WellFormed.{Passed, Tells, Spelled}
+use Rattle.std.specs.Prelude.{Option, Some, None}
 
 -- ---- a reading that no test refuses
 
@@ -49,11 +49,11 @@ right_judged [] x h = refl
 right_judged (t ∷ tests) x h = rw (is_true t.holds h.0) (right_judged tests x h.1)
 
 -- what was judged right has passed its own tests
-pub passed_own : {A : Type 0} (tests : A → List Test) (x y : A) → judge (tests x) x ≡ right y → (some x ≡ some y) × Passed (tests y)
+pub passed_own : {A : Type 0} (tests : A → List Test) (x y : A) → judge (tests x) x ≡ right y → (Some x ≡ Some y) × Passed (tests y)
 passed_own {A = A} tests x y e = settle (judged_right (tests x) x y e)
   where
-    settle : Passed (tests x) × (x ≡ y) → (some x ≡ some y) × Passed (tests y)
-    settle k = (ap (λ (z : A). some z) k.1, rw k.1 at k.0)
+    settle : Passed (tests x) × (x ≡ y) → (Some x ≡ Some y) × Passed (tests y)
+    settle k = (ap (λ (z : A). Some z) k.1, rw k.1 at k.0)
 
 -- ---- lines and their rows
 
@@ -161,14 +161,14 @@ module _ {A : Type 0} (file : ℕ) (row_of : List A → List ℕ → Judged A) w
 -- ---- a text by what its lines tell
 
 -- a line is a header exactly where its contents are the names
-header_names : (names : List (List ℕ)) (line : List ℕ) → T (heads names line) → contents_of (less_return line) ≡ some names
+header_names : (names : List (List ℕ)) (line : List ℕ) → T (heads names line) → contents_of (less_return line) ≡ Some names
 header_names names line = go (contents_of (less_return line)) refl
   where
-    go : (o : Option (List (List ℕ))) → contents_of (less_return line) ≡ o → T (are_names names o) → contents_of (less_return line) ≡ some names
-    go none e h = absurd h
-    go (some fields) e h = e ∙ ap (λ (fs : List (List ℕ)). some fs) (all_equal fields names (is_true (same_lists fields names) h))
+    go : (o : Option (List (List ℕ))) → contents_of (less_return line) ≡ o → T (are_names names o) → contents_of (less_return line) ≡ Some names
+    go None e h = absurd h
+    go (Some fields) e h = e ∙ ap (λ (fs : List (List ℕ)). Some fs) (all_equal fields names (is_true (same_lists fields names) h))
 
-names_header : (names : List (List ℕ)) (line : List ℕ) → contents_of (less_return line) ≡ some names → T (heads names line)
+names_header : (names : List (List ℕ)) (line : List ℕ) → contents_of (less_return line) ≡ Some names → T (heads names line)
 names_header names line e = subst (λ (o : Option (List (List ℕ))). T (are_names names o)) (sym e) (holds (same_lists names names) (all_self names))
 
 module _ {A : Type 0} (row_of : List A → List ℕ → Judged A) (Says : List (List ℕ) → A → Type 0) (Kept : List A → A → Type 0)

@@ -3,7 +3,6 @@ use Prim.Native.Nat.{ℕ, zero, suc, ◌+◌, ◌*◌, ◌-◌, ◌≤◌}
 use native.Mathlib.Omega.{arith}
 use mathlib.Core.Path.{◌≡◌, refl, subst}
 use mathlib.Core.Bool.{Bool, true, false, cond, ◌&&◌}
-use mathlib.Core.Option.{Option, none, some}
 use mathlib.Core.List.{List, [], ◌∷◌}
 use lib.Dec.{leb, eqb, ltb}
 use lib.ListN.{length, get_or, set, replicate}
@@ -16,6 +15,7 @@ use Rattle.rules.specs.declared.sizes.Configuration.{Configuration}
 use Rattle.rules_theorems.specs.Sized.{Powered}
 use Rattle.rules_theorems.specs.Laying.{add_at, laid_one, laid_run, laid_home, laid_all, Within, Rising}
 use Rattle.rules_theorems.proofs.Parts.{size-part}
+use Rattle.std.specs.Prelude.{Option, Some, None}
 
 pub zeros_within : (n : ℕ) → Within 0 (replicate n (pos 0))
 zeros_within zero i = omega arith
@@ -90,8 +90,8 @@ module _ (from size b u : ℕ) where
 module _ (from size : ℕ) (samples : ℕ → List ℤ) (n : ℕ) where
   pub home_within : (b : ℕ) (u : Option ℕ) (t : ℕ) (xs P : List ℤ) → All (λ x. nat_abs x ≤ most_kw) xs → Within b P
       → Within (b + most_kw) (laid_home from size n u t xs P)
-  home_within b none t xs P h w = λ i. omega (arith, w i)
-  home_within b (some u) t xs P h w = go (ltb u n)
+  home_within b None t xs P h w = λ i. omega (arith, w i)
+  home_within b (Some u) t xs P h w = go (ltb u n)
     where
       go : (c : Bool) → Within (b + most_kw) (cond c (laid_run from size u t xs P) P)
       go true = run_within from size b u t xs P h w

@@ -5,7 +5,6 @@ use native.Mathlib.Nat.{mul-le-mul_right, mod-lt, div-add-mod', div-lt_iff_lt-mu
 use mathlib.Core.Path.{◌≡◌, refl, sym, ap, ap₂, ◌∙◌, subst}
 use mathlib.Core.Bool.{Bool, true, false, cond, ◌&&◌, and-false}
 use mathlib.Core.List.{List, [], ◌∷◌}
-use mathlib.Core.Option.{Option, none, some}
 use lib.Dec.{leb, ltb, eqb}
 use lib.ListN.{length, get_or, drop, length-set, replicate, length-replicate, get_or-replicate}
 use lib.Seq.{get_or-set_same, get_or-set_other, ext_get_or}
@@ -18,6 +17,7 @@ use Rattle.rules_theorems.specs.Sized.{Powered, Sized}
 use Rattle.rules_theorems.specs.Laying.{add_at, in_window, laid_one, laid_run, laid_home, laid_all}
 use Rattle.rules_theorems.proofs.Runs.{run_at, leg_is-run, run-first}
 use Rattle.rules_theorems.proofs.Tabulate.{tabulate-length, tabulate-at}
+use Rattle.std.specs.Prelude.{Option, Some, None}
 
 -- ---- one number
 
@@ -144,8 +144,8 @@ module _ (from size : ℕ) where
 
   module _ (samples : ℕ → List ℤ) (n : ℕ) where
     pub home_length : (u : Option ℕ) (t : ℕ) (xs P : List ℤ) → length (laid_home from size n u t xs P) ≡ length P
-    home_length none t xs P = refl
-    home_length (some u) t xs P = go (ltb u n)
+    home_length None t xs P = refl
+    home_length (Some u) t xs P = go (ltb u n)
       where
         go : (b : Bool) → length (cond b (laid_run from size u t xs P) P) ≡ length P
         go true = run_length u t xs P
@@ -161,8 +161,8 @@ module _ (from size : ℕ) where
     leg-at : (u : Option ℕ) (c : Configuration) (P : List ℤ) (s j : ℕ) → Powered samples c → length P ≡ n * size → s < n → j < size
         → get_or (laid_home from size n u c.departure (samples c.profile) P) (s * size + j) (pos 0)
         ≡ get_or P (s * size + j) (pos 0) +ℤ cond (is_home samples u s) (leg_at samples c (from + j)) (pos 0)
-    leg-at none c P s j p l hs h = sym (+ℤ_idr (get_or P (s * size + j) (pos 0)))
-    leg-at (some u) c P s j p l hs h = go (ltb u n) refl
+    leg-at None c P s j p l hs h = sym (+ℤ_idr (get_or P (s * size + j) (pos 0)))
+    leg-at (Some u) c P s j p l hs h = go (ltb u n) refl
       where
         xs : List ℤ
         xs = samples c.profile

@@ -5,7 +5,6 @@ use mathlib.Core.Path.{◌≡◌, refl, sym, ap, ap₂}
 use mathlib.Core.Logic.{◌↔◌}
 use mathlib.Core.Bool.{Bool, true, false, cond}
 use mathlib.Core.List.{List, [], ◌∷◌}
-use mathlib.Core.Option.{none, some}
 use lib.Dec.{T, leb, eqb}
 use lib.ListN.{length}
 use borrow.Author.Tests.{leb-true, leb-false, le-leb, lt-leb, eqb-true, eqb-false}
@@ -13,12 +12,11 @@ use Rattle.rules.specs.declared.sizes.Configuration.{Configuration}
 use Rattle.rules.specs.declared.sizes.Constraint.{Constraint}
 use Rattle.rules.specs.Timetable.{offers}
 use Rattle.rules.specs.Kinds.{◌≤?◌, Rule, rules, no_rule, rule_of, departure, arrival, by_arrival, by_departure, about, connection_rule}
-use Rattle.rules.specs.declared.kinds.Time.{Time}
-use Rattle.rules.specs.declared.kinds.Time.TheVariants.{At, Unknown}
 use Rattle.rules.specs.Verdict.{no_choice, choice_at, All, Holds, Offered, Kept, Acceptable, accepted, verdict}
 use Rattle.rules.specs.Merge.{sooner, tardier, zipped, earlier, later, SameTravel, unequal_from}
 use Rattle.rules_theorems.proofs.All.{all_at}
 use Rattle.rules_theorems.proofs.Verdicts.{verdict_accepted}
+use Rattle.std.specs.Prelude.{Option, Some, None}
 
 -- ---- one leg: the two picks are the two choices, in the one order or the other
 
@@ -66,7 +64,7 @@ Crosses rule =
 connection_crosses : Crosses connection_rule
 connection_crosses low high type x₁ y₁ x₂ y₂ ex ey hx hy = go (eqb type by_arrival) (eqb type by_departure)
   where
-    go : (a d : Bool) → let x : Configuration → Time = λ c. cond a (At (arrival c)) (cond d (At (departure c)) Unknown) in
+    go : (a d : Bool) → let x : Configuration → (Option ℕ) = λ c. cond a (Some (arrival c)) (cond d (Some (departure c)) None) in
         let Both : Configuration → Configuration → Type 0 = λ u v. All Holds (about (x u) (λ t. t + low ≤? departure v) ∷ about (x u) (λ t. departure v ≤? t + high) ∷ []) in
         Both x₁ y₁ → Both x₂ y₂ → Both x₁ y₂ × Both x₂ y₁
     go true d h k = omega arith
@@ -174,16 +172,16 @@ absorption (a ∷ s) (b ∷ r) e =
 
 -- ---- 17 is given for no row exactly where the travel times are equal, leg by leg
 
-unequal_from_lem : (n : ℕ) (s r : List Configuration) → length s ≡ length r → (unequal_from n s r ≡ none) ↔ SameTravel s r
+unequal_from_lem : (n : ℕ) (s r : List Configuration) → length s ≡ length r → (unequal_from n s r ≡ None) ↔ SameTravel s r
 unequal_from_lem n [] [] e = (λ h. tt, λ h. refl)
 unequal_from_lem n [] (b ∷ r) e = absurd (omega arith)
 unequal_from_lem n (a ∷ s) [] e = absurd (omega arith)
 unequal_from_lem n (a ∷ s) (b ∷ r) e = go (unequal_from_lem (suc n) s r (omega arith)) (eqb a.travel b.travel) refl
   where
-    go : (unequal_from (suc n) s r ≡ none) ↔ SameTravel s r
-        → (c : Bool) → eqb a.travel b.travel ≡ c → (cond c (unequal_from (suc n) s r) (some n) ≡ none) ↔ ((a.travel ≡ b.travel) × SameTravel s r)
+    go : (unequal_from (suc n) s r ≡ None) ↔ SameTravel s r
+        → (c : Bool) → eqb a.travel b.travel ≡ c → (cond c (unequal_from (suc n) s r) (Some n) ≡ None) ↔ ((a.travel ≡ b.travel) × SameTravel s r)
     go ih true t = (λ h. (eqb-true a.travel b.travel t, ih.0 h), λ h. ih.1 h.1)
     go ih false t = (λ h. let z : ◌≡◌ {A = ℕ} 0 1 = cc in absurd (omega arith), λ h. absurd (eqb-false a.travel b.travel t h.0))
 
-pub unequal_none : (s r : List Configuration) → length s ≡ length r → (unequal_from 0 s r ≡ none) ↔ SameTravel s r
+pub unequal_none : (s r : List Configuration) → length s ≡ length r → (unequal_from 0 s r ≡ None) ↔ SameTravel s r
 unequal_none = unequal_from_lem 0

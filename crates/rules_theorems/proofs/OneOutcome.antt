@@ -4,7 +4,6 @@ use mathlib.Core.Path.{◌≡◌, refl}
 use mathlib.Core.Bool.{Bool, true, false, ◌&&◌}
 use mathlib.Core.List.{List}
 use mathlib.Core.Logic.{inl, inr}
-use mathlib.Core.Option.{Option, none, some}
 use lib.Dec.{leb}
 use lib.ListN.{length}
 use lib.IntN.{ℤ}
@@ -20,6 +19,7 @@ use Rattle.rules.specs.declared.sizes.Configuration.{Configuration}
 use Rattle.rules.specs.declared.answers.Answer.{Answer}
 use Rattle.rules.specs.declared.answers.Answer.TheVariants.{Accepted, Violated, Refused}
 use Rattle.rules_theorems.specs.Outcomes.{Outcome, SameTables, SameCheck, ChecksOwnInput, SameReport, ReportsOwnInput, SameMerge, MergesOwnInput}
+use Rattle.std.specs.Prelude.{Option, Some, None}
 
 pub one_outcome : (a : Answer) → Outcome a
 one_outcome Accepted = inl refl
@@ -80,8 +80,8 @@ module _ (t t' : Tables) (c c' d d' text text' : List ℕ) where
 
   module _ (e : length text ≡ length text') (s₂ : List ℕ) (merge : List Configuration → List Configuration → List Configuration) where
     merge_travel_lem : (u : Option ℕ) (b : Both) → SameMerge (merge_travel t c d text s₂ merge u b) (merge_travel t' c' d' text' s₂ merge u b)
-    merge_travel_lem (some row) b = record { answer = refl; tally = refl; length = refl }
-    merge_travel_lem none b =
+    merge_travel_lem (Some row) b = record { answer = refl; tally = refl; length = refl }
+    merge_travel_lem None b =
         let written : List ℕ = text_of (chosen b.files.rows (merge b.first b.second)) in
         rw e (merge_fitted_lem (leb (length written) (length text') && leb (length written) most_text) written b)
 

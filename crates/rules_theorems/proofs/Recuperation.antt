@@ -4,7 +4,6 @@ use native.Mathlib.Omega.{arith}
 use mathlib.Core.Path.{◌≡◌, refl, sym, ap, ◌∙◌}
 use mathlib.Core.Bool.{true, cond}
 use mathlib.Core.List.{List, [], ◌∷◌}
-use mathlib.Core.Option.{Option, none, some}
 use lib.ListN.{length}
 use lib.IntN.{ℤ, pos, ◌+ℤ◌, ◌-ℤ◌, +ℤ_assoc, +ℤ_comm}
 use borrow.Author.Tests.{lt-ltb}
@@ -17,11 +16,12 @@ use Rattle.rules_theorems.proofs.Sums.{sum_ext, sum_zero, sum_add, sum_swap}
 use Rattle.rules_theorems.proofs.Parts.{parts_add, parts_are, list_parts, add_cancel, sub_of_add}
 use Rattle.rules_theorems.proofs.Runs.{legs-sum}
 use Rattle.rules_theorems.proofs.Energies.{stands, home_sum, before-seconds, drawn-seconds}
+use Rattle.std.specs.Prelude.{Option, Some, None}
 
 module _ (samples : ℕ → List ℤ) where
   placed_stands : (n : ℕ) (u : Option ℕ) → IsPlaced n u → stands n u ≡ true
-  placed_stands n none h = absurd h
-  placed_stands n (some u) h = lt-ltb u n h
+  placed_stands n None h = absurd h
+  placed_stands n (Some u) h = lt-ltb u n h
 
   home_once : (f : ℤ → ℕ) → f (pos 0) ≡ 0 → (n : ℕ) (u : Option ℕ) (x : ℤ) → IsPlaced n u
       → sum_to (λ s. f (cond (is_home samples u s) x (pos 0))) n ≡ f x

@@ -3,7 +3,6 @@ use Prim.Native.Nat.{ℕ, ◌*◌}
 use mathlib.Core.Path.{◌≡◌}
 use mathlib.Core.Bool.{Bool, true, false, ◌&&◌, ◌||◌}
 use mathlib.Core.List.{List, ◌∷◌}
-use mathlib.Core.Option.{Option, none, some}
 use lib.Dec.{T, leb, eqb, eqb_refl}
 use lib.ListN.{length}
 use lib.IntN.{ℤ}
@@ -44,6 +43,7 @@ use Rattle.rules.specs.declared.answers.Answer.TheVariants.{Accepted, Violated, 
 use Rattle.rules.proofs.Truth.{both_and}
 use Rattle.rules_theorems.specs.Cases.{Line, among, fits, Case, start, inside, further, solution_line, room_line, travel_line, check_cases, report_cases, merge_cases}
 use Rattle.rules_theorems.proofs.FileRefusals.{Refuses, refuses, reads, Allows, then, AllowsFiles, files_refuse, choices_refuse}
+use Rattle.std.specs.Prelude.{Option, Some, None}
 
 -- ---- the answers
 
@@ -107,10 +107,10 @@ module _ (P : Refusal → Type 0) (files : AllowsFiles P) (first : Allows P (sol
     fitted_says false written b = room.at_start no_room tt
 
     travel_says : (o : Option ℕ) (b : Both) → Says P (merge_travel t c d text s₂ merge o b).answer
-    travel_says none b =
+    travel_says None b =
         let written = text_of (chosen b.files.rows (merge b.first b.second)) in
         fitted_says (leb (length written) (length text) && leb (length written) most_text) written b
-    travel_says (some row) b = travel.at_place unequal_travel (place_of_row s₂ row) tt
+    travel_says (Some row) b = travel.at_place unequal_travel (place_of_row s₂ row) tt
 
     second_says : (v : Finding) (n : Tally) (b : Both) → Says P (merge_second t c d text s₂ merge v n b).answer
     second_says accepted tally b = travel_says (unequal_from 0 b.first b.second) b

@@ -3,7 +3,6 @@ use Prim.Native.Nat.{ℕ, ◌+◌, ◌*◌, ◌-◌, ◌≤◌, ◌<◌}
 use mathlib.Core.Path.{◌≡◌, refl, ap}
 use mathlib.Core.Bool.{Bool, true, false, not, cond, ◌&&◌}
 use mathlib.Core.List.{List, [], ◌∷◌, ◌++◌}
-use mathlib.Core.Option.{Option, none, some, map}
 use mathlib.Core.Logic.{◌↔◌}
 use native.Mathlib.Omega.{arith}
 use lib.Dec.{T, leb, eqb, leb→le, T_not}
@@ -22,6 +21,7 @@ use Rattle.rules_theorems.specs.Samples.{megawatt, tenth, hundredth, Digit, Frac
 use Rattle.rules_theorems.specs.WellFormed.{CurveFields}
 use Rattle.rules_theorems.proofs.All.{along_first, along_each, each_along}
 use Rattle.rules_theorems.proofs.Forms.{pieces_some}
+use Rattle.std.specs.Prelude.{Option, Some, None, option_map}
 
 -- ---- digits
 
@@ -51,35 +51,35 @@ module _ (sep : ℕ) (no_digit : T (not (is_digit sep))) where
 
 -- ---- bytes that are a sample are read as its value
 
-fraction_read : {f : List ℕ} {k : ℕ} → Fraction f k → thousandths_of f ≡ some k
+fraction_read : {f : List ℕ} {k : ℕ} → Fraction f k → thousandths_of f ≡ Some k
 fraction_read (one {a} {n} x) =
     let e : (0 * 10 + (a - digit_zero)) * 100 ≡ n * tenth = omega arith in
-    rw (digit_true x) (ap (λ (k : ℕ). some k) e)
+    rw (digit_true x) (ap (λ (k : ℕ). Some k) e)
 fraction_read (two {a} {b} {n} {m} x y) =
     let e : ((0 * 10 + (a - digit_zero)) * 10 + (b - digit_zero)) * 10 ≡ n * tenth + m * hundredth = omega arith in
-    rw (digit_true x, digit_true y) (ap (λ (k : ℕ). some k) e)
+    rw (digit_true x, digit_true y) (ap (λ (k : ℕ). Some k) e)
 fraction_read (three {a} {b} {c} {n} {m} {k} x y z) =
     let e : (((0 * 10 + (a - digit_zero)) * 10 + (b - digit_zero)) * 10 + (c - digit_zero)) * 1 ≡ n * tenth + m * hundredth + k = omega arith in
-    rw (digit_true x, digit_true y, digit_true z) (ap (λ (k : ℕ). some k) e)
+    rw (digit_true x, digit_true y, digit_true z) (ap (λ (k : ℕ). Some k) e)
 
-size-read : {s : List ℕ} {k : ℕ} → Size s k → decimal_of (split_on point s) ≡ some k
+size-read : {s : List ℕ} {k : ℕ} → Size s k → decimal_of (split_on point s) ≡ Some k
 size-read (size n {f} x) =
     rw (split_front point (spelled n) f (spelled_free point n tt), split_alone point f (fraction_free point tt x)) (rw (whole_spelled n, fraction_read x))
 
-plain-read : (s : List ℕ) (k : ℕ) → Free minus s → decimal_of (split_on point s) ≡ some k → sample_of s ≡ some (pos k)
+plain-read : (s : List ℕ) (k : ℕ) → Free minus s → decimal_of (split_on point s) ≡ Some k → sample_of s ≡ Some (pos k)
 plain-read [] k h e = missing k e
-plain-read (b ∷ s) k h e = rw (ne_eqb b minus h.0) (ap (map pos) e)
+plain-read (b ∷ s) k h e = rw (ne_eqb b minus h.0) (ap (option_map pos) e)
 
-sample_read : {s : List ℕ} {x : ℤ} → Sample s x → sample_of s ≡ some x
+sample_read : {s : List ℕ} {x : ℤ} → Sample s x → sample_of s ≡ Some x
 sample_read (plain {s} {k} z) = plain-read s k (size_free minus tt (omega arith) z) (size-read z)
-sample_read (negative z) = ap (map (λ n. neg_ℤ (pos n))) (size-read z)
+sample_read (negative z) = ap (option_map (λ n. neg_ℤ (pos n))) (size-read z)
 
 -- ---- and bytes that are read as a value are a sample of it
 
 digits_of_lem : (a : ℕ) (s : List ℕ) → T (every is_digit (a ∷ s)) → Digit a (a - digit_zero) × T (every is_digit s)
 digits_of_lem a s h = let k = and_both (is_digit a) (every is_digit s) h in (true_digit a k.0, k.1)
 
-read_fraction : (f : List ℕ) (k : ℕ) → thousandths_of f ≡ some k → Fraction f k
+read_fraction : (f : List ℕ) (k : ℕ) → thousandths_of f ≡ Some k → Fraction f k
 read_fraction [] k e = missing k e
 read_fraction (a ∷ []) k e =
     let t = under-test (every is_digit (a ∷ [])) _ k e in
@@ -105,7 +105,7 @@ read_fraction (a ∷ b ∷ c ∷ d ∷ f) k e =
     let few = and_both (leb (length s) 3) (every is_digit s) (and_both (leb 1 (length s)) _ t.0).1 in
     absurd (omega (arith, leb→le (length s) 3 few.0))
 
-read-pieces : (ps : List (List ℕ)) (k : ℕ) → decimal_of ps ≡ some k → Size (joined point ps) k
+read-pieces : (ps : List (List ℕ)) (k : ℕ) → decimal_of ps ≡ Some k → Size (joined point ps) k
 read-pieces [] k e = missing k e
 read-pieces (w ∷ []) k e = missing k e
 read-pieces (w ∷ f ∷ []) k e =
@@ -113,25 +113,25 @@ read-pieces (w ∷ f ∷ []) k e =
     let b = found_first (thousandths_of f) _ k a.2 in
     made a.0 b.0 a.1 b.1 b.2
   where
-    made : (n m : ℕ) → whole_of w ≡ some n → thousandths_of f ≡ some m → some (n * 1_000 + m) ≡ some k → Size (w ++ point ∷ f) k
+    made : (n m : ℕ) → whole_of w ≡ Some n → thousandths_of f ≡ Some m → Some (n * 1_000 + m) ≡ Some k → Size (w ++ point ∷ f) k
     made n m p q e =
         let r : n * megawatt + m ≡ k = cc in
         rw (← spelled_whole w n p, ← r) (size n (read_fraction f m q))
 read-pieces (w ∷ f ∷ g ∷ more) k e = missing k e
 
-read-size : (s : List ℕ) (k : ℕ) → decimal_of (split_on point s) ≡ some k → Size s k
+read-size : (s : List ℕ) (k : ℕ) → decimal_of (split_on point s) ≡ Some k → Size s k
 read-size s k e = rw (joined_split point s) at (read-pieces (split_on point s) k e)
 
-mapped : {A B : Type 0} (f : A → B) (o : Option A) (y : B) → map f o ≡ some y → (x : A) × (o ≡ some x) × (f x ≡ y)
-mapped f none y e = missing y e
-mapped f (some x) y e = (x, refl, cc)
+mapped : {A B : Type 0} (f : A → B) (o : Option A) (y : B) → option_map f o ≡ Some y → (x : A) × (o ≡ Some x) × (f x ≡ y)
+mapped f None y e = missing y e
+mapped f (Some x) y e = (x, refl, cc)
 
-read_sample : (s : List ℕ) (x : ℤ) → sample_of s ≡ some x → Sample s x
+read_sample : (s : List ℕ) (x : ℤ) → sample_of s ≡ Some x → Sample s x
 read_sample [] x e = missing x e
 read_sample (b ∷ s) x e = go (eqb b minus) refl e
   where
     go : (t : Bool) → eqb b minus ≡ t
-        → cond t (map (λ n. neg_ℤ (pos n)) (decimal_of (split_on point s))) (map pos (decimal_of (split_on point (b ∷ s)))) ≡ some x
+        → cond t (option_map (λ n. neg_ℤ (pos n)) (decimal_of (split_on point s))) (option_map pos (decimal_of (split_on point (b ∷ s)))) ≡ Some x
         → Sample (b ∷ s) x
     go true q e =
         let k = mapped (λ n. neg_ℤ (pos n)) (decimal_of (split_on point s)) x e in
@@ -141,22 +141,22 @@ read_sample (b ∷ s) x e = go (eqb b minus) refl e
         rw (← k.2) (plain (read-size (b ∷ s) k.0 k.1))
 
 -- bytes are read as a value exactly where they are a sample of it
-pub sample_good : (s : List ℕ) (x : ℤ) → (sample_of s ≡ some x) ↔ Sample s x
+pub sample_good : (s : List ℕ) (x : ℤ) → (sample_of s ≡ Some x) ↔ Sample s x
 sample_good s x = (read_sample s x, sample_read)
 
 -- ---- a profile's list, and the fields of its row
 
-samples_read : (words : List (List ℕ)) (xs : List ℤ) → Along Sample words xs → 0 < length xs → samples_of (joined space words) ≡ some xs
+samples_read : (words : List (List ℕ)) (xs : List ℤ) → Along Sample words xs → 0 < length xs → samples_of (joined space words) ≡ Some xs
 samples_read [] [] h l = absurd (omega arith)
 samples_read [] (x ∷ xs) h l = absurd h
 samples_read (w ∷ words) xs h l =
     rw (split_joined space w words (along_first Sample (Free space) (λ s x. sample_free space tt (omega arith) (omega arith)) (w ∷ words) xs h))
     (along_each sample_of Sample (λ s x. sample_read) (w ∷ words) xs h)
 
-pub fields_read : (fields : List (List ℕ)) (c : Curve) → CurveFields fields c → least_sampled ≤ length c.samples → two_of fields ≡ some c
+pub fields_read : (fields : List (List ℕ)) (c : Curve) → CurveFields fields c → least_sampled ≤ length c.samples → two_of fields ≡ Some c
 fields_read fields c f l = rw f.are (rw (whole_spelled c.id, samples_read f.words c.samples f.samples l))
 
-pub read_fields : (fields : List (List ℕ)) (c : Curve) → two_of fields ≡ some c → CurveFields fields c × (least_sampled ≤ length c.samples)
+pub read_fields : (fields : List (List ℕ)) (c : Curve) → two_of fields ≡ Some c → CurveFields fields c × (least_sampled ≤ length c.samples)
 read_fields [] c e = missing c e
 read_fields (i ∷ []) c e = missing c e
 read_fields (i ∷ l ∷ []) c e =
@@ -164,7 +164,7 @@ read_fields (i ∷ l ∷ []) c e =
     let b = found_first (samples_of l) _ c a.2 in
     made a.0 b.0 a.1 b.1 b.2
   where
-    made : (id : ℕ) (xs : List ℤ) → whole_of i ≡ some id → samples_of l ≡ some xs → ◌≡◌ {A = Option Curve} (some (record { id = id; samples = xs })) (some c)
+    made : (id : ℕ) (xs : List ℤ) → whole_of i ≡ Some id → samples_of l ≡ Some xs → ◌≡◌ {A = Option Curve} (Some (record { id = id; samples = xs })) (Some c)
         → CurveFields (i ∷ l ∷ []) c × (least_sampled ≤ length c.samples)
     made id xs p q e =
         let k : record { id = id; samples = xs } ≡ c = cc in

@@ -3,12 +3,11 @@ use Prim.Native.Nat.{ℕ, ◌+◌, ◌*◌, ◌/◌, ◌%◌, ◌≤◌}
 use mathlib.Core.Path.{◌≡◌, refl, ◌∙◌}
 use mathlib.Core.Bool.{Bool, true, false, cond}
 use mathlib.Core.List.{List, [], ◌∷◌}
-use mathlib.Core.Option.{some}
 use native.Mathlib.Omega.{arith}
 use lib.Dec.{T, leb, eqb}
 use lib.ListN.{length, length-map}
 use lib.IntN.{ℤ, nat_abs}
-use Rattle.rules.specs.Lists.{is_some}
+use Rattle.std.specs.Prelude.{is_some, Some}
 use Rattle.rules.specs.Answers.{Reading, refused, good}
 use Rattle.rules.specs.Timetable.{Row}
 use Rattle.rules.specs.Profiles.{Curve}
@@ -60,8 +59,8 @@ track_placed : (n : ℕ) (ts : List Track) (track : ℕ) → All (LawfulTrack n)
 track_placed n [] track h there = absurd there
 track_placed n (t ∷ ts) track h there = go (eqb t.id track) there (track_placed n ts track h.1)
   where
-    go : (b : Bool) → T (is_some (cond b (some t.subnet) (subnet_of ts track))) → (T (is_some (subnet_of ts track)) → IsPlaced n (subnet_of ts track))
-        → IsPlaced n (cond b (some t.subnet) (subnet_of ts track))
+    go : (b : Bool) → T (is_some (cond b (Some t.subnet) (subnet_of ts track))) → (T (is_some (subnet_of ts track)) → IsPlaced n (subnet_of ts track))
+        → IsPlaced n (cond b (Some t.subnet) (subnet_of ts track))
     go true there ih = h.0.subnet_is_there
     go false there ih = ih there
 

@@ -3,7 +3,6 @@ use Prim.Native.Nat.{ℕ, suc, ◌+◌, ◌<◌}
 use mathlib.Core.Path.{◌≡◌, refl, ap, sym, ◌∙◌}
 use mathlib.Core.Bool.{Bool, true, false, cond, ◌&&◌, ◌||◌}
 use mathlib.Core.List.{List, [], ◌∷◌, ◌++◌, map, append_assoc}
-use mathlib.Core.Option.{some}
 use native.Mathlib.Omega.{arith}
 use native.Mathlib.Nat.{add-zero, zero-add}
 use lib.Dec.{T, eqb, eqb→eq}
@@ -16,6 +15,7 @@ use Rattle.rules.specs.declared.sizes.Configuration.{Configuration}
 use Rattle.rules.proofs.Truth.{and_both, all_map}
 use Rattle.rules_theorems.specs.WellFormed.{Lawful, KeptRow, row_of_leg, rows_of, WellFormed}
 use Rattle.rules_theorems.proofs.LawfulRows.{rows_kept}
+use Rattle.std.specs.Prelude.{Some}
 
 -- ---- the same configuration
 
@@ -32,23 +32,23 @@ same_eq a b h =
 
 -- a test that some element passes: its first place has an element that passes
 pub place_found : {A : Type 0} (d : A) (n : ℕ) (p : A → Bool) (xs : List A) → T (any p xs)
-    → (i : ℕ) × (place_from n p xs ≡ some (n + i)) × (i < length xs) × T (p (get_or xs i d))
+    → (i : ℕ) × (place_from n p xs ≡ Some (n + i)) × (i < length xs) × T (p (get_or xs i d))
 place_found d n p [] h = absurd h
 place_found {A = A} d n p (x ∷ xs) h = go (p x) refl h (place_found d (suc n) p xs)
   where
-    go : (t : Bool) → p x ≡ t → T (t || any p xs) → (T (any p xs) → (i : ℕ) × (place_from (suc n) p xs ≡ some (suc n + i)) × (i < length xs) × T (p (get_or xs i d)))
-        → (i : ℕ) × (cond t (some n) (place_from (suc n) p xs) ≡ some (n + i)) × (i < suc (length xs)) × T (p (get_or (x ∷ xs) i d))
+    go : (t : Bool) → p x ≡ t → T (t || any p xs) → (T (any p xs) → (i : ℕ) × (place_from (suc n) p xs ≡ Some (suc n + i)) × (i < length xs) × T (p (get_or xs i d)))
+        → (i : ℕ) × (cond t (Some n) (place_from (suc n) p xs) ≡ Some (n + i)) × (i < suc (length xs)) × T (p (get_or (x ∷ xs) i d))
     go true e h ih = (0, rw add-zero, omega arith, rw e tt)
     go false e h ih =
         let k = ih h in
         let q : suc n + k.0 ≡ n + suc k.0 = omega arith in
-        (suc k.0, k.1 ∙ ap (λ (m : ℕ). some m) q, omega (arith, k.2), k.3)
+        (suc k.0, k.1 ∙ ap (λ (m : ℕ). Some m) q, omega (arith, k.2), k.3)
 
 -- a nominal that is listed stands at its place
 pub nominal_there : (r : Row) → T (offers r.list r.nominal) → get_or r.list (nominal_place r) no_choice ≡ r.nominal
 nominal_there r h = settle (place_found no_choice 0 (same r.nominal) r.list h)
   where
-    settle : (i : ℕ) × (first_place (same r.nominal) r.list ≡ some (0 + i)) × (i < length r.list) × T (same r.nominal (get_or r.list i no_choice))
+    settle : (i : ℕ) × (first_place (same r.nominal) r.list ≡ Some (0 + i)) × (i < length r.list) × T (same r.nominal (get_or r.list i no_choice))
         → get_or r.list (nominal_place r) no_choice ≡ r.nominal
     settle k = rw (k.1, zero-add k.0) (sym (same_eq r.nominal (get_or r.list k.0 no_choice) k.3))
 

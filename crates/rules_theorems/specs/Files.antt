@@ -1,6 +1,5 @@
 -- What is stated and the texts must be, to be read without refusal (document 01, "Refusal numbers": 1 to 16; document 02: 21).
-use Rattle.std.specs.Prelude.{ℕ, ◌/◌, ◌≤◌, ◌≡◌, List, map, ◌⊎◌, length}
-use Rattle.std.proofs.Math.Option.{some}
+use Rattle.std.specs.Prelude.{ℕ, ◌/◌, ◌≤◌, ◌≡◌, List, map, ◌⊎◌, length, Some}
 use Rattle.rules.specs.Limits.{least_horizon, most_horizon, leg_width, configuration_width, profile_width, constraint_width, track_width}
 use Rattle.rules.specs.Answers.{good}
 use Rattle.rules.specs.Kinds.{table_edition, example_edition}
@@ -18,13 +17,13 @@ use Rattle.rules_theorems.specs.WellFormed.{Written, WrittenCurves}
 -- not 12, not 13: the profile exists, and its sample count is t
 pub record HasProfile (curves : List Curve) (c : Configuration) : Type 0 where
   pub curve : Curve
-  pub exists : curve_of curves c.profile ≡ some curve
+  pub exists : curve_of curves c.profile ≡ Some curve
   pub counted : length curve.samples ≡ c.travel
 
 -- not 15: the leg's track is in a subnet
 pub record HasSubnet (tracks : List Track) (r : Row) : Type 0 where
   pub subnet : ℕ
-  pub inside : subnet_of tracks r.track ≡ some subnet
+  pub inside : subnet_of tracks r.track ≡ Some subnet
 
 -- not 21
 abbrev pub KnownEdition : ℕ → Type 0

@@ -1,6 +1,5 @@
 -- How the curve table is made in place, over the seconds from .. from + size - 1: leg after leg, each sample whose second lies in the window is added.
-use Rattle.std.specs.Prelude.{ℕ, suc, ◌+◌, ◌*◌, ◌-◌, ◌≤◌, Bool, cond, ◌&&◌, List, [], ◌∷◌, leb, ltb, get_or, set, ℤ, pos, ◌+ℤ◌, nat_abs}
-use Rattle.std.proofs.Math.Option.{Option, none, some}
+use Rattle.std.specs.Prelude.{ℕ, suc, ◌+◌, ◌*◌, ◌-◌, ◌≤◌, Bool, cond, ◌&&◌, List, [], ◌∷◌, leb, ltb, get_or, set, ℤ, pos, ◌+ℤ◌, nat_abs, Option, Some, None}
 use Rattle.rules.specs.Limits.{most_kw}
 use Rattle.rules.specs.declared.sizes.Configuration.{Configuration}
 
@@ -22,8 +21,8 @@ module _ (from size : ℕ) where
 
   -- a run whose home is none of the n subnets adds nothing
   abbrev pub laid_home : (n : ℕ) → Option ℕ → (t : ℕ) → List ℤ → List ℤ → List ℤ
-  laid_home n none t xs P = P
-  laid_home n (some u) t xs P = cond (ltb u n) (laid_run u t xs P) P
+  laid_home n None t xs P = P
+  laid_home n (Some u) t xs P = cond (ltb u n) (laid_run u t xs P) P
 
   abbrev pub laid_all : (ℕ → List ℤ) → (n : ℕ) → List (Option ℕ) → List Configuration → List ℤ → List ℤ
   laid_all samples n [] cs P = P

@@ -1,6 +1,5 @@
 -- What a good reading gives of the choices of an accepted solution, and the sizes that follow from document 01's limits.
-use Rattle.std.specs.Prelude.{ℕ, ◌+◌, ◌*◌, ◌≤◌, ◌<◌, ◌≡◌, List, [], ◌∷◌, length, ℤ, pos, ◌+ℤ◌, nat_abs}
-use Rattle.std.proofs.Math.Option.{Option, none, some}
+use Rattle.std.specs.Prelude.{ℕ, ◌+◌, ◌*◌, ◌≤◌, ◌<◌, ◌≡◌, List, [], ◌∷◌, length, ℤ, pos, ◌+ℤ◌, nat_abs, Option, Some, None}
 use Rattle.rules.specs.Limits.{least_horizon, most_horizon, quarter_seconds, most_quarters, most_legs, most_travel, most_kw, most_kj}
 use Rattle.rules.specs.Lists.{sum_of}
 use Rattle.rules.specs.Reading.{Files}
@@ -29,8 +28,8 @@ Fits H cs = All (λ c. c.departure + c.travel ≤ H) cs
 
 -- each leg's track is in one of n subnets
 abbrev pub IsPlaced : ℕ → Option ℕ → Type 0
-IsPlaced n none = ⊥
-IsPlaced n (some u) = u < n
+IsPlaced n None = ⊥
+IsPlaced n (Some u) = u < n
 
 abbrev pub Placed : ℕ → List (Option ℕ) → List Configuration → Type 0
 Placed n homes cs = (length homes ≡ length cs) × All (IsPlaced n) homes

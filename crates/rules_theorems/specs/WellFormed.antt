@@ -1,6 +1,5 @@
 -- What the rows of a timetable and the profiles keep, and which texts write them; the rows that tables say, and tables that are those of lawful rows.
-use Rattle.std.specs.Prelude.{ℕ, ◌+◌, ◌≤◌, ◌≡◌, Bool, true, List, [], ◌∷◌, ◌++◌, map, T, length, get_or, take, drop, nat_abs}
-use Rattle.std.proofs.Math.Option.{some}
+use Rattle.std.specs.Prelude.{ℕ, ◌+◌, ◌≤◌, ◌≡◌, Bool, true, List, [], ◌∷◌, ◌++◌, map, T, length, get_or, take, drop, nat_abs, Some}
 use Rattle.rules.specs.Limits.{most_text, most_id, least_travel, most_travel, least_listed, most_listed, least_sampled, most_sampled, most_kw}
 use Rattle.rules.specs.Answers.{Test}
 use Rattle.rules.specs.Lists.{flat}
@@ -22,7 +21,7 @@ Passed tests = All (λ t. T t.holds) tests
 -- a line, less its CR, whose fields' contents say what a row is
 pub record Tells {A : Type 0} (Says : List (List ℕ) → A → Type 0) (line : List ℕ) (r : A) : Type 0 where
   pub fields : List (List ℕ)
-  pub contents : contents_of (less_return line) ≡ some fields
+  pub contents : contents_of (less_return line) ≡ Some fields
   pub says : Says fields r
 
 -- a text whose first line holds the names, and whose further lines tell the rows, in quotes or not, with a CR or not; each line has its LF
@@ -31,7 +30,7 @@ pub record Spelled {A : Type 0} (names : List (List ℕ)) (Says : List (List ℕ
   pub lines : List (List ℕ)
   pub text : s ≡ flat (λ line. line ++ line_feed ∷ []) (first ∷ lines)
   pub free : All (All (λ b. b ≡ line_feed → ⊥)) (first ∷ lines)
-  pub named : contents_of (less_return first) ≡ some names
+  pub named : contents_of (less_return first) ≡ Some names
   pub told : Along (Tells Says) lines rows
 
 -- ---- rows of a timetable

@@ -5,7 +5,6 @@ use native.Mathlib.Nat.{mod-lt, div-add-mod', mul_right_comm, mul-add-div_right,
 use mathlib.Core.Path.{◌≡◌, refl, ap, sym, ◌∙◌}
 use mathlib.Core.Bool.{Bool, true, false}
 use mathlib.Core.List.{List, [], ◌∷◌, ◌++◌}
-use mathlib.Core.Option.{some}
 use lib.Dec.{ltb}
 use borrow.Author.Tests.{ltb-true, ltb-false, lt-ltb, le-leb}
 use Rattle.rules.specs.Bytes.{digit_zero, digit_nine, is_digit, point, split_on, spelled, thousandths_of, decimal_of}
@@ -14,6 +13,7 @@ use Rattle.rules.proofs.Numbers.{spelled_digit, spelled_free, whole_spelled}
 use Rattle.say_words.specs.Numbers.{three_digits}
 use Rattle.say_words.specs.Energies.{decimals_of}
 use Rattle.say_words.proofs.Spellings.{last_digit}
+use Rattle.std.specs.Prelude.{Some}
 
 -- ---- three digits
 
@@ -52,10 +52,10 @@ three_are n h = go (ltb n 10) (ltb n 100) refl refl
 digit_is : (n : ℕ) → n < 10 → is_digit (digit_zero + n) ≡ true
 digit_is n h = rw (le-leb digit_zero (digit_zero + n) (omega arith), le-leb (digit_zero + n) digit_nine (omega arith))
 
-thousandths_read : (n : ℕ) → n < 1_000 → thousandths_of (three_digits n) ≡ some n
+thousandths_read : (n : ℕ) → n < 1_000 → thousandths_of (three_digits n) ≡ Some n
 thousandths_read n h =
     rw (three_are n h, digit_is (n / 100) (omega arith), digit_is (n / 10 % 10) (omega arith), digit_is (n % 10) (omega arith))
-    (ap (λ (m : ℕ). some m) (omega arith))
+    (ap (λ (m : ℕ). Some m) (omega arith))
 
 digits_free : (n : ℕ) → n < 1_000 → Free point (three_digits n)
 digits_free n h = rw (three_are n h) (λ e. omega arith, (λ e. omega arith, (λ e. omega arith, tt)))
@@ -72,10 +72,10 @@ whole_and_rest unit n h =
     sym (mul-add-div_right {m = unit} h (n / unit * 1_000) (n % unit * 1_000)) ∙ ap (λ (m : ℕ). m / unit) parts
 
 -- what is shown reads back as the whole thousandths of a unit
-pub decimals_read : (unit n : ℕ) → 0 < unit → decimal_of (split_on point (decimals_of unit n)) ≡ some (n * 1_000 / unit)
+pub decimals_read : (unit n : ℕ) → 0 < unit → decimal_of (split_on point (decimals_of unit n)) ≡ Some (n * 1_000 / unit)
 unfolding decimals_of
 decimals_read unit n h =
     let rest : ℕ = n % unit * 1_000 / unit in
     let k : rest < 1_000 = below_thousand unit n h in
     rw (split_front point (spelled (n / unit)) (three_digits rest) (spelled_free point (n / unit) tt), split_alone point (three_digits rest) (digits_free rest k))
-    (rw (whole_spelled (n / unit), thousandths_read rest k) (ap (λ (m : ℕ). some m) (whole_and_rest unit n h)))
+    (rw (whole_spelled (n / unit), thousandths_read rest k) (ap (λ (m : ℕ). Some m) (whole_and_rest unit n h)))

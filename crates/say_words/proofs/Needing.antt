@@ -6,12 +6,11 @@ use mathlib.Core.Logic.{◌⊎◌, inl, inr}
 use lib.ListN.{get_or}
 use borrow.Author.Tests.{eq-eqb, ne_eqb}
 use Rattle.rules.specs.Kinds.{Inequality, ◌≤?◌, headway, connection, by_arrival, by_departure, departure, arrival, anchored, about, rule_of}
-use Rattle.rules.specs.declared.kinds.Time.{Time}
-use Rattle.rules.specs.declared.kinds.Time.TheVariants.{At}
 use Rattle.rules.specs.declared.sizes.Configuration.{Configuration}
 use Rattle.say_words.specs.Needs.{needed_of}
 use Rattle.say_words.specs.declared.needs.Bound.{Bound}
 use Rattle.say_words.specs.declared.needs.Bound.TheVariants.{DepartsFrom, ArrivesFrom, DepartsBy}
+use Rattle.std.specs.Prelude.{Option, Some}
 
 module _ (kind i short : ℕ) (two : Configuration) where
   pub departs_later : (i ≡ 2 → ⊥) → DepartsFrom (two.departure + short) ≡ needed_of kind i short two
@@ -44,14 +43,14 @@ module _ (low high type : ℕ) (one two : Configuration) where
   inequality_after kind j = get_or (rule_of kind low high type one two) j (0 ≤? 0)
 
   -- the two of a connection, whose x is the arrival or the departure
-  abbrev ConnectionAsks : (by : Time) → Type 0
+  abbrev ConnectionAsks : (by : Option ℕ) → Type 0
   ConnectionAsks by =
       let first : Inequality = about by (λ x. x + low ≤? departure two) in
       let second : Inequality = about by (λ x. departure two ≤? x + high) in
       (first.right < first.left → Asked first two (needed_of connection 1 (first.left - first.right) two))
       × (second.right < second.left → Asked second two (needed_of connection 2 (second.left - second.right) two))
 
-  connection-asks : (t : ℕ) → ConnectionAsks (At t)
+  connection-asks : (t : ℕ) → ConnectionAsks (Some t)
   unfolding needed_of
   connection-asks t = (λ h. record { own = refl; needed = omega arith }, λ h. record { own = refl; needed = omega arith })
 

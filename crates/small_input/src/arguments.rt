@@ -5,7 +5,7 @@ use rules::sizes::Id;
 use std::env::FillError;
 use std::rt::Env;
 use text_read::numbers;
-use text_read::numbers::Whole;
+use text_read::numbers::Unread;
 
 // No word or number that means something is longer.
 const WORD: usize = 32;
@@ -38,8 +38,8 @@ pub fn number(rt: &impl Env, at: usize) -> Option<u32> {
     let mut word = [0u8; WORD];
     let length = read(rt, at, &mut word);
     match numbers::read_whole(&word[..length]) {
-        Whole::Number(n) => Some(n),
-        Whole::Beyond => Some(Id::MOST + 1),
-        Whole::Malformed => None,
+        Ok(n) => Some(n),
+        Err(Unread::Beyond) => Some(Id::MOST + 1),
+        Err(Unread::Malformed) => None,
     }
 }

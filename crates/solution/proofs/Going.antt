@@ -8,7 +8,7 @@ use lib.Dec.{ltb}
 use lib.ListN.{length, get_or, take, drop, drop_of_length-le, length-drop, length-take}
 use lib.Seq.{drop-cons}
 use borrow.Author.Tests.{ltb-true, eqb-true}
-use Rattle.std.specs.Prelude.{Option as Maybe, Some, None, Result, Err}
+use Rattle.std.specs.Prelude.{Option, Some, None, Result, Err}
 use Rattle.std.specs.Option.{is_some}
 use Rattle.rules.specs.Limits.{leg_width, configuration_width}
 use Rattle.rules.specs.Lists.{flat, over}
@@ -25,7 +25,7 @@ use Rattle.text_read.proofs.Laws.{pieces_next, pieces-last}
 use Rattle.timetable_row.specs.declared.line.Line.{Line}
 use Rattle.timetable.specs.Text.{first_line}
 use Rattle.timetable.proofs.Words.{length_snoc}
-use Rattle.timetable_row.specs.declared.fault.Fault.{Fault}
+use Rattle.rules.specs.declared.answers.Fault.{Fault}
 use Rattle.timetable_row.specs.Faults.{fault_at}
 use Rattle.solution_row.specs.Tests.{Earlier}
 use Rattle.solution_row.specs.Against.{none_differs, next_id, is_known, compared_with, compared_answer}
@@ -48,7 +48,7 @@ abbrev judge_of : (H : ℕ) (lent : List ℕ) → List Row → List ℕ → Judg
 judge_of H lent = row_of H (solution_fits (length lent / configuration_width))
 
 -- the rows before; what is left of the text gives the rest of the reading, of the places and of the comparison
-pub record Going (H : ℕ) (text legs : List ℕ) (n from : ℕ) (lent : List ℕ) (line : Line) (compared : Maybe ℕ) (choices : List ℕ) (i : ℕ) : Type 0 where
+pub record Going (H : ℕ) (text legs : List ℕ) (n from : ℕ) (lent : List ℕ) (line : Line) (compared : Option ℕ) (choices : List ℕ) (i : ℕ) : Type 0 where
   pub headed : Headed H text legs n from
   pub within : i ≤ length text
   pub long : length choices ≡ length lent
@@ -75,7 +75,7 @@ none-counted H lent =
       choices_are = refl;
     }
 
-pub going_first : (H : ℕ) (text legs : List ℕ) (n from : ℕ) (lent : List ℕ) (line : Line) (compared : Maybe ℕ) → Headed H text legs n from → line ≡ first_line → compared ≡ none_differs
+pub going_first : (H : ℕ) (text legs : List ℕ) (n from : ℕ) (lent : List ℕ) (line : Line) (compared : Option ℕ) → Headed H text legs n from → line ≡ first_line → compared ≡ none_differs
     → Going H text legs n from lent line compared lent from
 unfolding column
 going_first H text legs n from lent line compared h e d =
@@ -95,23 +95,23 @@ going_first H text legs n from lent line compared h e d =
       follows = λ e. refl;
     }
 
-module _ {H : ℕ} {text legs : List ℕ} {n from : ℕ} {lent : List ℕ} {line : Line} {compared : Maybe ℕ} {choices : List ℕ} {i : ℕ}
+module _ {H : ℕ} {text legs : List ℕ} {n from : ℕ} {lent : List ℕ} {line : Line} {compared : Option ℕ} {choices : List ℕ} {i : ℕ}
     (g : Going H text legs n from lent line compared choices i) where
   pub whole : n * leg_width ≤ length legs
   whole = g.headed.able.legs_there.records.whole
 
   -- the draft's next id is not among those of the rows before
-  pub earlier : {fresh : Maybe ℕ} → fresh ≡ next_id compared legs n line.rows → Earlier line.rows fresh choices
+  pub earlier : {fresh : Option ℕ} → fresh ≡ next_id compared legs n line.rows → Earlier line.rows fresh choices
   earlier {fresh} f =
       record {
         held = omega (arith, g.counted.rows_are, g.counted.fits, g.long);
-        lacks = λ id q. go id compared (ltb line.rows n) refl refl (sym (ap (λ (x : Maybe ℕ). is_known x id) f) ∙ q);
+        lacks = λ id q. go id compared (ltb line.rows n) refl refl (sym (ap (λ (x : Option ℕ). is_known x id) f) ∙ q);
       }
     where
       ids_are : compared ≡ None → column configuration_width line.rows choices ≡ column leg_width line.rows legs
       ids_are e = rw g.counted.rows_are (ids-written g.counted ∙ sym (g.follows e))
 
-      go : (id : ℕ) (x : Maybe ℕ) (u : Bool) → compared ≡ x → ltb line.rows n ≡ u → is_known (cond (is_some x) None (cond u (Some (get_or legs (line.rows * leg_width) 0)) None)) id ≡ true
+      go : (id : ℕ) (x : Option ℕ) (u : Bool) → compared ≡ x → ltb line.rows n ≡ u → is_known (cond (is_some x) None (cond u (Some (get_or legs (line.rows * leg_width) 0)) None)) id ≡ true
           → is_new id (column configuration_width line.rows choices) ≡ true
       go id (Some p) u e l q = let z : ◌≡◌ {A = ℕ} 0 1 = cc in absurd (omega arith)
       go id None false e l q = let z : ◌≡◌ {A = ℕ} 0 1 = cc in absurd (omega arith)
@@ -191,7 +191,7 @@ module _ {H : ℕ} {text legs : List ℕ} {n from : ℕ} {lent : List ℕ} {line
         judged : AfterRow H lent line' choices' g.before (judge_of H lent g.before (less_return bytes))
         judged = turned.turns lent g.before g.counted
 
-        pub goes_on : (compared' : Maybe ℕ) → line'.fault ≡ None → compared' ≡ compared_with compared line'.numbers legs n line.rows i
+        pub goes_on : (compared' : Option ℕ) → line'.fault ≡ None → compared' ≡ compared_with compared line'.numbers legs n line.rows i
             → Going H text legs n from lent line' compared' choices' (e + 1)
         goes_on compared' f d = go (judge_of H lent g.before (less_return bytes)) judged next_line_lem
           where

@@ -4,7 +4,6 @@ use Prim.Native.Nat.{ℕ, suc, ◌+◌, ◌*◌, ◌/◌, ◌≤◌, ◌<◌}
 use mathlib.Core.Path.{◌≡◌, refl, ap, sym, ◌∙◌}
 use mathlib.Core.Bool.{Bool, true, false, not, cond, ◌&&◌}
 use mathlib.Core.List.{List, [], ◌∷◌, ◌++◌, map}
-use mathlib.Core.Option.{Option, none, some}
 use native.Mathlib.Omega.{arith}
 use lib.Dec.{leb, ltb, eqb}
 use lib.ListN.{length, get_or, drop}
@@ -12,7 +11,7 @@ use lib.Seq.{sets}
 use mir.Syntax.{w32}
 use mir.Val.{Fits}
 use borrow.Author.Tests.{leb-true, leb-false, lt-leb, ltb-true}
-use Rattle.std.specs.Prelude.{Option as Maybe, Some, None}
+use Rattle.std.specs.Prelude.{Option, Some, None}
 use Rattle.rules.specs.Limits.{most_id, least_travel, most_travel, most_legs, most_listed, most_configurations, configuration_width}
 use Rattle.rules.specs.Lists.{every, any, flat, over}
 use Rattle.rules.specs.Answers.{judge}
@@ -49,7 +48,7 @@ said-counted H r line before s =
       nominal_is = s.nominal_is;
     }
 
-pub counted-earlier : (alone before line : Line) (fresh : Maybe ℕ) (choices : List ℕ) → line ≡ counted_as alone before → Earlier before.rows fresh choices → Earlier line.rows fresh choices
+pub counted-earlier : (alone before line : Line) (fresh : Option ℕ) (choices : List ℕ) → line ≡ counted_as alone before → Earlier before.rows fresh choices → Earlier line.rows fresh choices
 counted-earlier alone before line fresh choices e h = rw e h
 
 counted-line : (H : ℕ) (lent : List ℕ) (line before : Line) (choices : List ℕ) (rows : List Row) → line.fault ≡ None → Counted H lent before choices rows → Counted H lent (counted_as line before) choices rows
@@ -201,10 +200,10 @@ module _ (H : ℕ) (bytes : List ℕ) (before alone line' : Line) (choices choic
     where
       go : (lent : List ℕ) (rows : List Row) → Counted H lent before choices rows → (o : Option Row) → SaidOf H o alone
           → AfterRow H lent line' choices' rows (judge_form H (solution_fits (length lent / configuration_width)) rows o)
-      go lent rows c none s = (ap (λ (x : Line). x.fault) l ∙ s, omega arith)
-      go lent rows c (some r) s = absurd (f s.going)
+      go lent rows c None s = (ap (λ (x : Line). x.fault) l ∙ s, omega arith)
+      go lent rows c (Some r) s = absurd (f s.going)
 
-  module _ (line : Line) (k : Maybe ℕ) (right-form : alone.fault ≡ None) (line-is : line ≡ counted_as alone before) (lowest_is : k ≡ lowest (choice_tests H line choices)) where
+  module _ (line : Line) (k : Option ℕ) (right-form : alone.fault ≡ None) (line-is : line ≡ counted_as alone before) (lowest_is : k ≡ lowest (choice_tests H line choices)) where
     -- what is to be shown of the row
     by_judging : ((lent : List ℕ) (rows : List Row) (r : Row) → Said H r line → Counted H lent line choices rows → AfterRow H lent line' choices' rows (outcome k r))
         → Turned H bytes before choices line' choices'
@@ -212,8 +211,8 @@ module _ (H : ℕ) (bytes : List ℕ) (before alone line' : Line) (choices choic
       where
         go : (lent : List ℕ) (rows : List Row) → Counted H lent before choices rows → (o : Option Row) → SaidOf H o alone
             → AfterRow H lent line' choices' rows (judge_form H (solution_fits (length lent / configuration_width)) rows o)
-        go lent rows c none s = cc (s, right-form)
-        go lent rows c (some r) s =
+        go lent rows c None s = cc (s, right-form)
+        go lent rows c (Some r) s =
             let s' : Said H r line = rw line-is (said-counted H r alone before s) in
             let c' : Counted H lent line choices rows = rw line-is (counted-line H lent alone before choices rows right-form c) in
             rw (judged H lent line choices rows r s' c', ← lowest_is) (h lent rows r s' c')
@@ -238,13 +237,13 @@ module _ (H : ℕ) (bytes : List ℕ) (before alone line' : Line) (choices choic
 pub turned-broken : (H : ℕ) (bytes : List ℕ) (before alone : Line) (choices : List ℕ) → SaidOf H (form_of (less_return bytes)) alone → (alone.fault ≡ None → ⊥) → Turned H bytes before choices alone choices
 turned-broken H bytes before alone choices said f = broken H bytes before alone alone choices choices said f refl refl
 
-pub turned_fault : (H : ℕ) (bytes : List ℕ) (before alone line line' : Line) (k : Maybe ℕ) (j : ℕ) (choices : List ℕ) → SaidOf H (form_of (less_return bytes)) alone → alone.fault ≡ None → line ≡ counted_as alone before
+pub turned_fault : (H : ℕ) (bytes : List ℕ) (before alone line line' : Line) (k : Option ℕ) (j : ℕ) (choices : List ℕ) → SaidOf H (form_of (less_return bytes)) alone → alone.fault ≡ None → line ≡ counted_as alone before
     → k ≡ lowest (choice_tests H line choices) → k ≡ Some j → line' ≡ stopped_with line j → Turned H bytes before choices line' choices
 turned_fault H bytes before alone line line' k j choices said f e l z s = faulty H bytes before alone line' choices choices said line k f e l j z s refl
 
 -- ---- what the code knows of a row with no fault
 
-module _ (H : ℕ) (line : Line) (choices : List ℕ) (k : Maybe ℕ) (lowest_is : k ≡ lowest (choice_tests H line choices)) (z : k ≡ None) where
+module _ (H : ℕ) (line : Line) (choices : List ℕ) (k : Option ℕ) (lowest_is : k ≡ lowest (choice_tests H line choices)) (z : k ≡ None) where
   passes : (range_holds H line ≡ true) × (counts_hold line ≡ true) × (new_after line.rows line.above (get_or line.numbers 0 0) choices ≡ true)
       × (ltb line.nominal line.entries ≡ true) × (ltb line.rows (length choices / configuration_width) ≡ true)
   passes =

@@ -4,13 +4,12 @@ use Prim.Native.Nat.{ℕ, ◌+◌, ◌≤◌, ◌<◌}
 use mathlib.Core.Path.{◌≡◌, refl, ap, sym, subst, ◌∙◌}
 use mathlib.Core.Bool.{Bool, true, false, true≢false, false≢true}
 use mathlib.Core.List.{List, [], ◌∷◌, ◌++◌, append-nil}
-use mathlib.Core.Option.{Option, none, some}
 use native.Mathlib.Omega.{arith}
 use lib.Dec.{leb}
 use lib.ListN.{length, get_or, drop}
 use lib.Seq.{drop-length}
 use borrow.Author.Tests.{leb-true}
-use Rattle.std.specs.Prelude.{None}
+use Rattle.std.specs.Prelude.{None, Option, Some}
 use Rattle.rules.specs.Limits.{most_id}
 use Rattle.rules.specs.Lists.{◌>>=◌}
 use Rattle.rules.specs.Answers.{bad_row, timetable_file}
@@ -150,15 +149,15 @@ mark_ends Within o e = absurd (false≢true e)
 mark_ends Behind o e = refl
 mark_ends Returned o e = refl
 
-mark_open : (mark : Mark) (o : Open) → may_end mark ≡ false → close_at (marked mark o) ≡ none
+mark_open : (mark : Mark) (o : Open) → may_end mark ≡ false → close_at (marked mark o) ≡ None
 mark_open Bare o e = absurd (true≢false e)
 mark_open Within o e = refl
 mark_open Behind o e = absurd (true≢false e)
 mark_open Returned o e = absurd (true≢false e)
 
 abbrev reached : List ℕ → Option (Marked Open) → Reached
-reached line none = broken bad_row 0
-reached line (some m) = in_row 0 (0 + length line) [] m
+reached line None = broken bad_row 0
+reached line (Some m) = in_row 0 (0 + length line) [] m
 
 module _ (H : ℕ) (line : List ℕ) (begun : Line) (reader : Reader) (legs entries legs' entries' : List ℕ) (first : begun ≡ first_line) (alone : Alone H line)
     (lined : Lined H begun Empty Bare 0 line 0 reader (tables legs entries) (tables legs' entries')) where
@@ -176,8 +175,8 @@ module _ (H : ℕ) (line : List ℕ) (begun : Line) (reader : Reader) (legs entr
   by_line = in_line (machine H timetable_file (draft_room lent)) 0 0 [] (on bare start) line (unbroken line alone.unbroken) ∙ go at_end
     where
       go : (m : Option (Marked Open)) → opened (machine H timetable_file (draft_room lent)) 0 (0 + length line) [] m ≡ reached line m
-      go none = refl
-      go (some m) = refl
+      go None = refl
+      go (Some m) = refl
 
   abbrev HeldAt : Option (Marked Open) → Type 0
   HeldAt m = Holds H lent (0 + length line) reader.mark (length timetable_header) reader.number reader.line now (reached line m)
@@ -204,8 +203,8 @@ module _ (H : ℕ) (line : List ℕ) (begun : Line) (reader : Reader) (legs entr
   said_stopped fault = by_end reader.line go
     where
       go : (m : Option (Marked Open)) → HeldAt m → SaidOf H (m >>= close_at) reader.line
-      go none h = h.0
-      go (some m) h = absurd (fault h.4.going)
+      go None h = h.0
+      go (Some m) h = absurd (fault h.4.going)
 
   module _ (line' : Line) (t : Bool) (f : reader.line.fault ≡ None) (ends : t ≡ may_end reader.mark) where
     -- a quote is open
@@ -213,8 +212,8 @@ module _ (H : ℕ) (line : List ℕ) (begun : Line) (reader : Reader) (legs entr
     said_open u l = by_end line' go
       where
         go : (m : Option (Marked Open)) → HeldAt m → SaidOf H (m >>= close_at) line'
-        go none h = cc
-        go (some m) h =
+        go None h = cc
+        go (Some m) h =
             subst (λ (x : Option Row). SaidOf H x line') (sym (ap close_at h.2 ∙ mark_open reader.mark h.0 (sym ends ∙ u))) (ap (λ (x : Line). x.fault) l)
 
     -- its last number is closed
@@ -222,6 +221,6 @@ module _ (H : ℕ) (line : List ℕ) (begun : Line) (reader : Reader) (legs entr
     said_closed u closed = by_end line' go
       where
         go : (m : Option (Marked Open)) → HeldAt m → SaidOf H (m >>= close_at) line'
-        go none h = cc
-        go (some m) h =
+        go None h = cc
+        go (Some m) h =
             subst (λ (x : Option Row). SaidOf H x line') (sym (ap close_at h.2 ∙ mark_ends reader.mark h.0 (sym ends ∙ u))) (closed.closes lent legs' 0 h.0 h.4 h.3)

@@ -2,11 +2,10 @@
 use Prim.Native.Nat.{ℕ, ◌*◌, ◌/◌, ◌≤◌, ◌<◌}
 use mathlib.Core.Path.{◌≡◌, refl, ap, sym, ◌∙◌}
 use mathlib.Core.List.{List, []}
-use mathlib.Core.Option.{Option, none, some}
 use native.Mathlib.Omega.{arith}
 use lib.ListN.{length, drop}
 use borrow.Author.Tests.{le-leb, lt-leb}
-use Rattle.std.specs.Prelude.{Result, Ok, Err}
+use Rattle.std.specs.Prelude.{Result, Ok, Err, Option, Some, None}
 use Rattle.rules.specs.Limits.{most_text, configuration_width}
 use Rattle.rules.specs.Lists.{flat, over}
 use Rattle.rules.specs.Answers.{refusal, too_long, bad_header, Reading, refused, good, ◌>>=◌, Judged}
@@ -17,7 +16,7 @@ use Rattle.rules.specs.Timetable.{Row, row_of, solution_fits, solution_of, timet
 use Rattle.rules.specs.Reading.{Files, differs_from, matched, choices_read}
 use Rattle.rules.specs.declared.sizes.Configuration.{Configuration}
 use Rattle.csv_header.proofs.Below as Below
-use Rattle.timetable_row.specs.declared.fault.Fault.{Fault}
+use Rattle.rules.specs.declared.answers.Fault.{Fault}
 use Rattle.timetable_row.specs.Faults.{fault_at}
 use Rattle.solution.specs.Promise.{Able, HoldsRows, choices_answer, ChoicesRead}
 use Rattle.solution.specs.Whole.{head_end, Headed, rows_after, choices_after, RowsRead, unpacked}
@@ -90,8 +89,8 @@ module _ (H : ℕ) (text legs : List ℕ) (n : ℕ) (lent now : List ℕ) where
           }
         where
           matched_all : (file : ℕ) (o : Option ℕ) (rs : List Row) (cs : List Configuration) → (matched file o rs >>= (λ same. good (choices_of rs))) ≡ good cs → choices_of rs ≡ cs
-          matched_all file none rs cs q = cc
-          matched_all file (some place) rs cs q = let z : ◌≡◌ {A = ℕ} 0 1 = cc in absurd (omega arith)
+          matched_all file None rs cs q = cc
+          matched_all file (Some place) rs cs q = let z : ◌≡◌ {A = ℕ} 0 1 = cc in absurd (omega arith)
 
           go : (file : ℕ) (draft : List Row) (cs : List Configuration) → m ≡ length cs → (x : Reading (List Row)) → rows_after H file from lent text ≡ x → choices_after file draft text x ≡ good cs
               → now ≡ over (flat configuration_numbers cs) lent

@@ -7,7 +7,7 @@ use Rattle.rules.specs.Timetable.{Row, legs_of, leg_numbers, configuration_numbe
 use Rattle.rules.specs.Reading.{Files, choices_read}
 use Rattle.rules.specs.declared.sizes.Configuration.{Configuration}
 use Rattle.tables_ids.specs.Column.{Apart}
-use Rattle.timetable_row.specs.declared.fault.Fault.{Fault}
+use Rattle.rules.specs.declared.answers.Fault.{Fault}
 use Rattle.timetable_row.specs.Faults.{fault_at}
 
 -- a horizon that is not too long, and a table of so many legs, no two of the same id

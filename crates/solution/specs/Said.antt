@@ -1,6 +1,5 @@
 -- What a line says, read by itself: that it breaks a row's form, or the row's numbers as they are held and what the tests of a row need.
-use Rattle.std.specs.Prelude.{Some, None, ℕ, suc, ◌≤◌, min, ◌≡◌, Bool, true, ◌&&◌, List, [], leb, ltb, length}
-use Rattle.std.proofs.Math.Option.{Option, none, some}
+use Rattle.std.specs.Prelude.{Some, None, ℕ, suc, ◌≤◌, min, ◌≡◌, Bool, true, ◌&&◌, List, [], leb, ltb, length, Option}
 use Rattle.rules.specs.Limits.{most_horizon, most_text, most_id, most_listed}
 use Rattle.rules.specs.Lists.{every}
 use Rattle.rules.specs.Answers.{bad_row}
@@ -32,8 +31,8 @@ pub record Said (H : ℕ) (r : Row) (line : Line) : Type 0 where
   pub nominal_is : range_of H r ≡ true → nominal_of line.numbers ≡ r.nominal
 
 abbrev pub SaidOf : (H : ℕ) → Option Row → Line → Type 0
-SaidOf H none line = line.fault ≡ Some bad_row
-SaidOf H (some r) line = Said H r line
+SaidOf H None line = line.fault ≡ Some bad_row
+SaidOf H (Some r) line = Said H r line
 
 -- what the end of a line must give, from what is held of an open row
 pub record RowClosed (H : ℕ) (line : Line) (number : Number) (entries : List ℕ) (line' : Line) : Type 0 where

@@ -11,7 +11,7 @@ use Rattle.rules.specs.Energy.{tabulate}
 use Rattle.rules.specs.Verdict.{All}
 use Rattle.rules.specs.declared.sizes.Configuration.{Configuration}
 use Rattle.csv_header.specs.Heading.{end_in}
-use Rattle.timetable_row.specs.declared.fault.Fault.{Fault}
+use Rattle.rules.specs.declared.answers.Fault.{Fault}
 use Rattle.solution.specs.Before.{travels, times_at, profile_at, packed_row}
 use Rattle.solution.specs.Promise.{Able, HoldsRows, choices_answer}
 

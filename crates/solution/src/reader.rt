@@ -8,11 +8,10 @@ ghost use Rattle.solution.specs.Whole.{head_end, Headed, RowsRead, unpacked};
 use crate::after;
 use csv_lines::ends;
 use csv_marks::Mark;
-use rules::answers::Refusal;
+use rules::answers::{Fault, Refusal};
 use rules::sizes::{Choice, Configuration, Leg, Text};
 use solution_row::draft;
 use timetable::reader;
-use timetable_row::fault::Fault;
 use timetable_row::line;
 
 // Where the header ends and the first row begins; 0 where the header differs.

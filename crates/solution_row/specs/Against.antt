@@ -5,7 +5,7 @@ use Rattle.rules.specs.Limits.{leg_width}
 use Rattle.rules.specs.Lists.{starts_with}
 use Rattle.rules.specs.Answers.{differs}
 use Rattle.timetable_row.specs.Slots.{held_ids}
-use Rattle.timetable_row.specs.declared.fault.Fault.{Fault}
+use Rattle.rules.specs.declared.answers.Fault.{Fault}
 use Rattle.timetable_row.specs.Faults.{fault_at}
 
 -- the table has a whole row there

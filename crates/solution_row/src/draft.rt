@@ -3,9 +3,8 @@ ghost use Rattle.std.specs.Prelude.{◌≡◌, ◌*◌, ◌≤◌, length};
 ghost use Rattle.rules.specs.Limits.{leg_width, most_text};
 ghost use Rattle.solution_row.specs.Against.{same_at, InTable, none_differs, next_id, is_known, compared_with, compared_answer};
 
-use rules::answers::Refusal;
+use rules::answers::{Fault, Refusal};
 use rules::sizes::Leg;
-use timetable_row::fault::Fault;
 use timetable_row::line::LAST;
 
 pub fn none_differs() -> Option<u32>

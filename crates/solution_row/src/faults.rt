@@ -6,7 +6,6 @@ ghost use Rattle.solution_row.specs.Tests.{new_after, choice_tests, Earlier};
 use crate::draft;
 use rules::answers::Refusal;
 use rules::sizes::{Choice, Leg};
-use tables_ids::Found;
 use timetable_row::line;
 use timetable_row::line::Line;
 
@@ -22,8 +21,8 @@ fn is_new(choices: &[u32], rows: usize, above: u32, fresh: Option<u32>, id: u32)
         return true;
     }
     match tables_ids::row_of(choices, Choice::WIDTH, rows, id) {
-        Found::At(_) => false,
-        Found::Nothing => true,
+        Some(_) => false,
+        None => true,
     }
 }
 

@@ -15,13 +15,12 @@ use Rattle.rules.specs.declared.answers.Refusal.{Refusal}
 use Rattle.rules_theorems.proofs.FileRefusals.{Refuses, refuses, choices_refuse}
 use Rattle.rules_theorems.proofs.GoodFiles.{files_good}
 use Rattle.rules_theorems.proofs.LawfulRows.{legs_distinct}
-use Rattle.timetable_row.specs.declared.fault.Fault.{Fault}
+use Rattle.rules.specs.declared.answers.Fault.{Fault}
 use Rattle.timetable_row.specs.Faults.{fault_at}
 use Rattle.solution.specs.Promise.{Able, HoldsRows, choices_answer, ChoicesRead}
 use Rattle.tables_lent.specs.declared.Counts.{Counts}
 use Rattle.tables_lent.proofs.Filing.{same-refusal}
 use Rattle.files_tests.proofs.Fronts.{front_held, legs-apart}
-use Rattle.solution_verdict.specs.declared.Chosen.TheVariants.{Whole, Refused}
 use Rattle.solution_verdict.specs.Left.{Choosable, Chooses, chosen_of}
 
 module _ {H : ℕ} {counts : Counts} {legs : List ℕ} (k : Choosable H counts legs) where
@@ -49,7 +48,7 @@ own_file file (refused r) (refuses f) number place e =
     same-refusal r (ap (λ (x : Fault). x.number) same) f (ap (λ (x : Fault). x.place) same)
 own_file file (good cs) q number place e = let z : ◌≡◌ {A = ℕ} 0 1 = cc in absurd (omega arith)
 
-was_read : (o : Reading (List Configuration)) (n : ℕ) → Ok n ≡ choices_answer o → Whole ≡ chosen_of o
+was_read : (o : Reading (List Configuration)) (n : ℕ) → Ok n ≡ choices_answer o → (Ok tt) ≡ chosen_of o
 was_read (refused r) n e = let z : ◌≡◌ {A = ℕ} 0 1 = cc in absurd (omega arith)
 was_read (good cs) n e = refl
 
@@ -63,25 +62,25 @@ module _ (H file : ℕ) (counts : Counts) (text legs lent : List ℕ) {answer : 
   written : (k : Choosable H counts legs) (cs : List Configuration) → outcome k ≡ good cs → choices ≡ written_choices cs lent
   written k cs e = read.chooses k.left.files file (held k) cs e
 
-  pub choose_fault : {fault : Fault} {r : Refusal} → answer ≡ Err fault → r ≡ refusal fault.number file fault.place → Chooses H file counts text legs lent (Refused r) choices
+  pub choose_fault : {fault : Fault} {r : Refusal} → answer ≡ Err fault → r ≡ refusal fault.number file fault.place → Chooses H file counts text legs lent (Err r) choices
   choose_fault {fault} {r} a e =
       record {
-        answers = λ k. ap Refused e ∙ ap chosen_of (sym (own_file file (outcome k) (refusals k) fault.number fault.place (sym a ∙ said k)));
+        answers = λ k. ap Err e ∙ ap chosen_of (sym (own_file file (outcome k) (refusals k) fault.number fault.place (sym a ∙ said k)));
         chooses = written;
       }
     where
       refusals : (k : Choosable H counts legs) → Refuses (λ r. r.file ≡ file) (outcome k)
       refusals k = choices_refuse H k.left.files file (length lent) text (record { at_start = λ n h. refl; at_place = λ n p h. refl })
 
-  pub choose_whole : {n : ℕ} → answer ≡ Ok n → Chooses H file counts text legs lent Whole choices
+  pub choose_whole : {n : ℕ} → answer ≡ Ok n → Chooses H file counts text legs lent (Ok tt) choices
   choose_whole {n} a = record { answers = λ k. was_read (outcome k) n (sym a ∙ said k); chooses = written }
 
 -- ---- what was chosen, by the answer
 
-pub was_chosen : (o : Reading (List Configuration)) → Whole ≡ chosen_of o → (cs : List Configuration) × (o ≡ good cs)
+pub was_chosen : (o : Reading (List Configuration)) → (Ok tt) ≡ chosen_of o → (cs : List Configuration) × (o ≡ good cs)
 was_chosen (refused r) e = let z : ◌≡◌ {A = ℕ} 0 1 = cc in absurd (omega arith)
 was_chosen (good cs) e = (cs, refl)
 
-pub not_chosen : (o : Reading (List Configuration)) (r : Refusal) → Refused r ≡ chosen_of o → o ≡ refused r
+pub not_chosen : (o : Reading (List Configuration)) (r : Refusal) → Err r ≡ chosen_of o → o ≡ refused r
 not_chosen (refused s) r e = cc
 not_chosen (good cs) r e = let z : ◌≡◌ {A = ℕ} 0 1 = cc in absurd (omega arith)

@@ -1,5 +1,5 @@
 -- What the reading of the files leaves, and what a solution's reading and its verdict promise over it.
-use Rattle.std.specs.Prelude.{ℕ, ◌≡◌, List, length}
+use Rattle.std.specs.Prelude.{ℕ, ◌≡◌, List, length, Result, Ok, Err}
 use Rattle.rules.specs.Answers.{Reading, refused, good}
 use Rattle.rules.specs.Reading.{Texts, Files, files_of, choices_read}
 use Rattle.rules.specs.Verdict.{ruling}
@@ -9,8 +9,7 @@ use Rattle.rules.specs.declared.sizes.Configuration.{Configuration}
 use Rattle.rules.specs.declared.answers.Ruling.{Ruling}
 use Rattle.tables_lent.specs.declared.Counts.{Counts}
 use Rattle.tables_lent.specs.Filing.{counts_of}
-use Rattle.solution_verdict.specs.declared.Chosen.{Chosen}
-use Rattle.solution_verdict.specs.declared.Chosen.TheVariants.{Whole, Refused}
+use Rattle.rules.specs.declared.answers.Refusal.{Refusal}
 
 -- counts by value, and tables of which a tail takes those that it needs; of what was stated, H alone counts from here on
 pub record Left (H : ℕ) (counts : Counts) : Type 0 where
@@ -29,11 +28,11 @@ pub record Choosable (H : ℕ) (counts : Counts) (legs : List ℕ) : Type 0 wher
   pub left : Left H counts
   pub legs_are_lem : legs ≡ (written_tables left.files left.lent).legs
 
-abbrev pub chosen_of : Reading (List Configuration) → Chosen
-chosen_of (refused r) = Refused r
-chosen_of (good cs) = Whole
+abbrev pub chosen_of : Reading (List Configuration) → Result (Unit {0}) Refusal
+chosen_of (refused r) = Err r
+chosen_of (good cs) = (Ok tt)
 
-pub record Chooses (H file : ℕ) (counts : Counts) (text legs lent : List ℕ) (answer : Chosen) (choices : List ℕ) : Type 0 where
+pub record Chooses (H file : ℕ) (counts : Counts) (text legs lent : List ℕ) (answer : Result (Unit {0}) Refusal) (choices : List ℕ) : Type 0 where
   pub answers : (k : Choosable H counts legs) → answer ≡ chosen_of (choices_read H k.left.files file (length lent) text)
   pub chooses : (k : Choosable H counts legs) (cs : List Configuration) → choices_read H k.left.files file (length lent) text ≡ good cs → choices ≡ written_choices cs lent
 

@@ -7,12 +7,6 @@ use rules::answers::{Refusal, Ruling};
 use solution::reader;
 use tables_lent::Counts;
 
-#[derive(Clone, Copy)]
-pub enum Chosen {
-    Whole,
-    Refused(Refusal),
-}
-
 // A solution's text against the draft; its refusals lie in `file`.
 pub fn choose(
     text: &[u8],
@@ -21,14 +15,14 @@ pub fn choose(
     counts: Counts,
     legs: &[u32],
     choices: &mut [u32],
-) -> Chosen
+) -> Result<(), Refusal>
     requires { Choosable h counts legs.now }
     ensures { Chooses h file counts text.now legs.now choices.old result choices.new }
 {
     let n = counts.legs;
     match reader::read_choices(text, h, legs, n, choices) {
-        Err(fault) => Chosen::Refused(Refusal::new(fault.number, file, fault.place)),
-        Ok(_) => Chosen::Whole,
+        Err(fault) => Err(fault.in_file(file)),
+        Ok(_) => Ok(()),
     }
 }
 

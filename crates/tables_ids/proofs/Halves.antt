@@ -9,10 +9,10 @@ use lib.Dec.{ltb}
 use lib.ListN.{length, get_or, length-append, get_or-append}
 use lib.Seq.{get_or-append_seam}
 use borrow.Author.Tests.{ltb-true, ltb-false}
-use Rattle.tables_ids.specs.declared.Found.TheVariants.{At, Nothing}
 use Rattle.tables_ids.specs.Column.{column, place_of, Ascending, Last, Parted}
 use Rattle.tables_ids.proofs.Column.{column-length, column-at}
 use Rattle.tables_ids.proofs.Places.{first_is, none_is}
+use Rattle.std.specs.Prelude.{Some, None}
 
 module _ (ids : List ℕ) (up : Ascending ids) where
   -- what stands further on is no less
@@ -30,11 +30,11 @@ module _ (ids : List ℕ) (up : Ascending ids) where
   rising_above i j h k = omega (arith, up i (omega arith), rising_to (i + 1) j (omega arith) k)
 
   -- an entry that has the id is the first that has it
-  pub ascending_first : (id i : ℕ) → i < length ids → get_or ids i 0 ≡ id → place_of id ids ≡ At i
+  pub ascending_first : (id i : ℕ) → i < length ids → get_or ids i 0 ≡ id → place_of id ids ≡ Some i
   ascending_first id i h e = first_is id ids i h e (λ k p q. omega (arith, rising_above k i p h))
 
   -- an id above the last is not among them
-  pub above-last : (last id : ℕ) → Last ids last → last < id → place_of id ids ≡ Nothing
+  pub above-last : (last id : ℕ) → Last ids last → last < id → place_of id ids ≡ None
   above-last last id l h =
       none_is id ids (λ k p q. omega (arith, rising_to k (length ids - 1) (omega arith) (omega arith), l (omega arith)))
 
@@ -109,16 +109,16 @@ module _ (width n : ℕ) (table : List ℕ) (id : ℕ) where
           above = λ k p q. omega (arith, rising_to ids up middle k p q, entry);
         }
 
-  pub at_place : (up : Ascending ids) (at : ℕ) → at < n → get_or table (at * width) 0 ≡ id → At at ≡ place_of id ids
+  pub at_place : (up : Ascending ids) (at : ℕ) → at < n → get_or table (at * width) 0 ≡ id → Some at ≡ place_of id ids
   at_place up at h e = sym (ascending_first ids up id at (omega (arith, column-length width n table)) (column-at width n table at h ∙ e))
 
   -- ---- what the parting place says
 
   module _ (up : Ascending ids) (at : ℕ) (p : Parted ids id at) where
-    pub past_end : n ≤ at → Nothing ≡ place_of id ids
+    pub past_end : n ≤ at → None ≡ place_of id ids
     past_end h = sym (none_is id ids (λ k q e. omega (arith, p.below k (omega (arith, column-length width n table)))))
 
-    pub not_there_lem : at < n → (get_or table (at * width) 0 ≡ id → ⊥) → Nothing ≡ place_of id ids
+    pub not_there_lem : at < n → (get_or table (at * width) 0 ≡ id → ⊥) → None ≡ place_of id ids
     not_there_lem h e = sym (none_is id ids (λ k q i. go k q i (ltb k at) refl))
       where
         go : (k : ℕ) → k < length ids → get_or ids k 0 ≡ id → (t : Bool) → ltb k at ≡ t → ⊥

@@ -5,17 +5,17 @@ use mathlib.Core.Bool.{true}
 use mathlib.Core.List.{List}
 use native.Mathlib.Omega.{arith}
 use lib.ListN.{length, get_or}
-use Rattle.tables_ids.specs.declared.Found.TheVariants.{At}
 use Rattle.tables_ids.specs.Column.{Apart, column, place_of, is_new}
 use Rattle.tables_ids.proofs.Column.{column-length, column-at}
 use Rattle.tables_ids.proofs.Places.{first_is, none_is}
 use Rattle.tables_ids.proofs.Parts.{new_by_place}
+use Rattle.std.specs.Prelude.{Some}
 
 module _ (width n : ℕ) (table : List ℕ) (a : Apart width n table) (at : ℕ) (inside : at < n) where
   here : get_or (column width n table) at 0 ≡ get_or table (at * width) 0
   here = column-at width n table at inside
 
-  pub lone_place : (id : ℕ) → get_or table (at * width) 0 ≡ id → At at ≡ place_of id (column width n table)
+  pub lone_place : (id : ℕ) → get_or table (at * width) 0 ≡ id → Some at ≡ place_of id (column width n table)
   lone_place id e =
       let there : get_or (column width n table) at 0 ≡ id = here ∙ e in
       sym (first_is id (column width n table) at (omega (arith, column-length width n table)) there (λ k p q. a.apart k at p inside (q ∙ sym there)))

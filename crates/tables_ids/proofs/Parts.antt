@@ -3,19 +3,17 @@ use Prim.Native.Nat.{ℕ, ◌+◌, ◌<◌}
 use mathlib.Core.Path.{◌≡◌, refl, ap, sym, ◌∙◌}
 use mathlib.Core.Bool.{Bool, true, false}
 use mathlib.Core.List.{List, ◌++◌}
-use mathlib.Core.Option.{none, some}
 use native.Mathlib.Omega.{arith}
 use native.Mathlib.Nat.{mul-le-mul_right}
 use lib.Dec.{eqb}
 use lib.ListN.{length, take, drop, take-append-drop}
 use Rattle.rules.specs.Lists.{first_place}
-use Rattle.tables_ids.specs.declared.Found.{Found}
-use Rattle.tables_ids.specs.declared.Found.TheVariants.{At, Nothing}
-use Rattle.tables_ids.specs.Column.{Records, Rising, Ascending, Last, column, found_of, place_of, is_new}
+use Rattle.tables_ids.specs.Column.{Records, Rising, Ascending, Last, column, place_of, is_new}
 use Rattle.tables_ids.proofs.Column.{column-length, take-column}
-use Rattle.tables_ids.proofs.Places.{found_at, found_nothing, place_first, place_second, any_place}
+use Rattle.tables_ids.proofs.Places.{place_first, place_second, any_place}
 use Rattle.tables_ids.proofs.Onward.{place_after}
 use Rattle.tables_ids.proofs.Halves.{above-last}
+use Rattle.std.specs.Prelude.{Option, Some, None}
 
 module _ (width n rising : ℕ) (table : List ℕ) (r : Rising width n rising table) where
   -- the part that rises is a table of its own
@@ -37,18 +35,18 @@ module _ (width n rising : ℕ) (table : List ℕ) (r : Rising width n rising ta
     is x = eqb x id
 
     -- what is found there is the first
-    pub in_part : {f : Found} {i : ℕ} → f ≡ place_of id (column width rising table) → f ≡ At i → At i ≡ place_of id (column width n table)
+    pub in_part : {f : Option ℕ} {i : ℕ} → f ≡ place_of id (column width rising table) → f ≡ Some i → Some i ≡ place_of id (column width n table)
     in_part {f} {i} e q =
-        let there : first_place is (column width rising table) ≡ some i = found_at (first_place is (column width rising table)) i (sym q ∙ e) in
+        let there : first_place is (column width rising table) ≡ Some i = sym (sym q ∙ e) in
         rw (split, place_first is 0 i (column width rising table) (drop rising (column width n table)) there)
 
     -- what is not found there is looked for in the rest
-    pub in_rest : {f g : Found} → f ≡ place_of id (column width rising table) → f ≡ Nothing → g ≡ found_of (place_after width n table id rising)
+    pub in_rest : {f g : Option ℕ} → f ≡ place_of id (column width rising table) → f ≡ None → g ≡ (place_after width n table id rising)
         → g ≡ place_of id (column width n table)
     in_rest {f} {g} e q later =
-        let none_there : first_place is (column width rising table) ≡ none = found_nothing (first_place is (column width rising table)) (sym q ∙ e) in
+        let none_there : first_place is (column width rising table) ≡ None = sym (sym q ∙ e) in
         let on : 0 + length (column width rising table) ≡ rising = omega (arith, column-length width rising table) in
-        let next : place_of id (column width rising table ++ drop rising (column width n table)) ≡ found_of (place_after width n table id rising) =
+        let next : place_of id (column width rising table ++ drop rising (column width n table)) ≡ (place_after width n table id rising) =
         rw (place_second is 0 (column width rising table) (drop rising (column width n table)) none_there, on) in
         later ∙ sym (ap (place_of id) split ∙ next)
 
@@ -56,11 +54,11 @@ module _ (width n rising : ℕ) (table : List ℕ) (r : Rising width n rising ta
 
 module _ (id : ℕ) (ids : List ℕ) where
   -- an id is new where it has no place
-  pub new_by_place : {f : Found} → f ≡ place_of id ids → f ≡ Nothing → true ≡ is_new id ids
-  new_by_place e q = rw (any_place (λ x. eqb x id) 0 ids, found_nothing (first_place (λ x. eqb x id) ids) (sym q ∙ e))
+  pub new_by_place : {f : Option ℕ} → f ≡ place_of id ids → f ≡ None → true ≡ is_new id ids
+  new_by_place e q = rw (any_place (λ x. eqb x id) 0 ids, sym (sym q ∙ e))
 
-  pub old_by_place : {f : Found} {i : ℕ} → f ≡ place_of id ids → f ≡ At i → false ≡ is_new id ids
-  old_by_place {f} {i} e q = rw (any_place (λ x. eqb x id) 0 ids, found_at (first_place (λ x. eqb x id) ids) i (sym q ∙ e))
+  pub old_by_place : {f : Option ℕ} {i : ℕ} → f ≡ place_of id ids → f ≡ Some i → false ≡ is_new id ids
+  old_by_place {f} {i} e q = rw (any_place (λ x. eqb x id) 0 ids, sym (sym q ∙ e))
 
 -- a table that rises to its end: an id above its last is new
 pub new_above : (width n rising : ℕ) (table : List ℕ) (last id : ℕ) → Rising width n rising table → Last (take rising (column width n table)) last

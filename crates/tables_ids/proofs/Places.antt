@@ -3,45 +3,33 @@ use Prim.Native.Nat.{ℕ, zero, suc, ◌+◌, ◌<◌}
 use mathlib.Core.Path.{◌≡◌, refl, ap, sym, ◌∙◌}
 use mathlib.Core.Bool.{Bool, true, false, cond, ◌||◌}
 use mathlib.Core.List.{List, [], ◌∷◌, ◌++◌}
-use mathlib.Core.Option.{Option, none, some}
 use native.Mathlib.Omega.{arith}
 use native.Mathlib.Nat.{add-zero}
 use lib.Dec.{eqb}
 use lib.ListN.{length, get_or}
 use borrow.Author.Tests.{eq-eqb, ne_eqb}
-use Rattle.rules.specs.Lists.{any, place_from, first_place, is_some}
-use Rattle.tables_ids.specs.declared.Found.{Found}
-use Rattle.tables_ids.specs.declared.Found.TheVariants.{At, Nothing}
-use Rattle.tables_ids.specs.Column.{found_of, place_of}
-
--- ---- what an answer says of the place
-
-pub found_at : (o : Option ℕ) (i : ℕ) → At i ≡ found_of o → o ≡ some i
-found_at none i e = cc
-found_at (some j) i e = cc
-
-pub found_nothing : (o : Option ℕ) → Nothing ≡ found_of o → o ≡ none
-found_nothing none e = refl
-found_nothing (some j) e = cc
+use Rattle.rules.specs.Lists.{any, place_from, first_place}
+use Rattle.std.specs.Prelude.{is_some, Option, Some, None}
+use Rattle.tables_ids.specs.Column.{place_of}
 
 -- ---- two parts
 
 module _ (test : ℕ → Bool) where
-  pub place_first : (n i : ℕ) (s t : List ℕ) → place_from n test s ≡ some i → place_from n test (s ++ t) ≡ some i
+  pub place_first : (n i : ℕ) (s t : List ℕ) → place_from n test s ≡ Some i → place_from n test (s ++ t) ≡ Some i
   place_first n i [] t e = cc
   place_first n i (x ∷ s) t e = go (test x) (place_first (suc n) i s t) e
     where
-      go : (b : Bool) → (place_from (suc n) test s ≡ some i → place_from (suc n) test (s ++ t) ≡ some i)
-          → cond b (some n) (place_from (suc n) test s) ≡ some i → cond b (some n) (place_from (suc n) test (s ++ t)) ≡ some i
+      go : (b : Bool) → (place_from (suc n) test s ≡ Some i → place_from (suc n) test (s ++ t) ≡ Some i)
+          → cond b (Some n) (place_from (suc n) test s) ≡ Some i → cond b (Some n) (place_from (suc n) test (s ++ t)) ≡ Some i
       go true rest q = q
       go false rest q = rest q
 
-  pub place_second : (n : ℕ) (s t : List ℕ) → place_from n test s ≡ none → place_from n test (s ++ t) ≡ place_from (n + length s) test t
+  pub place_second : (n : ℕ) (s t : List ℕ) → place_from n test s ≡ None → place_from n test (s ++ t) ≡ place_from (n + length s) test t
   place_second n [] t e = rw (add-zero n)
   place_second n (x ∷ s) t e = go (test x) (place_second (suc n) s t) e
     where
-      go : (b : Bool) → (place_from (suc n) test s ≡ none → place_from (suc n) test (s ++ t) ≡ place_from (suc n + length s) test t)
-          → cond b (some n) (place_from (suc n) test s) ≡ none → cond b (some n) (place_from (suc n) test (s ++ t)) ≡ place_from (n + suc (length s)) test t
+      go : (b : Bool) → (place_from (suc n) test s ≡ None → place_from (suc n) test (s ++ t) ≡ place_from (suc n + length s) test t)
+          → cond b (Some n) (place_from (suc n) test s) ≡ None → cond b (Some n) (place_from (suc n) test (s ++ t)) ≡ place_from (n + suc (length s)) test t
       go true rest q = cc
       go false rest q = let k : suc n + length s ≡ n + suc (length s) = omega arith in rw k at (rest q)
 
@@ -50,23 +38,23 @@ module _ (test : ℕ → Bool) where
   any_place n [] = refl
   any_place n (x ∷ s) = go (test x) (any_place (suc n) s)
     where
-      go : (b : Bool) → any test s ≡ is_some (place_from (suc n) test s) → b || any test s ≡ is_some (cond b (some n) (place_from (suc n) test s))
+      go : (b : Bool) → any test s ≡ is_some (place_from (suc n) test s) → b || any test s ≡ is_some (cond b (Some n) (place_from (suc n) test s))
       go true rest = refl
       go false rest = rest
 
 -- ---- what a search says of an entry that has the id
 
-module _ (id : ℕ) (ids : List ℕ) (f : Found) (e : f ≡ place_of id ids) where
+module _ (id : ℕ) (ids : List ℕ) (f : Option ℕ) (e : f ≡ place_of id ids) where
   place : Option ℕ
   place = first_place (λ x. eqb x id) ids
 
-  pub some_there : (i : ℕ) → f ≡ At i → any (λ x. eqb x id) ids ≡ true
+  pub some_there : (i : ℕ) → f ≡ Some i → any (λ x. eqb x id) ids ≡ true
   unfolding place
-  some_there i is = any_place (λ x. eqb x id) 0 ids ∙ ap is_some (found_at place i (sym is ∙ e))
+  some_there i is = any_place (λ x. eqb x id) 0 ids ∙ ap is_some (sym (sym is ∙ e))
 
-  pub none_there : f ≡ Nothing → any (λ x. eqb x id) ids ≡ false
+  pub none_there : f ≡ None → any (λ x. eqb x id) ids ≡ false
   unfolding place
-  none_there is = any_place (λ x. eqb x id) 0 ids ∙ ap is_some (found_nothing place (sym is ∙ e))
+  none_there is = any_place (λ x. eqb x id) 0 ids ∙ ap is_some (sym (sym is ∙ e))
 
 -- ---- by the entries themselves
 
@@ -75,7 +63,7 @@ module _ (id : ℕ) where
   is x = eqb x id
 
   first_from_lem : (n : ℕ) (ids : List ℕ) (i : ℕ) → i < length ids → get_or ids i 0 ≡ id → ((k : ℕ) → k < i → get_or ids k 0 ≡ id → ⊥)
-      → place_from n is ids ≡ some (n + i)
+      → place_from n is ids ≡ Some (n + i)
   first_from_lem n [] i h e before = absurd (omega arith)
   first_from_lem n (x ∷ ids) zero h e before = rw (eq-eqb x id e, add-zero n)
   first_from_lem n (x ∷ ids) (suc i) h e before =
@@ -84,14 +72,14 @@ module _ (id : ℕ) where
       (rw k at (first_from_lem (suc n) ids i (omega arith) e (λ j p q. before (suc j) (omega arith) q)))
 
   -- an entry that has the id, with none before it that has
-  pub first_is : (ids : List ℕ) (i : ℕ) → i < length ids → get_or ids i 0 ≡ id → ((k : ℕ) → k < i → get_or ids k 0 ≡ id → ⊥) → place_of id ids ≡ At i
-  first_is ids i h e before = let k : 0 + i ≡ i = omega arith in ap found_of (rw k at (first_from_lem 0 ids i h e before))
+  pub first_is : (ids : List ℕ) (i : ℕ) → i < length ids → get_or ids i 0 ≡ id → ((k : ℕ) → k < i → get_or ids k 0 ≡ id → ⊥) → place_of id ids ≡ Some i
+  first_is ids i h e before = let k : 0 + i ≡ i = omega arith in (rw k at (first_from_lem 0 ids i h e before))
 
-  none_from : (n : ℕ) (ids : List ℕ) → ((k : ℕ) → k < length ids → get_or ids k 0 ≡ id → ⊥) → place_from n is ids ≡ none
+  none_from : (n : ℕ) (ids : List ℕ) → ((k : ℕ) → k < length ids → get_or ids k 0 ≡ id → ⊥) → place_from n is ids ≡ None
   none_from n [] off = refl
   none_from n (x ∷ ids) off =
       rw (ne_eqb x id (off 0 (omega arith))) (none_from (suc n) ids (λ k p q. off (suc k) (omega arith) q))
 
   -- no entry has the id
-  pub none_is : (ids : List ℕ) → ((k : ℕ) → k < length ids → get_or ids k 0 ≡ id → ⊥) → place_of id ids ≡ Nothing
-  none_is ids off = ap found_of (none_from 0 ids off)
+  pub none_is : (ids : List ℕ) → ((k : ℕ) → k < length ids → get_or ids k 0 ≡ id → ⊥) → place_of id ids ≡ None
+  none_is ids off = (none_from 0 ids off)

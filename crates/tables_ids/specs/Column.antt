@@ -1,12 +1,9 @@
 -- The ids of a flat table, and where an id stands among them.
-use Rattle.std.specs.Prelude.{ℕ, ◌+◌, ◌*◌, ◌-◌, ◌≤◌, ◌<◌, ◌≡◌, Bool, not, List, map, eqb, length, get_or, take}
-use Rattle.std.proofs.Math.Option.{Option, none, some}
+use Rattle.std.specs.Prelude.{ℕ, ◌+◌, ◌*◌, ◌-◌, ◌≤◌, ◌<◌, ◌≡◌, Bool, not, List, map, eqb, length, get_or, take, Option}
 use Rattle.rules.specs.Lists.{any, first_place}
 use Rattle.rules.specs.Energy.{tabulate}
 use Rattle.rules.specs.Profiles.{Curve}
 use Rattle.rules.specs.declared.sizes.Track.{Track}
-use Rattle.tables_ids.specs.declared.Found.{Found}
-use Rattle.tables_ids.specs.declared.Found.TheVariants.{At, Nothing}
 
 -- n records of one width stand in a table
 pub record Records (width n : ℕ) (table : List ℕ) : Type 0 where
@@ -30,12 +27,8 @@ abbrev pub track_ids_of : List Track → List ℕ
 track_ids_of = map (λ k. k.id)
 
 -- the first place of an id
-abbrev pub found_of : Option ℕ → Found
-found_of none = Nothing
-found_of (some i) = At i
-
-abbrev pub place_of : (id : ℕ) → List ℕ → Found
-place_of id ids = found_of (first_place (λ x. eqb x id) ids)
+abbrev pub place_of : (id : ℕ) → List ℕ → Option ℕ
+place_of id ids = first_place (λ x. eqb x id) ids
 
 -- no entry has the id
 abbrev pub is_new : (id : ℕ) → List ℕ → Bool

@@ -4,30 +4,23 @@
 
 ghost use Rattle.std.specs.Prelude.{◌≡◌, ◌≤◌, eqb, take, drop};
 ghost use Rattle.rules.specs.Lists.{place_from};
-ghost use Rattle.tables_ids.specs.Column.{Records, Rising, Sought, Ascending, Last, Parted, column, found_of, place_of, is_new};
-
-// The place of a record, or none.
-#[derive(Clone, Copy)]
-pub enum Found {
-    At(usize),
-    Nothing,
-}
+ghost use Rattle.tables_ids.specs.Column.{Records, Rising, Sought, Ascending, Last, Parted, column, place_of, is_new};
 
 // The first record with an id, from a record on.
-fn walk(table: &[u32], width: usize, from: usize, n: usize, id: u32) -> Found
+fn walk(table: &[u32], width: usize, from: usize, n: usize, id: u32) -> Option<usize>
     requires { Records width n table.now × (from ≤ n) }
-    ensures { result ≡ found_of (place_from from (λ x. eqb x id) (drop from (column width n table.now))) }
+    ensures { result ≡ place_from from (λ x. eqb x id) (drop from (column width n table.now)) }
 {
     for i in from..n {
         if table[i * width] == id {
-            return Found::At(i);
+            return Some(i);
         }
     }
-    Found::Nothing
+    None
 }
 
 // The first of n records with an id.
-pub fn row_of(table: &[u32], width: usize, n: usize, id: u32) -> Found
+pub fn row_of(table: &[u32], width: usize, n: usize, id: u32) -> Option<usize>
     requires { Records width n table.now }
     ensures { result ≡ place_of id (column width n table.now) }
 {
@@ -54,18 +47,18 @@ fn parting(table: &[u32], width: usize, n: usize, id: u32) -> usize
 }
 
 // The record with an id, where all ids rise.
-fn halved(table: &[u32], width: usize, n: usize, id: u32) -> Found
+fn halved(table: &[u32], width: usize, n: usize, id: u32) -> Option<usize>
     requires { Records width n table.now × Ascending (column width n table.now) }
     ensures { result ≡ place_of id (column width n table.now) }
 {
     let at = parting(table, width, n, id);
     if n <= at {
-        return Found::Nothing;
+        return None;
     }
     if table[at * width] == id {
-        return Found::At(at);
+        return Some(at);
     }
-    Found::Nothing
+    None
 }
 
 // Where an id stands if each is one more than the one before: a guess, of which nothing is promised.
@@ -77,32 +70,32 @@ fn guess(table: &[u32], id: u32) -> usize {
 }
 
 // `halved`, but faster: rising ids mostly count up by one.
-fn among(table: &[u32], width: usize, n: usize, id: u32) -> Found
+fn among(table: &[u32], width: usize, n: usize, id: u32) -> Option<usize>
     requires { Records width n table.now × Ascending (column width n table.now) }
     ensures { result ≡ place_of id (column width n table.now) }
 {
     let near = guess(table, id);
     if near < n {
         if table[near * width] == id {
-            return Found::At(near);
+            return Some(near);
         }
     }
     halved(table, width, n, id)
 }
 
 // The first of n records with an id, where the first so many ids rise: `row_of`, but fast.
-pub fn find(table: &[u32], width: usize, n: usize, rising: usize, id: u32) -> Found
+pub fn find(table: &[u32], width: usize, n: usize, rising: usize, id: u32) -> Option<usize>
     requires { Rising width n rising table.now }
     ensures { result ≡ place_of id (column width n table.now) }
 {
     match among(table, width, rising, id) {
-        Found::At(i) => Found::At(i),
-        Found::Nothing => walk(table, width, rising, n, id),
+        Some(i) => Some(i),
+        None => walk(table, width, rising, n, id),
     }
 }
 
 // `find`, where no two records have the same id. Records are mostly numbered from 1: the one that then has the id is looked at first.
-pub fn numbered(table: &[u32], width: usize, n: usize, rising: usize, id: u32) -> Found
+pub fn numbered(table: &[u32], width: usize, n: usize, rising: usize, id: u32) -> Option<usize>
     requires { Sought width n rising table.now }
     ensures { result ≡ place_of id (column width n table.now) }
 {
@@ -110,7 +103,7 @@ pub fn numbered(table: &[u32], width: usize, n: usize, rising: usize, id: u32) -
         let place = (id - 1) as usize;
         if place < n {
             if table[place * width] == id {
-                return Found::At(place);
+                return Some(place);
             }
         }
     }
@@ -144,7 +137,7 @@ pub fn is_new(table: &[u32], width: usize, n: usize, rising: usize, last: u32, i
         }
     }
     match find(table, width, n, rising, id) {
-        Found::At(_) => false,
-        Found::Nothing => true,
+        Some(_) => false,
+        None => true,
     }
 }

@@ -6,8 +6,8 @@ use Rattle.rules.specs.Answers.{refusal, Reading, refused, good}
 use Rattle.rules.specs.Reading.{Files}
 use Rattle.rules.specs.declared.answers.Refusal.{Refusal}
 use Rattle.tables_lent.specs.declared.Counts.{Counts}
-use Rattle.tables_lent.specs.declared.Filed.TheVariants.{Whole, Refused}
 use Rattle.tables_lent.specs.Filing.{counts_of, filed_of}
+use Rattle.std.specs.Prelude.{Ok, Err}
 
 -- a refusal by its three numbers
 pub same-refusal : {A : Type 0} (r : Refusal) {number file place : ℕ} → number ≡ r.number → r.file ≡ file → place ≡ r.place
@@ -20,10 +20,10 @@ pub record WasFiled (o : Reading Files) (k : Counts) : Type 0 where
   pub was : o ≡ good files
   pub counted : k ≡ counts_of files
 
-pub was_filed : (o : Reading Files) (k : Counts) → Whole k ≡ filed_of o → WasFiled o k
+pub was_filed : (o : Reading Files) (k : Counts) → Ok k ≡ filed_of o → WasFiled o k
 was_filed (refused r) k e = let z : ◌≡◌ {A = ℕ} 0 1 = cc in absurd (omega arith)
 was_filed (good f) k e = record { files = f; was = refl; counted = cc }
 
-pub not_filed : (o : Reading Files) (r : Refusal) → Refused r ≡ filed_of o → o ≡ refused r
+pub not_filed : (o : Reading Files) (r : Refusal) → Err r ≡ filed_of o → o ≡ refused r
 not_filed (refused s) r e = cc
 not_filed (good f) r e = let z : ◌≡◌ {A = ℕ} 0 1 = cc in absurd (omega arith)

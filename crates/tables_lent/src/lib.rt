@@ -1,8 +1,6 @@
 // What is lent to an entry: how many entries its tables hold once `files` has read, and what an answer leaves in it, for the entries to end by.
 #![tactic(auto)]
 
-use rules::answers::Refusal;
-
 pub mod refusals; // after a refusal tables and choices hold only a number that no field can have (demand 1)
 pub mod acceptance; // curves and texts stand only where the answer is accepted
 
@@ -16,11 +14,4 @@ pub struct Counts {
     pub constraints: usize,
     pub tracks: usize,
     pub subnets: usize,
-}
-
-// What the reading of the files answers.
-#[derive(Clone, Copy)]
-pub enum Filed {
-    Whole(Counts),
-    Refused(Refusal),
 }

@@ -5,10 +5,9 @@ ghost use Rattle.text_read.specs.Held.{past_id, ran_from, whole_held};
 
 use rules::sizes::Id;
 
-// What a text says as a whole number.
+// Why a text says no whole number up to the greatest id.
 #[derive(Clone, Copy)]
-pub enum Whole {
-    Number(u32),
+pub enum Unread {
     // Past the greatest id.
     Beyond,
     Malformed,
@@ -61,18 +60,18 @@ fn is_plain(s: &[u8]) -> bool
 }
 
 // One or more digits with no needless leading zero.
-pub fn read_whole(s: &[u8]) -> Whole
+pub fn read_whole(s: &[u8]) -> Result<u32, Unread>
     ensures { result ≡ whole_held (whole_of s.now) }
 {
     if !is_plain(s) {
-        return Whole::Malformed;
+        return Err(Unread::Malformed);
     }
     let ran = digits(s, 0, 0);
     if ran.next < s.len() {
-        return Whole::Malformed;
+        return Err(Unread::Malformed);
     }
     if Id::MOST < ran.value {
-        return Whole::Beyond;
+        return Err(Unread::Beyond);
     }
-    Whole::Number(ran.value)
+    Ok(ran.value)
 }

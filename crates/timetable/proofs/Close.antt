@@ -3,7 +3,6 @@ use Prim.Native.Nat.{ℕ, zero, suc, ◌+◌, ◌≤◌, ◌<◌}
 use mathlib.Core.Path.{◌≡◌, refl, ap, sym, ◌∙◌}
 use mathlib.Core.Bool.{Bool, true, false, cond}
 use mathlib.Core.List.{List, [], ◌∷◌, ◌++◌, append_assoc, append-nil, map-append}
-use mathlib.Core.Option.{none, some}
 use native.Mathlib.Omega.{arith}
 use native.Mathlib.Numerals.{add-one}
 use lib.Dec.{ltb}
@@ -26,6 +25,7 @@ use Rattle.timetable_row.specs.Slots.{separators, last_slot, entry_slot, separat
 use Rattle.timetable.specs.Held.{Shaped, in_head, in_first, in_second, in_third, line_with, kept_in, leading, same_held, Opened, Tables, tables, InLine, AfterByte, Entered, Closed}
 use Rattle.timetable_row.specs.RowOver.{stopped_with}
 use Rattle.timetable.proofs.Words.{length_snoc}
+use Rattle.std.specs.Prelude.{Some, None}
 
 -- ---- which byte closes a number
 
@@ -49,11 +49,11 @@ pub entry_slot_lem : (closed entry : List ℕ) (k : ℕ) → length closed ≡ e
 entry_slot_lem closed entry k e f = length-append closed entry ∙ ap (λ (n : ℕ). n + length entry) e ∙ ap (λ (n : ℕ). entry_slot + n) f
 
 -- no other byte
-separate-none : (o : Open) (b v : ℕ) → Shaped o.closed o.list o.entry → (b ≡ separator_of (length (o.closed ++ o.entry)) → ⊥) → separate o b v ≡ none
+separate-none : (o : Open) (b v : ℕ) → Shaped o.closed o.list o.entry → (b ≡ separator_of (length (o.closed ++ o.entry)) → ⊥) → separate o b v ≡ None
 separate-none o b v s n = go o.closed o.list o.entry o.number s n
   where
     go : (closed : List ℕ) (list : List Configuration) (entry : List ℕ) (m : Number) → Shaped closed list entry → (b ≡ separator_of (length (closed ++ entry)) → ⊥)
-        → separate (partly closed list entry m) b v ≡ none
+        → separate (partly closed list entry m) b v ≡ None
     go closed list entry m (in_head h) n = rw (lt-ltb (length closed) entry_slot h, ne_eqb b (get_or separators (length closed) 0) (λ q. n (q ∙ sym (head_separator closed h))))
     go closed list entry m (in_first e) n =
         rw (le-ltb (length closed) entry_slot (omega arith), ne_eqb b underscore (λ q. n (q ∙ ap separator_of (sym (entry_slot_lem closed [] 0 e refl)))))
@@ -63,15 +63,15 @@ separate-none o b v s n = go o.closed o.list o.entry o.number s n
         rw (le-ltb (length closed) entry_slot (omega arith), ne_eqb b space (λ q. n (q ∙ ap separator_of (sym (entry_slot_lem closed (d ∷ t ∷ []) 2 e refl)))))
 
 -- the row's machine at a byte that the open number does not take
-step_other : (o : Open) (b v : ℕ) → is_digit b ≡ false → number_end o.number ≡ some v → open_step o b ≡ separate o b v
+step_other : (o : Open) (b v : ℕ) → is_digit b ≡ false → number_end o.number ≡ Some v → open_step o b ≡ separate o b v
 unfolding open_step
 step_other o b v d e = rw (d, e)
 
-step_none : (o : Open) (b v : ℕ) → number_end o.number ≡ some v → number_step o.number b ≡ none → separate o b v ≡ none → open_step o b ≡ none
+step_none : (o : Open) (b v : ℕ) → number_end o.number ≡ Some v → number_step o.number b ≡ None → separate o b v ≡ None → open_step o b ≡ None
 unfolding open_step
 step_none o b v e q n = go (is_digit b)
   where
-    go : (d : Bool) → cond d (number_step o.number b >>= (λ m. some (partly o.closed o.list o.entry m))) (number_end o.number >>= (λ n. separate o b n)) ≡ none
+    go : (d : Bool) → cond d (number_step o.number b >>= (λ m. Some (partly o.closed o.list o.entry m))) (number_end o.number >>= (λ n. separate o b n)) ≡ None
     go true = rw q
     go false = rw e n
 
@@ -82,7 +82,7 @@ pub close_stop : (H : ℕ) (line line' : Line) (n b : ℕ) (table : List ℕ) (w
 close_stop H line line' n b table w ws other l =
     record {
       closes = λ lent legs place before o v g e nv q.
-          let none_of : separate o b v ≡ none =
+          let none_of : separate o b v ≡ None =
           separate-none o b v g.opened.shaped (λ z. other (z ∙ ap separator_of (sym g.opened.slot_is) ∙ sym ws)) in
           rw (step_none o b v e q none_of, l) (refl, g.placed);
     }
@@ -116,8 +116,8 @@ head_next closed v k = go (ltb (suc (length closed)) entry_slot) refl
 
 module _ (H : ℕ) (line : Line) (n b : ℕ) (table : List ℕ) (w : ℕ) (ws : w ≡ separator_of line.slot) (bw : b ≡ w) where
   -- the row's machine goes on to the next slot
-  to_next : (o : Open) (v : ℕ) (next : Open) → line.slot ≡ length (o.closed ++ o.entry) → number_end o.number ≡ some v
-      → separate o (separator_of (length (o.closed ++ o.entry))) v ≡ some next → open_step o b ≡ some next
+  to_next : (o : Open) (v : ℕ) (next : Open) → line.slot ≡ length (o.closed ++ o.entry) → number_end o.number ≡ Some v
+      → separate o (separator_of (length (o.closed ++ o.entry))) v ≡ Some next → open_step o b ≡ Some next
   to_next o v next s e q =
       let k : b ≡ separator_of line.slot = bw ∙ ws in
       step_other o b v (ap is_digit k ∙ no_digit_lem line.slot) e ∙ ap (λ (x : ℕ). separate o x v) (k ∙ ap separator_of s) ∙ q
@@ -148,17 +148,17 @@ module _ (H : ℕ) (line : Line) (n b : ℕ) (table : List ℕ) (w : ℕ) (ws : 
           }
 
       go : (lent : Tables) (legs : List ℕ) (place : ℕ) (before : List Row) (o : Open) (v : ℕ)
-          → InLine H lent line (tables legs table) place before o.closed o.list o.entry → number_end o.number ≡ some v → Shaped o.closed o.list o.entry
+          → InLine H lent line (tables legs table) place before o.closed o.list o.entry → number_end o.number ≡ Some v → Shaped o.closed o.list o.entry
           → AfterByte H lent (moved v) (tables legs table) place before (open_step o b)
       go lent legs place before o v g e s = by_shape o.closed o.list o.entry o.number g e s
         where
           by_shape : (closed : List ℕ) (list : List Configuration) (entry : List ℕ) (m : Number)
-              → InLine H lent line (tables legs table) place before closed list entry → number_end m ≡ some v → Shaped closed list entry
+              → InLine H lent line (tables legs table) place before closed list entry → number_end m ≡ Some v → Shaped closed list entry
               → AfterByte H lent (moved v) (tables legs table) place before (open_step (partly closed list entry m) b)
           by_shape closed list entry m g e (in_head k) =
               let o : Open = partly closed [] [] m in
               let next : Open = partly (closed ++ v ∷ []) [] [] empty in
-              let at : separate o (separator_of (length (closed ++ []))) v ≡ some next =
+              let at : separate o (separator_of (length (closed ++ []))) v ≡ Some next =
               rw (lt-ltb (length closed) entry_slot k, head_separator closed k, eq-eqb (get_or separators (length closed) 0) (get_or separators (length closed) 0) refl) in
               rw (to_next o v next g.opened.slot_is e at) (
                 held_on lent legs place before closed [] [] g v (closed ++ v ∷ []) [] (head_next closed v k)
@@ -169,13 +169,13 @@ module _ (H : ℕ) (line : Line) (n b : ℕ) (table : List ℕ) (w : ℕ) (ws : 
           by_shape closed list [] m g e (in_first k) =
               let o : Open = partly closed list [] m in
               let next : Open = partly closed list (v ∷ []) empty in
-              let at : separate o (separator_of (length (closed ++ []))) v ≡ some next = rw (entry_slot_lem closed [] 0 k refl, le-ltb (length closed) entry_slot (omega arith)) in
+              let at : separate o (separator_of (length (closed ++ []))) v ≡ Some next = rw (entry_slot_lem closed [] 0 k refl, le-ltb (length closed) entry_slot (omega arith)) in
               rw (to_next o v next g.opened.slot_is e at)
               (held_on lent legs place before closed list [] g v closed (v ∷ []) (in_second k) (ap (λ (l : List ℕ). l ++ v ∷ []) (sym (append-nil closed))) g.opened.nominal_is, refl)
           by_shape closed list (d ∷ []) m g e (in_second k) =
               let o : Open = partly closed list (d ∷ []) m in
               let next : Open = partly closed list (d ∷ v ∷ []) empty in
-              let at : separate o (separator_of (length (closed ++ d ∷ []))) v ≡ some next = rw (entry_slot_lem closed (d ∷ []) 1 k refl, le-ltb (length closed) entry_slot (omega arith)) in
+              let at : separate o (separator_of (length (closed ++ d ∷ []))) v ≡ Some next = rw (entry_slot_lem closed (d ∷ []) 1 k refl, le-ltb (length closed) entry_slot (omega arith)) in
               rw (to_next o v next g.opened.slot_is e at)
               (held_on lent legs place before closed list (d ∷ []) g v closed (d ∷ v ∷ []) (in_third k) (sym (append_assoc closed (d ∷ []) (v ∷ []))) g.opened.nominal_is, refl)
           by_shape closed list (d ∷ t ∷ []) m g e (in_third k) = absurd (omega (arith, g.opened.slot_is, entry_slot_lem closed (d ∷ t ∷ []) 2 k refl))
@@ -191,7 +191,7 @@ module _ (H : ℕ) (line : Line) (n b : ℕ) (table : List ℕ) (w : ℕ) (ws : 
       }
     where
       go : (lent : Tables) (legs : List ℕ) (place : ℕ) (before : List Row) (closed : List ℕ) (list : List Configuration) (entry : List ℕ) (m : Number) (v : ℕ)
-          → InLine H lent line (tables legs table) place before closed list entry → number_end m ≡ some v → n ≡ held v → Shaped closed list entry
+          → InLine H lent line (tables legs table) place before closed list entry → number_end m ≡ Some v → n ≡ held v → Shaped closed list entry
           → AfterByte H lent line' (tables legs table') place before (open_step (partly closed list entry m) b)
       go lent legs place before closed list entry m v g e nv (in_head k) = absurd (omega (arith, g.opened.slot_is, ap length (append-nil closed)))
       go lent legs place before closed list entry m v g e nv (in_first k) = absurd (omega (arith, g.opened.slot_is, entry_slot_lem closed [] 0 k refl))
@@ -199,5 +199,5 @@ module _ (H : ℕ) (line : Line) (n b : ℕ) (table : List ℕ) (w : ℕ) (ws : 
       go lent legs place before closed list (d ∷ t ∷ []) m v g e nv (in_third k) =
           let o : Open = partly closed list (d ∷ t ∷ []) m in
           let next : Open = partly closed (list ++ configuration d t v ∷ []) [] empty in
-          let at : separate o (separator_of (length (closed ++ d ∷ t ∷ []))) v ≡ some next = rw (entry_slot_lem closed (d ∷ t ∷ []) 2 k refl, le-ltb (length closed) entry_slot (omega arith)) in
+          let at : separate o (separator_of (length (closed ++ d ∷ t ∷ []))) v ≡ Some next = rw (entry_slot_lem closed (d ∷ t ∷ []) 2 k refl, le-ltb (length closed) entry_slot (omega arith)) in
           rw (to_next o v next g.opened.slot_is e at) (x.entered lent legs place before closed list d t v g nv, refl)

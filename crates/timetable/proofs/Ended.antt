@@ -3,7 +3,6 @@ use Prim.Native.Nat.{ℕ, ◌+◌, ◌≤◌, ◌<◌}
 use mathlib.Core.Path.{◌≡◌, refl, ap, sym, ◌∙◌}
 use mathlib.Core.Bool.{Bool, true, false, not, cond, ◌&&◌, true≢false, false≢true}
 use mathlib.Core.List.{List, [], ◌∷◌, ◌++◌, append-nil}
-use mathlib.Core.Option.{none, some}
 use native.Mathlib.Omega.{arith}
 use lib.Dec.{leb, ltb}
 use lib.ListN.{length, get_or}
@@ -16,8 +15,6 @@ use Rattle.rules.specs.Bytes.{line_feed, is_digit}
 use Rattle.rules.specs.Timetable.{Row, configuration, in_range, judge_form}
 use Rattle.rules.specs.Verdict.{All}
 use Rattle.rules.specs.declared.sizes.Configuration.{Configuration}
-use Rattle.rules.specs.declared.sizes.LegMade.{LegMade}
-use Rattle.rules.specs.declared.sizes.LegMade.TheVariants.{Within}
 use Rattle.rules.proofs.Truth.{and_first, and_second}
 use Rattle.csv_machine.specs.Number as Row
 use Rattle.timetable_row.specs.declared.line.Line.{Line}
@@ -33,16 +30,17 @@ use Rattle.timetable.proofs.Words.{ids_low}
 use Rattle.timetable.proofs.Close.{entry_slot_lem}
 use Rattle.timetable.proofs.Judge.{row_from, eight_make, outcome, judged, lowest_none, lowest_positive}
 use Rattle.timetable.proofs.Accept.{accepted}
+use Rattle.rules.specs.declared.sizes.Leg.{Leg}
 
 -- ---- the row that ends
 
-pub end_row : (closed : List ℕ) (list : List Configuration) (d t v : ℕ) (m : Row.Number) → length closed ≡ entry_slot → Row.number_end m ≡ some v
-    → open_end (partly closed list (d ∷ t ∷ []) m) ≡ some (row_from closed (list ++ configuration d t v ∷ []))
+pub end_row : (closed : List ℕ) (list : List Configuration) (d t v : ℕ) (m : Row.Number) → length closed ≡ entry_slot → Row.number_end m ≡ Some v
+    → open_end (partly closed list (d ∷ t ∷ []) m) ≡ Some (row_from closed (list ++ configuration d t v ∷ []))
 unfolding open_end
 end_row closed list d t v m eight e = rw e (eight_make closed (list ++ configuration d t v ∷ []) eight)
 
 pub end_none : (closed : List ℕ) (list : List Configuration) (entry : List ℕ) (m : Row.Number) (v : ℕ) → Shaped closed list entry → (length (closed ++ entry) ≡ last_slot → ⊥)
-    → Row.number_end m ≡ some v → open_end (partly closed list entry m) ≡ none
+    → Row.number_end m ≡ Some v → open_end (partly closed list entry m) ≡ None
 unfolding open_end
 end_none closed list entry m v (in_head h) n e = rw e
 end_none closed list entry m v (in_first k) n e = rw e
@@ -68,7 +66,7 @@ row_bounds H line legs room at k e z a =
 
 -- the constructor makes its leg
 pub leg-made : (H : ℕ) (line : Line) (legs : List ℕ) (room : ℕ) → lowest (line_tests H line legs room) ≡ None
-    → leg_held line ≡ Within (leg_of line.numbers line.configurations line.entries line.nominal)
+    → leg_held line ≡ Some (leg_of line.numbers line.configurations line.entries line.nominal)
 leg-made H line legs room z =
     let holds = lowest_none (range_holds H line) (counts_hold line) (is_new line.rows line.above (get_or line.numbers 0 0) legs) (ltb line.nominal line.entries) (room_holds line (length legs) room) z in
     let n = line.numbers in
@@ -112,7 +110,7 @@ module _ (H : ℕ) (line whole line' : Line) (n at : ℕ) (k : Option ℕ) (legs
       }
     where
       go : (lent : Tables) (place : ℕ) (before : List Row) (closed : List ℕ) (list : List Configuration) (entry : List ℕ) (m : Row.Number) (v : ℕ)
-          → InLine H lent line (tables legs table) place before closed list entry → Row.number_end m ≡ some v → n ≡ held v → Shaped closed list entry
+          → InLine H lent line (tables legs table) place before closed list entry → Row.number_end m ≡ Some v → n ≡ held v → Shaped closed list entry
           → AfterLine H lent line' (tables legs' table') place at before (judge_form H (draft_room lent) before (open_end (partly closed list entry m)))
       go lent place before closed list entry m v g e nv (in_head h) = absurd (omega (arith, g.opened.slot_is, ap length (append-nil closed)))
       go lent place before closed list entry m v g e nv (in_first h) = absurd (omega (arith, g.opened.slot_is, entry_slot_lem closed [] 0 h refl))
@@ -132,7 +130,7 @@ module _ (H : ℕ) (line whole line' : Line) (n at : ℕ) (k : Option ℕ) (legs
           lowest_positive (range_holds H whole) (counts_hold whole) (is_new whole.rows whole.above (get_or whole.numbers 0 0) legs) (ltb whole.nominal whole.entries) (room_holds whole (length legs) (length table')) j
           (sym z ∙ lowest_is)
 
-  pub ended_right : k ≡ None → (made : LegMade) → made ≡ leg_held whole → legs' ≡ stored_leg whole.rows made legs → line' ≡ next_line whole at
+  pub ended_right : k ≡ None → (made : Option Leg) → made ≡ leg_held whole → legs' ≡ stored_leg whole.rows made legs → line' ≡ next_line whole at
       → Ended H line n at line' (tables legs table) (tables legs' table')
   ended_right z made m s l =
       by_judging
@@ -144,7 +142,7 @@ module _ (H : ℕ) (line whole line' : Line) (n at : ℕ) (k : Option ℕ) (legs
 
 -- ---- a byte that the open number does not take
 
-pub not-empty : (m : Row.Number) (x : Number) → x ≡ number_held m → is_empty x ≡ false → (v : ℕ) × (Row.number_end m ≡ some v) × (value_of x ≡ held v)
+pub not-empty : (m : Row.Number) (x : Number) → x ≡ number_held m → is_empty x ≡ false → (v : ℕ) × (Row.number_end m ≡ Some v) × (value_of x ≡ held v)
 not-empty Row.empty x e q = absurd (true≢false (sym (ap is_empty e) ∙ q))
 not-empty Row.zero x e q = (0, refl, ap value_of e)
 not-empty (Row.digits n) x e q = (n, refl, ap value_of e)
@@ -166,9 +164,9 @@ module _ (H : ℕ) (line line' : Line) (number : Number) (b at : ℕ) where
       }
     where
       go : (lent : Tables) (place : ℕ) (before : List Row) (o : Open) → InLine H lent line now place before o.closed o.list o.entry → o.number ≡ Row.empty
-          → (d : Bool) → Row.number_step o.number b ≡ none
+          → (d : Bool) → Row.number_step o.number b ≡ None
           → AfterByte H lent line' now place before
-          (cond d (Row.number_step o.number b >>= (λ m. some (partly o.closed o.list o.entry m))) (Row.number_end o.number >>= (λ n. separate o b n)))
+          (cond d (Row.number_step o.number b >>= (λ m. Some (partly o.closed o.list o.entry m))) (Row.number_end o.number >>= (λ n. separate o b n)))
       go lent place before o g n true q = rw (q, l) (refl, g.placed)
       go lent place before o g n false q = rw (n, l) (refl, g.placed)
 

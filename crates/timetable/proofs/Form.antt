@@ -4,7 +4,6 @@ use Prim.Native.Nat.{ℕ}
 use mathlib.Core.Path.{◌≡◌, refl, ap, sym, ◌∙◌}
 use mathlib.Core.Bool.{Bool, true, false}
 use mathlib.Core.List.{List, [], ◌∷◌, ◌++◌, append_assoc, append-nil}
-use mathlib.Core.Option.{Option, none, some}
 use native.Mathlib.Omega.{arith}
 use lib.Dec.{ltb}
 use lib.ListN.{length, get_or}
@@ -22,6 +21,7 @@ use Rattle.csv_machine.proofs.Number.{no_step, number_is_whole}
 use Rattle.csv_machine.proofs.Marks.{split_within}
 use Rattle.timetable.specs.Open.{Open, partly, start, separate, open_step, close_last, open_end}
 use Rattle.timetable_row.specs.Slots.{separators}
+use Rattle.std.specs.Prelude.{Option, Some, None}
 
 -- ---- a number
 
@@ -39,16 +39,16 @@ rest o s = run open_step o s >>= open_end
 
 -- no other byte than the separator closes the open number
 abbrev Wants : Open → ℕ → Type 0
-Wants o sep = (b n : ℕ) → (b ≡ sep → ⊥) → separate o b n ≡ none
+Wants o sep = (b n : ℕ) → (b ≡ sep → ⊥) → separate o b n ≡ None
 
 at_digit : (o : Open) (m : Number) (b : ℕ) (s : List ℕ) → is_digit b ≡ true
     → rest (with_number o m) (b ∷ s) ≡ (number_step m b >>= (λ next. rest (with_number o next) s))
 unfolding open_step
 at_digit o m b s d = rw d (then_some (number_step m b))
   where
-    then_some : (x : Option Number) → (((x >>= (λ next. some (with_number o next))) >>= (λ next. run open_step next s)) >>= open_end) ≡ (x >>= (λ next. rest (with_number o next) s))
-    then_some none = refl
-    then_some (some next) = refl
+    then_some : (x : Option Number) → (((x >>= (λ next. Some (with_number o next))) >>= (λ next. run open_step next s)) >>= open_end) ≡ (x >>= (λ next. rest (with_number o next) s))
+    then_some None = refl
+    then_some (Some next) = refl
 
 at_other : (o : Open) (m : Number) (b : ℕ) (s : List ℕ) → is_digit b ≡ false
     → rest (with_number o m) (b ∷ s) ≡ (number_end m >>= (λ n. separate o b n >>= (λ next. rest next s)))
@@ -71,15 +71,15 @@ module _ (o : Open) (sep : ℕ) (wants : Wants o sep) (tail : List ℕ) (more : 
     where
       stepped : (x : Option Number) → ((m : Number) → rest (with_number o m) (p ++ tail) ≡ (number_run m p >>= more))
           → (x >>= (λ next. rest (with_number o next) (p ++ tail))) ≡ (((x >>= (λ next. run number_step next p)) >>= number_end) >>= more)
-      stepped none ih = refl
-      stepped (some next) ih = ih next
+      stepped None ih = refl
+      stepped (Some next) ih = ih next
 
       go : (d : Bool) → is_digit b ≡ d → ((m : Number) → rest (with_number o m) (p ++ tail) ≡ (number_run m p >>= more))
           → rest (with_number o m) (b ∷ p ++ tail) ≡ (number_run m (b ∷ p) >>= more)
       go true d ih = at_digit o m b (p ++ tail) d ∙ stepped (number_step m b) ih
       go false d ih =
           at_other o m b (p ++ tail) d
-          ∙ then_same (number_end m) _ (λ n. none) (λ n. ap (λ (x : Option Open). x >>= (λ next. rest next (p ++ tail))) (wants b n f.0))
+          ∙ then_same (number_end m) _ (λ n. None) (λ n. ap (λ (x : Option Open). x >>= (λ next. rest next (p ++ tail))) (wants b n f.0))
           ∙ then_none (number_end m)
           ∙ sym (ap (λ (x : Option Number). ((x >>= (λ next. run number_step next p)) >>= number_end) >>= more) (no_step m b d))
 
@@ -87,32 +87,32 @@ module _ (o : Open) (sep : ℕ) (wants : Wants o sep) (tail : List ℕ) (more : 
   piece : (p : List ℕ) → Free sep p → o.number ≡ empty → rest o (p ++ tail) ≡ (whole_of p >>= more)
   piece p f e = let q : o ≡ with_number o empty = ap (with_number o) e in rw (← number_is_whole p) (ap (λ (x : Open). rest x (p ++ tail)) q ∙ up_to p f empty)
 
-none_of : {A B : Type 0} (x : Option A) (f : A → Option B) → ((a : A) → f a ≡ none) → (x >>= f) ≡ none
-none_of x f h = then_same x f (λ a. none) h ∙ then_none x
+none_of : {A B : Type 0} (x : Option A) (f : A → Option B) → ((a : A) → f a ≡ None) → (x >>= f) ≡ None
+none_of x f h = then_same x f (λ a. None) h ∙ then_none x
 
 -- the separator closes the number
-past : (o : Open) (sep : ℕ) (next : ℕ → Open) → is_digit sep ≡ false → ((n : ℕ) → separate o sep n ≡ some (next n))
+past : (o : Open) (sep : ℕ) (next : ℕ → Open) → is_digit sep ≡ false → ((n : ℕ) → separate o sep n ≡ Some (next n))
     → (s : List ℕ) (m : Number) → rest (with_number o m) (sep ∷ s) ≡ (number_end m >>= (λ n. rest (next n) s))
 past o sep next d to s m =
     at_other o m sep s d ∙ then_same (number_end m) _ _ (λ n. ap (λ (x : Option Open). x >>= (λ o. rest o s)) (to n))
 
 -- another byte that is no digit does not
-blocked : (o : Open) (sep b : ℕ) → Wants o sep → is_digit b ≡ false → (b ≡ sep → ⊥) → (s : List ℕ) (m : Number) → rest (with_number o m) (b ∷ s) ≡ none
+blocked : (o : Open) (sep b : ℕ) → Wants o sep → is_digit b ≡ false → (b ≡ sep → ⊥) → (s : List ℕ) (m : Number) → rest (with_number o m) (b ∷ s) ≡ None
 blocked o sep b wants d other s m =
     at_other o m b s d ∙ none_of (number_end m) _ (λ n. ap (λ (x : Option Open). x >>= (λ o. rest o s)) (wants b n other))
 
-field : (o : Open) (sep : ℕ) (next : ℕ → Open) → Wants o sep → is_digit sep ≡ false → ((n : ℕ) → separate o sep n ≡ some (next n)) → o.number ≡ empty
+field : (o : Open) (sep : ℕ) (next : ℕ → Open) → Wants o sep → is_digit sep ≡ false → ((n : ℕ) → separate o sep n ≡ Some (next n)) → o.number ≡ empty
     → (p s : List ℕ) → Free sep p → rest o (p ++ sep ∷ s) ≡ (whole_of p >>= (λ n. rest (next n) s))
 field o sep next wants d to e p s f = piece o sep wants (sep ∷ s) (λ n. rest (next n) s) (past o sep next d to s) p f e
 
-stuck : (o : Open) (sep : ℕ) → Wants o sep → o.number ≡ empty → (p tail : List ℕ) → Free sep p → ((m : Number) → rest (with_number o m) tail ≡ none) → rest o (p ++ tail) ≡ none
+stuck : (o : Open) (sep : ℕ) → Wants o sep → o.number ≡ empty → (p tail : List ℕ) → Free sep p → ((m : Number) → rest (with_number o m) tail ≡ None) → rest o (p ++ tail) ≡ None
 stuck o sep wants e p tail f h =
-    piece o sep wants tail (λ n. none) (λ m. h m ∙ sym (then_none (number_end m))) p f e ∙ then_none (whole_of p)
+    piece o sep wants tail (λ n. None) (λ m. h m ∙ sym (then_none (number_end m))) p f e ∙ then_none (whole_of p)
 
 -- ---- a configuration: what is left of it after its first and its second number
 
 abbrev third : ℕ → ℕ → List ℕ → Option Configuration
-third d t p = whole_of p >>= (λ p'. some (configuration d t p'))
+third d t p = whole_of p >>= (λ p'. Some (configuration d t p'))
 
 abbrev second : ℕ → List ℕ → List ℕ → Option Configuration
 second d t p = whole_of t >>= (λ t'. third d t' p)
@@ -126,15 +126,15 @@ record Three (sep : ℕ) : Type 0 where
   wants_one : Wants one underscore
   wants_two : (d : ℕ) → Wants (two d) underscore
   wants_three : (d t : ℕ) → Wants (three d t) sep
-  to_two : (d : ℕ) → separate one underscore d ≡ some (two d)
-  to_three : (d t : ℕ) → separate (two d) underscore t ≡ some (three d t)
+  to_two : (d : ℕ) → separate one underscore d ≡ Some (two d)
+  to_three : (d t : ℕ) → separate (two d) underscore t ≡ Some (three d t)
   empty_one : one.number ≡ empty
   empty_two : (d : ℕ) → (two d).number ≡ empty
   empty_three : (d t : ℕ) → (three d t).number ≡ empty
 
 module _ (sep : ℕ) (apart : underscore ≡ sep → ⊥) (o : Three sep) (tail : List ℕ) (more : ℕ → ℕ → ℕ → Option Row)
-    (no_one : (m : Number) → rest (with_number o.one m) tail ≡ none)
-    (no-two : (d : ℕ) (m : Number) → rest (with_number (o.two d) m) tail ≡ none)
+    (no_one : (m : Number) → rest (with_number o.one m) tail ≡ None)
+    (no-two : (d : ℕ) (m : Number) → rest (with_number (o.two d) m) tail ≡ None)
     (at-three : (d t : ℕ) (m : Number) → rest (with_number (o.three d t) m) tail ≡ (number_end m >>= more d t)) where
   abbrev then_more : Configuration → Option Row
   then_more c = more c.departure c.travel c.profile
@@ -159,7 +159,7 @@ module _ (sep : ℕ) (apart : underscore ≡ sep → ⊥) (o : Three sep) (tail 
       (λ d'. to_third d' t (p ++ tail) f.1.0
       ∙ then_same (whole_of t) _ _
       (λ t'. piece (o.three d' t') sep (o.wants_three d' t') tail (more d' t') (at-three d' t') p g.1.1.0 (o.empty_three d' t')
-      ∙ sym (then_then (whole_of p) (λ p'. some (configuration d' t' p')) then_more))
+      ∙ sym (then_then (whole_of p) (λ p'. Some (configuration d' t' p')) then_more))
       ∙ sym (then_then (whole_of t) (λ t'. third d' t' p) then_more))
       ∙ sym (then_then (whole_of d) (λ d'. second d' t p) then_more))
   parts (d ∷ t ∷ p ∷ x ∷ ps) f g =
@@ -201,15 +201,15 @@ module _ (closed : List ℕ) (whole : ltb (length closed) (length separators) �
 
   -- what follows the list does not close an entry's first or second number
   module _ (tail : List ℕ) (more : List Configuration → Option Row)
-      (no_one : (list : List Configuration) (m : Number) → rest (with_number (listed_three list).one m) tail ≡ none)
-      (no-two : (list : List Configuration) (d : ℕ) (m : Number) → rest (with_number ((listed_three list).two d) m) tail ≡ none)
+      (no_one : (list : List Configuration) (m : Number) → rest (with_number (listed_three list).one m) tail ≡ None)
+      (no-two : (list : List Configuration) (d : ℕ) (m : Number) → rest (with_number ((listed_three list).two d) m) tail ≡ None)
       (at-three : (list : List Configuration) (d t : ℕ) (m : Number)
       → rest (with_number ((listed_three list).three d t) m) tail ≡ (number_end m >>= (λ p. more (list ++ configuration d t p ∷ [])))) where
     entries : (list : List Configuration) (c : List ℕ) (cs : List (List ℕ)) → All (Free space) (c ∷ cs)
         → rest (listed list) (joined space (c ∷ cs) ++ tail) ≡ (each configuration_of (c ∷ cs) >>= (λ l. more (list ++ l)))
     entries list c [] f =
         configuration-run space (omega arith) (listed_three list) tail (λ d t p. more (list ++ configuration d t p ∷ [])) (no_one list) (no-two list) (at-three list) c f.0
-        ∙ sym (then_then (configuration_of c) (λ y. some (y ∷ [])) (λ l. more (list ++ l)))
+        ∙ sym (then_then (configuration_of c) (λ y. Some (y ∷ [])) (λ l. more (list ++ l)))
     entries list c (e ∷ cs) f =
         let later : List ℕ = joined space (e ∷ cs) ++ tail in
         rw (append_assoc c (space ∷ joined space (e ∷ cs)) tail)
@@ -221,9 +221,9 @@ module _ (closed : List ℕ) (whole : ltb (length closed) (length separators) �
         ∙ then_same (configuration_of c) _ (λ y. each configuration_of (e ∷ cs) >>= (λ l. more (list ++ y ∷ l)))
         (λ y. entries (list ++ y ∷ []) e cs f.1
         ∙ then_same (each configuration_of (e ∷ cs)) _ (λ l. more (list ++ y ∷ l)) (λ l. ap more (append_assoc list (y ∷ []) l)))
-        ∙ then_same (configuration_of c) _ (λ y. (each configuration_of (e ∷ cs) >>= (λ l. some (y ∷ l))) >>= (λ l. more (list ++ l)))
-        (λ y. sym (then_then (each configuration_of (e ∷ cs)) (λ l. some (y ∷ l)) (λ l. more (list ++ l))))
-        ∙ sym (then_then (configuration_of c) (λ y. each configuration_of (e ∷ cs) >>= (λ l. some (y ∷ l))) (λ l. more (list ++ l))))
+        ∙ then_same (configuration_of c) _ (λ y. (each configuration_of (e ∷ cs) >>= (λ l. Some (y ∷ l))) >>= (λ l. more (list ++ l)))
+        (λ y. sym (then_then (each configuration_of (e ∷ cs)) (λ l. Some (y ∷ l)) (λ l. more (list ++ l))))
+        ∙ sym (then_then (configuration_of c) (λ y. each configuration_of (e ∷ cs) >>= (λ l. Some (y ∷ l))) (λ l. more (list ++ l))))
 
     list-run : (s : List ℕ) → rest (listed []) (s ++ tail) ≡ (list_of s >>= more)
     list-run s =
@@ -247,7 +247,7 @@ module _ (closed : List ℕ) (few : ltb (length closed) (length separators) ≡ 
   id_run = field in_id comma (λ n. partly (closed ++ n ∷ []) [] [] empty) id_wants refl (λ n. rw (few, id)) refl
 
   -- a row that ends in an id
-  id_last : (p : List ℕ) → Free comma p → rest in_id p ≡ none
+  id_last : (p : List ℕ) → Free comma p → rest in_id p ≡ None
   id_last p f =
       ap (rest in_id) (sym (append-nil p)) ∙ stuck in_id comma id_wants refl p [] f (λ m. at-end in_id m ∙ then_none (number_end m))
 
@@ -278,11 +278,11 @@ module _ (a b c d e : ℕ) where
   in_nominal = partly (five_ids a b c d e) [] [] empty
 
   -- a row that ends in the nominal
-  nominal_last : (s : List ℕ) → Free comma s → rest in_nominal s ≡ none
+  nominal_last : (s : List ℕ) → Free comma s → rest in_nominal s ≡ None
   nominal_last s f =
       let o : Three comma = nominal_three a b c d e in
       ap (rest in_nominal) (sym (append-nil s))
-      ∙ configuration-run comma (omega arith) o [] (λ x y z. none)
+      ∙ configuration-run comma (omega arith) o [] (λ x y z. None)
       (λ m. at-end o.one m ∙ then_none (number_end m))
       (λ x m. at-end (o.two x) m ∙ then_none (number_end m))
       (λ x y m. at-end (o.three x y) m)
@@ -303,19 +303,19 @@ module _ (a b c d e : ℕ) where
     list_three = listed_three (eight a b c d e n) refl
 
     -- the list is the last field
-    list-last : (s : List ℕ) → rest (partly (eight a b c d e n) [] [] empty) s ≡ (list_of s >>= (λ l. some (row a b c d e n l)))
+    list-last : (s : List ℕ) → rest (partly (eight a b c d e n) [] [] empty) s ≡ (list_of s >>= (λ l. Some (row a b c d e n l)))
     list-last s =
         ap (rest (partly (eight a b c d e n) [] [] empty)) (sym (append-nil s))
-        ∙ list-run (eight a b c d e n) refl [] (λ l. some (row a b c d e n l))
+        ∙ list-run (eight a b c d e n) refl [] (λ l. Some (row a b c d e n l))
         (λ l m. at-end (list_three l).one m ∙ then_none (number_end m))
         (λ l x m. at-end ((list_three l).two x) m ∙ then_none (number_end m))
         (λ l x y m. at-end ((list_three l).three x y) m)
         s
 
     -- and no field follows it
-    list_over : (s t : List ℕ) → rest (partly (eight a b c d e n) [] [] empty) (s ++ comma ∷ t) ≡ none
+    list_over : (s t : List ℕ) → rest (partly (eight a b c d e n) [] [] empty) (s ++ comma ∷ t) ≡ None
     list_over s t =
-        list-run (eight a b c d e n) refl (comma ∷ t) (λ l. none)
+        list-run (eight a b c d e n) refl (comma ∷ t) (λ l. None)
         (λ l. blocked (list_three l).one underscore comma (list_three l).wants_one refl (omega arith) t)
         (λ l x. blocked ((list_three l).two x) underscore comma ((list_three l).wants_two x) refl (omega arith) t)
         (λ l x y m. blocked ((list_three l).three x y) space comma ((list_three l).wants_three x y) refl (omega arith) t m ∙ sym (then_none (number_end m)))
@@ -342,7 +342,7 @@ ids-run a b c d e s f more h =
     (λ d'. id_run (a' ∷ b' ∷ c' ∷ d' ∷ []) refl refl e s f.1.1.1.1.0 ∙ then_same (whole_of e) _ _ (λ e'. h a' b' c' d' e')))))
 
 -- ids and then nothing that makes a row
-ids-none : (a b c d e : List ℕ) → after_ids a b c d e (λ a' b' c' d' e'. none) ≡ none
+ids-none : (a b c d e : List ℕ) → after_ids a b c d e (λ a' b' c' d' e'. None) ≡ None
 ids-none a b c d e =
     none_of (whole_of a) _ (λ a'. none_of (whole_of b) _ (λ b'. none_of (whole_of c) _ (λ c'. none_of (whole_of d) _ (λ d'. then_none (whole_of e)))))
 
@@ -371,16 +371,16 @@ seven (a ∷ b ∷ c ∷ d ∷ e ∷ []) f =
     (λ c'. id_run (a' ∷ b' ∷ c' ∷ []) refl refl d e f.1.1.1.0
     ∙ none_of (whole_of d) _ (λ d'. id_last (a' ∷ b' ∷ c' ∷ d' ∷ []) refl refl e f.1.1.1.1.0))))
 seven (a ∷ b ∷ c ∷ d ∷ e ∷ n ∷ []) f =
-    ids-run a b c d e n (f.0, (f.1.0, (f.1.1.0, (f.1.1.1.0, (f.1.1.1.1.0, tt))))) (λ a' b' c' d' e'. none)
+    ids-run a b c d e n (f.0, (f.1.0, (f.1.1.0, (f.1.1.1.0, (f.1.1.1.1.0, tt))))) (λ a' b' c' d' e'. None)
     (λ a' b' c' d' e'. nominal_last a' b' c' d' e' n f.1.1.1.1.1.0)
     ∙ ids-none a b c d e
 seven (a ∷ b ∷ c ∷ d ∷ e ∷ n ∷ l ∷ []) f =
     ids-run a b c d e (n ++ comma ∷ l) (f.0, (f.1.0, (f.1.1.0, (f.1.1.1.0, (f.1.1.1.1.0, tt)))))
-    (λ a' b' c' d' e'. configuration_of n >>= (λ n'. list_of l >>= (λ l'. some (row a' b' c' d' e' n' l'))))
+    (λ a' b' c' d' e'. configuration_of n >>= (λ n'. list_of l >>= (λ l'. Some (row a' b' c' d' e' n' l'))))
     (λ a' b' c' d' e'. nominal_run a' b' c' d' e' n l f.1.1.1.1.1.0 ∙ then_same (configuration_of n) _ _ (λ n'. list-last a' b' c' d' e' n' l))
 seven (a ∷ b ∷ c ∷ d ∷ e ∷ n ∷ l ∷ x ∷ more) f =
     ids-run a b c d e (n ++ comma ∷ (l ++ comma ∷ joined comma (x ∷ more))) (f.0, (f.1.0, (f.1.1.0, (f.1.1.1.0, (f.1.1.1.1.0, tt)))))
-    (λ a' b' c' d' e'. none)
+    (λ a' b' c' d' e'. None)
     (λ a' b' c' d' e'.
     nominal_run a' b' c' d' e' n (l ++ comma ∷ joined comma (x ∷ more)) f.1.1.1.1.1.0
     ∙ none_of (configuration_of n) _ (λ n'. list_over a' b' c' d' e' n' l (joined comma (x ∷ more))))

@@ -3,14 +3,12 @@ use Prim.Native.Nat.{ℕ, suc, ◌+◌, ◌*◌, ◌/◌, ◌≤◌, ◌<◌}
 use mathlib.Core.Path.{◌≡◌, refl, ap, sym, ◌∙◌, subst}
 use mathlib.Core.Bool.{Bool, true, false, not, cond, ◌&&◌, ◌||◌}
 use mathlib.Core.List.{List, [], ◌∷◌, ◌++◌, append-nil}
-use mathlib.Core.Option
-use mathlib.Core.Option.{some}
 use native.Mathlib.Omega.{arith}
 use lib.Dec.{leb, ltb, eqb}
 use lib.ListN.{length, get_or, drop}
 use lib.Seq.{get_or-take}
 use borrow.Author.Tests.{leb-true, leb-false, lt-leb, lt-ltb, le-ltb, ne_eqb}
-use Rattle.std.specs.Prelude.{Option, Some, None}
+use Rattle.std.specs.Prelude.{Option, Some, None, unwrap_or}
 use Rattle.rules.specs.Limits.{most_id, most_legs, most_listed, most_configurations, leg_width}
 use Rattle.rules.specs.Lists.{every, any, flat, place_from, over}
 use Rattle.rules.specs.Answers.{Judged, wrong, right, judge, out_of_range, too_many, already_seen, nominal_not_listed, no_room, ◌needs◌}
@@ -33,7 +31,7 @@ use Rattle.timetable.proofs.Words.{held_all, range_held, exact, leb_alike, ids_l
 abbrev pub row_from : List ℕ → List Configuration → Row
 row_from closed list = row (get_or closed 0 0) (get_or closed 1 0) (get_or closed 2 0) (get_or closed 3 0) (get_or closed 4 0) (nominal_of closed) list
 
-pub eight_make : (closed : List ℕ) (list : List Configuration) → length closed ≡ entry_slot → row_of closed list ≡ some (row_from closed list)
+pub eight_make : (closed : List ℕ) (list : List Configuration) → length closed ≡ entry_slot → row_of closed list ≡ Some (row_from closed list)
 eight_make [] l e = absurd (omega arith)
 eight_make (a ∷ []) l e = absurd (omega arith)
 eight_make (a ∷ b ∷ []) l e = absurd (omega arith)
@@ -55,12 +53,12 @@ leading-any p (x ∷ xs) = go (p x) (leading-any p xs)
     go true h = lt-ltb 0 (suc (length xs)) (omega arith)
     go false h = leb_alike (suc (suc (leading p xs))) (suc (length xs)) (suc (leading p xs)) (length xs) (λ q. omega arith) (λ q. omega arith) ∙ h
 
-pub leading_place : {A : Type 0} (p : A → Bool) (xs : List A) (k : ℕ) → any p xs ≡ true → Option.get_or (place_from k p xs) 0 ≡ k + leading p xs
+pub leading_place : {A : Type 0} (p : A → Bool) (xs : List A) (k : ℕ) → any p xs ≡ true → unwrap_or (place_from k p xs) 0 ≡ k + leading p xs
 leading_place p [] k e = let z : ◌≡◌ {A = ℕ} 0 1 = cc in absurd (omega arith)
 leading_place p (x ∷ xs) k e = go (p x) (leading_place p xs (suc k)) e
   where
-    go : (t : Bool) → (any p xs ≡ true → Option.get_or (place_from (suc k) p xs) 0 ≡ suc k + leading p xs) → (t || any p xs) ≡ true
-        → Option.get_or (cond t (some k) (place_from (suc k) p xs)) 0 ≡ k + cond t 0 (suc (leading p xs))
+    go : (t : Bool) → (any p xs ≡ true → unwrap_or (place_from (suc k) p xs) 0 ≡ suc k + leading p xs) → (t || any p xs) ≡ true
+        → unwrap_or (cond t (Some k) (place_from (suc k) p xs)) 0 ≡ k + cond t 0 (suc (leading p xs))
     go true h f = omega arith
     go false h f = h f ∙ omega arith
 

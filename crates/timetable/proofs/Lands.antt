@@ -3,7 +3,6 @@ use Prim.Native.Nat.{ℕ, suc}
 use mathlib.Core.Path.{◌≡◌, refl, ap, sym, subst, ◌∙◌}
 use mathlib.Core.Bool.{Bool, true, false}
 use mathlib.Core.List.{List}
-use mathlib.Core.Option.{Option, none, some}
 use native.Mathlib.Omega.{arith}
 use lib.Dec.{eqb}
 use lib.ListN.{length}
@@ -24,6 +23,7 @@ use Rattle.timetable.specs.Open.{Open, Reached, start, open_step, open_end, open
 use Rattle.timetable.specs.Held.{number_held, Tables, AfterByte}
 use Rattle.timetable.specs.Ended.{draft_room, AfterLine}
 use Rattle.timetable.specs.Text.{Holds, drafted, After}
+use Rattle.std.specs.Prelude.{Option, Some, None}
 
 module _ (H : ℕ) (lent : Tables) where
   -- ---- a byte of an open row
@@ -63,8 +63,8 @@ module _ (H : ℕ) (lent : Tables) where
 
       on_byte_lem : (x : Option Open) → AfterByte H lent line now place before x
           → Holds H lent (suc at) m (length timetable_header) Empty line now (on_byte (machine H timetable_file (draft_room lent)) place at before (marked_step m x))
-      on_byte_lem none h = (h.0, h.1, omega arith)
-      on_byte_lem (some o) h = (o, refl, refl, sym (ap number_held h.1), h.0, omega arith)
+      on_byte_lem None h = (h.0, h.1, omega arith)
+      on_byte_lem (Some o) h = (o, refl, refl, sym (ap number_held h.1), h.0, omega arith)
 
       pub lands_content : Content m ≡ turned mark b (open_begins o) → After H lent line now place at before o b
           → Holds H lent (suc at) m (length timetable_header) Empty line now (drafted H lent here b)
@@ -83,7 +83,7 @@ module _ (H : ℕ) (lent : Tables) where
     lands_plain line now p after = lands_content line now mark (plain_turn mark b (open_begins o) p) after
 
     -- a byte that the contents take
-    pub lands_step : (o' : Open) → plain_under mark b ≡ true → eqb b line_feed ≡ false → open_step o b ≡ some o'
+    pub lands_step : (o' : Open) → plain_under mark b ≡ true → eqb b line_feed ≡ false → open_step o b ≡ Some o'
         → drafted H lent here b ≡ in_row place (suc at) before (marked mark o')
     lands_step o' p e s =
         (row_leads place at before mark o b (Content mark) (plain_turn mark b (open_begins o) p)).0 e

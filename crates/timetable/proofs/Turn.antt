@@ -3,7 +3,6 @@ use Prim.Native.Nat.{ℕ, suc, ◌+◌, ◌*◌, ◌-◌, ◌≤◌, ◌<◌}
 use mathlib.Core.Path.{◌≡◌, refl, ap, sym, subst, ◌∙◌}
 use mathlib.Core.Bool.{Bool, true, false, cond, true≢false}
 use mathlib.Core.List.{List, [], ◌∷◌}
-use mathlib.Core.Option.{none, some}
 use native.Mathlib.Omega.{arith}
 use native.Mathlib.Nat.{add-zero}
 use native.Mathlib.Numerals.{add-one}
@@ -50,8 +49,8 @@ digit_plain : (mark : Mark) (b : ℕ) → takes mark ≡ true → is_digit b ≡
 digit_plain mark b t d =
     plain_other mark b t (other_byte b quote refl d) (other_byte b carriage_return refl d) (other_byte b line_feed refl d) (other_byte b comma refl d)
 
-digit_taken : (closed : List ℕ) (list : List Configuration) (entry : List ℕ) (m m' : Row.Number) (b : ℕ) → is_digit b ≡ true → Row.number_step m b ≡ some m'
-    → open_step (partly closed list entry m) b ≡ some (partly closed list entry m')
+digit_taken : (closed : List ℕ) (list : List Configuration) (entry : List ℕ) (m m' : Row.Number) (b : ℕ) → is_digit b ≡ true → Row.number_step m b ≡ Some m'
+    → open_step (partly closed list entry m) b ≡ Some (partly closed list entry m')
 unfolding open_step
 digit_taken closed list entry m m' b d e = rw (d, e)
 
@@ -63,7 +62,7 @@ module _ (H : ℕ) (lent : Tables) (mark : Mark) (open_mark : takes mark ≡ tru
   step = drafted H lent
 
   digit_step : (place n : ℕ) (before : List Row) (closed : List ℕ) (list : List Configuration) (entry : List ℕ) (m m' : Row.Number) (b : ℕ)
-      → is_digit b ≡ true → Row.number_step m b ≡ some m'
+      → is_digit b ≡ true → Row.number_step m b ≡ Some m'
       → step (in_row place n before (marked mark (partly closed list entry m))) b ≡ in_row place (suc n) before (marked mark (partly closed list entry m'))
   digit_step place n before closed list entry m m' b d e =
       lands_step H lent place n before mark (partly closed list entry m) b (partly closed list entry m') (digit_plain mark b open_mark d) (other_byte b line_feed refl d)
@@ -76,13 +75,13 @@ module _ (H : ℕ) (lent : Tables) (mark : Mark) (open_mark : takes mark ≡ tru
     pub inside : count ≤ length s
     pub next_is : t.next ≡ i + count
     pub number_is : t.number ≡ number_held number
-    pub stops : count < length s → Row.number_step number (get_or s count 0) ≡ none
+    pub stops : count < length s → Row.number_step number (get_or s count 0) ≡ None
     pub same : (place n : ℕ) (before : List Row) (closed : List ℕ) (list : List Configuration) (entry : List ℕ)
         → fold step (in_row place (n + count) before (marked mark (partly closed list entry number))) (drop count s)
         ≡ fold step (in_row place n before (marked mark (partly closed list entry m₀))) s
 
   -- nothing more
-  took_none : (m : Row.Number) (s : List ℕ) (i : ℕ) → (0 < length s → Row.number_step m (get_or s 0 0) ≡ none) → Took m s i (taken (number_held m) i)
+  took_none : (m : Row.Number) (s : List ℕ) (i : ℕ) → (0 < length s → Row.number_step m (get_or s 0 0) ≡ None) → Took m s i (taken (number_held m) i)
   took_none m s i h =
       record {
         count = 0;
@@ -96,7 +95,7 @@ module _ (H : ℕ) (lent : Tables) (mark : Mark) (open_mark : takes mark ≡ tru
       }
 
   -- a digit more
-  took_one : (m₀ m : Row.Number) (b : ℕ) (s : List ℕ) (i : ℕ) (t : Taken) → is_digit b ≡ true → Row.number_step m₀ b ≡ some m → Took m s (i + 1) t → Took m₀ (b ∷ s) i t
+  took_one : (m₀ m : Row.Number) (b : ℕ) (s : List ℕ) (i : ℕ) (t : Taken) → is_digit b ≡ true → Row.number_step m₀ b ≡ Some m → Took m s (i + 1) t → Took m₀ (b ∷ s) i t
   took_one m₀ m b s i t d e w =
       record {
         count = suc w.count;
@@ -269,7 +268,7 @@ module _ (H read : ℕ) (part : List ℕ) (from : ℕ) (mark₀ : Mark) (number�
         let o' : Open = partly o.closed o.list o.entry w.number in
         let b : ℕ = get_or part t.next 0 in
         let byte : get_or (drop i part) w.count 0 ≡ b = get_or-drop i part w.count 0 ∙ ap (λ (x : ℕ). get_or part x 0) (sym next) in
-        let stops : Row.number_step w.number b ≡ none = sym (ap (Row.number_step w.number) byte) ∙ w.stops (omega (arith, length-drop i part)) in
+        let stops : Row.number_step w.number b ≡ None = sym (ap (Row.number_step w.number) byte) ∙ w.stops (omega (arith, length-drop i part)) in
         let there : at ≡ read + i + w.count = omega arith in
         let after : suc at ≡ read + (t.next + 1) = omega arith in
         let here : Reached = in_row place at before (marked mark o') in

@@ -3,16 +3,15 @@ use Prim.Native.Nat.{ℕ, suc, ◌/◌, ◌≤◌, ◌<◌}
 use mathlib.Core.Path.{◌≡◌, refl, ap, sym, ◌∙◌}
 use mathlib.Core.Bool.{Bool, true, false, cond}
 use mathlib.Core.List.{List, [], ◌∷◌, append-nil}
-use mathlib.Core.Option.{Option, none, some}
 use native.Mathlib.Omega.{arith}
 use lib.Dec.{eqb}
 use lib.ListN.{length}
 use mir.Syntax.{w32}
 use mir.Val.{Fits}
 use borrow.Author.Tests.{lt-leb, eqb-true}
-use Rattle.std.specs.Prelude.{Result, Err}
+use Rattle.std.specs.Prelude.{Result, Err, is_some, Option, Some, None}
 use Rattle.rules.specs.Limits.{most_text, leg_width, configuration_width}
-use Rattle.rules.specs.Lists.{is_some, flat, over}
+use Rattle.rules.specs.Lists.{flat, over}
 use Rattle.rules.specs.Answers.{refusal, too_long, bad_row, timetable_file, Reading, refused, good, Judged, wrong, right}
 use Rattle.rules.specs.Bytes.{line_feed}
 use Rattle.rules.specs.Rows.{csv_of}
@@ -25,7 +24,7 @@ use Rattle.csv_machine.specs.Machine.{in_header, in_row, broken, stopped, on_hea
 use Rattle.csv_machine.proofs.Contents.{text_by_bytes}
 use Rattle.timetable_row.specs.declared.number.Number.TheVariants.{Empty}
 use Rattle.timetable.specs.declared.reader.Reader.{Reader}
-use Rattle.timetable_row.specs.declared.fault.Fault.{Fault}
+use Rattle.rules.specs.declared.answers.Fault.{Fault}
 use Rattle.timetable_row.specs.Faults.{fault_at}
 use Rattle.timetable.specs.declared.reader.Rows.{Rows}
 use Rattle.timetable_row.specs.Digits.{most_held}
@@ -70,12 +69,12 @@ Fresh (stopped k place) = Unit {0}
 
 module _ (H : ℕ) (lent : Tables) where
   fresh_head : (n : ℕ) (k : Option (Marked Named)) → Fresh (on_head (machine H timetable_file (draft_room lent)) n k)
-  fresh_head n none = tt
-  fresh_head n (some k) = tt
+  fresh_head n None = tt
+  fresh_head n (Some k) = tt
 
   fresh-byte : (place n : ℕ) (before : List Row) (o : Option (Marked Open)) → place ≤ n → Fresh (on_byte (machine H timetable_file (draft_room lent)) place n before o)
-  fresh-byte place n before none h = tt
-  fresh-byte place n before (some o) h = (omega arith, λ e. absurd (omega arith))
+  fresh-byte place n before None h = tt
+  fresh-byte place n before (Some o) h = (omega arith, λ e. absurd (omega arith))
 
   fresh-line : (place n : ℕ) (before : List Row) (j : Judged Row) → Fresh (on_line (machine H timetable_file (draft_room lent)) place n before j)
   fresh-line place n before (wrong k) = tt

@@ -1,6 +1,5 @@
 -- What a row that is over gives: its fault, or the next row.
 use Rattle.std.specs.Prelude.{Some, ℕ, suc, ◌/◌, ◌<◌, ◌≡◌, Bool, List, [], ◌∷◌, ◌++◌, length}
-use Rattle.std.proofs.Math.Option.{some}
 use Rattle.rules.specs.Limits.{leg_width, configuration_width}
 use Rattle.rules.specs.Answers.{Judged, wrong, right}
 use Rattle.rules.specs.Timetable.{Row, judge_form, draft_fits}
@@ -21,5 +20,5 @@ AfterLine H lent line now place at before (right row) = InLine H lent line now (
 
 pub record Ended (H : ℕ) (line : Line) (n at : ℕ) (line' : Line) (now now' : Tables) : Type 0 where
   pub ends : (lent : Tables) (place : ℕ) (before : List Row) (o : Open) (v : ℕ)
-      → InLine H lent line now place before o.closed o.list o.entry → number_end o.number ≡ some v → n ≡ held v
+      → InLine H lent line now place before o.closed o.list o.entry → number_end o.number ≡ Some v → n ≡ held v
       → AfterLine H lent line' now' place at before (judge_form H (draft_room lent) before (open_end o))

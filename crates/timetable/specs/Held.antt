@@ -1,6 +1,5 @@
 -- What the reader holds of the rows before and of the open row, and what the tables hold of them.
-use Rattle.std.specs.Prelude.{None, Some, ℕ, suc, ◌+◌, ◌*◌, ◌≤◌, ◌<◌, min, ◌≡◌, Bool, true, not, cond, List, [], ◌∷◌, ◌++◌, map, length, take, set}
-use Rattle.std.proofs.Math.Option.{Option, none, some}
+use Rattle.std.specs.Prelude.{None, Some, ℕ, suc, ◌+◌, ◌*◌, ◌≤◌, ◌<◌, min, ◌≡◌, Bool, true, not, cond, List, [], ◌∷◌, ◌++◌, map, length, take, set, Option}
 use Rattle.rules.specs.Limits.{most_legs, most_listed, most_configurations, leg_width, configuration_width}
 use Rattle.rules.specs.Lists.{every, flat, over}
 use Rattle.rules.specs.Answers.{bad_row}
@@ -121,11 +120,11 @@ pub record Entered (H : ℕ) (line : Line) (p : ℕ) (line' : Line) (table table
 
 -- what a byte that no digit follows must give: the row goes on with an empty number, or breaks its form
 abbrev pub AfterByte : (H : ℕ) (lent : Tables) (line : Line) (now : Tables) (place : ℕ) → List Row → Option Open → Type 0
-AfterByte H lent line now place before none = (line.fault ≡ Some bad_row) × (line.place ≡ place)
-AfterByte H lent line now place before (some o) = InLine H lent line now place before o.closed o.list o.entry × (o.number ≡ empty)
+AfterByte H lent line now place before None = (line.fault ≡ Some bad_row) × (line.place ≡ place)
+AfterByte H lent line now place before (Some o) = InLine H lent line now place before o.closed o.list o.entry × (o.number ≡ empty)
 
 -- what closing a number, held as n, by a byte that it does not take must give
 pub record Closed (H : ℕ) (line : Line) (n b : ℕ) (line' : Line) (table table' : List ℕ) : Type 0 where
   pub closes : (lent : Tables) (legs : List ℕ) (place : ℕ) (before : List Row) (o : Open) (v : ℕ)
-      → InLine H lent line (tables legs table) place before o.closed o.list o.entry → number_end o.number ≡ some v → n ≡ held v → number_step o.number b ≡ none
+      → InLine H lent line (tables legs table) place before o.closed o.list o.entry → number_end o.number ≡ Some v → n ≡ held v → number_step o.number b ≡ None
       → AfterByte H lent line' (tables legs table') place before (open_step o b)

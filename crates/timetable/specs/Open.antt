@@ -1,6 +1,5 @@
 -- A row of a timetable byte by byte: eight numbers up to the list, then configurations, three numbers each.
-use Rattle.std.specs.Prelude.{ℕ, Bool, false, cond, ◌||◌, List, [], ◌∷◌, ◌++◌, leb, ltb, eqb, length, get_or}
-use Rattle.std.proofs.Math.Option.{Option, none, some}
+use Rattle.std.specs.Prelude.{ℕ, Bool, false, cond, ◌||◌, List, [], ◌∷◌, ◌++◌, leb, ltb, eqb, length, get_or, Option, Some, None}
 use Rattle.rules.specs.Lists.{◌>>=◌}
 use Rattle.rules.specs.Answers.{Reading}
 use Rattle.rules.specs.Bytes.{is_digit, space, underscore}
@@ -28,14 +27,14 @@ start = partly [] [] [] empty
 
 -- a number before the list, of value n, is closed by the byte b
 abbrev pub close_head : Open → (b n : ℕ) → Option Open
-close_head o b n = cond (eqb b (get_or separators (length o.closed) 0)) (some (partly (o.closed ++ n ∷ []) [] [] empty)) none
+close_head o b n = cond (eqb b (get_or separators (length o.closed) 0)) (Some (partly (o.closed ++ n ∷ []) [] [] empty)) None
 
 -- a number of the list is closed: the third of an entry by a space
 abbrev pub close_entry : List ℕ → List Configuration → List ℕ → (b n : ℕ) → Option Open
-close_entry closed list [] b n = cond (eqb b underscore) (some (partly closed list (n ∷ []) empty)) none
-close_entry closed list (d ∷ []) b n = cond (eqb b underscore) (some (partly closed list (d ∷ n ∷ []) empty)) none
-close_entry closed list (d ∷ t ∷ []) b n = cond (eqb b space) (some (partly closed (list ++ configuration d t n ∷ []) [] empty)) none
-close_entry closed list (d ∷ t ∷ p ∷ more) b n = none
+close_entry closed list [] b n = cond (eqb b underscore) (Some (partly closed list (n ∷ []) empty)) None
+close_entry closed list (d ∷ []) b n = cond (eqb b underscore) (Some (partly closed list (d ∷ n ∷ []) empty)) None
+close_entry closed list (d ∷ t ∷ []) b n = cond (eqb b space) (Some (partly closed (list ++ configuration d t n ∷ []) [] empty)) None
+close_entry closed list (d ∷ t ∷ p ∷ more) b n = None
 
 abbrev pub separate : Open → (b n : ℕ) → Option Open
 separate o b n = cond (ltb (length o.closed) (length separators)) (close_head o b n) (close_entry o.closed o.list o.entry b n)
@@ -44,27 +43,27 @@ separate o b n = cond (ltb (length o.closed) (length separators)) (close_head o 
 unfoldable pub open_step : Open → ℕ → Option Open
 open_step o b =
     cond (is_digit b)
-    (number_step o.number b >>= (λ m. some (partly o.closed o.list o.entry m)))
+    (number_step o.number b >>= (λ m. Some (partly o.closed o.list o.entry m)))
     (number_end o.number >>= (λ n. separate o b n))
 
 -- a row that ends here
 abbrev pub row_of : List ℕ → List Configuration → Option Row
-row_of [] list = none
-row_of (a ∷ []) list = none
-row_of (a ∷ b ∷ []) list = none
-row_of (a ∷ b ∷ c ∷ []) list = none
-row_of (a ∷ b ∷ c ∷ d ∷ []) list = none
-row_of (a ∷ b ∷ c ∷ d ∷ e ∷ []) list = none
-row_of (a ∷ b ∷ c ∷ d ∷ e ∷ f ∷ []) list = none
-row_of (a ∷ b ∷ c ∷ d ∷ e ∷ f ∷ g ∷ []) list = none
-row_of (a ∷ b ∷ c ∷ d ∷ e ∷ f ∷ g ∷ h ∷ []) list = some (row a b c d e (configuration f g h) list)
-row_of (a ∷ b ∷ c ∷ d ∷ e ∷ f ∷ g ∷ h ∷ i ∷ more) list = none
+row_of [] list = None
+row_of (a ∷ []) list = None
+row_of (a ∷ b ∷ []) list = None
+row_of (a ∷ b ∷ c ∷ []) list = None
+row_of (a ∷ b ∷ c ∷ d ∷ []) list = None
+row_of (a ∷ b ∷ c ∷ d ∷ e ∷ []) list = None
+row_of (a ∷ b ∷ c ∷ d ∷ e ∷ f ∷ []) list = None
+row_of (a ∷ b ∷ c ∷ d ∷ e ∷ f ∷ g ∷ []) list = None
+row_of (a ∷ b ∷ c ∷ d ∷ e ∷ f ∷ g ∷ h ∷ []) list = Some (row a b c d e (configuration f g h) list)
+row_of (a ∷ b ∷ c ∷ d ∷ e ∷ f ∷ g ∷ h ∷ i ∷ more) list = None
 
 abbrev pub close_last : List ℕ → List Configuration → List ℕ → (n : ℕ) → Option Row
-close_last closed list [] n = none
-close_last closed list (d ∷ []) n = none
+close_last closed list [] n = None
+close_last closed list (d ∷ []) n = None
 close_last closed list (d ∷ t ∷ []) n = row_of closed (list ++ configuration d t n ∷ [])
-close_last closed list (d ∷ t ∷ p ∷ more) n = none
+close_last closed list (d ∷ t ∷ p ∷ more) n = None
 
 unfoldable pub open_end : Open → Option Row
 open_end o = number_end o.number >>= (λ n. close_last o.closed o.list o.entry n)

@@ -4,7 +4,7 @@ use Rattle.rules.specs.Limits.{leg_width, configuration_width}
 use Rattle.rules.specs.Lists.{flat, over}
 use Rattle.rules.specs.Answers.{Reading, refused, good}
 use Rattle.rules.specs.Timetable.{Row, listed, legs_of, leg_numbers, configurations_of, configuration_numbers, timetable_of}
-use Rattle.timetable_row.specs.declared.fault.Fault.{Fault}
+use Rattle.rules.specs.declared.answers.Fault.{Fault}
 use Rattle.timetable_row.specs.Faults.{fault_at}
 use Rattle.timetable.specs.declared.reader.Rows.{Rows}
 use Rattle.timetable.specs.Held.{Tables}

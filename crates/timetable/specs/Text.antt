@@ -1,6 +1,5 @@
 -- How far a text is read: what the reader and the tables hold there, in the header, in a row, and after a fault.
 use Rattle.std.specs.Prelude.{None, Some, Result, ℕ, ◌+◌, ◌≤◌, ◌<◌, ◌≡◌, Bool, true, false, cond, List, leb, eqb, length, get_or, drop, replicate}
-use Rattle.std.proofs.Math.Option.{none}
 use Rattle.rules.specs.Limits.{most_text}
 use Rattle.rules.specs.Answers.{timetable_file}
 use Rattle.rules.specs.Bytes.{line_feed}
@@ -20,7 +19,7 @@ use Rattle.csv_marks.specs.Turns.{marked, takes, plain_under, turned}
 use Rattle.csv_header.specs.Heading.{name_at}
 use Rattle.timetable.specs.declared.reader.Run.{Run}
 use Rattle.timetable.specs.declared.reader.Reader.{Reader}
-use Rattle.timetable_row.specs.declared.fault.Fault.{Fault}
+use Rattle.rules.specs.declared.answers.Fault.{Fault}
 use Rattle.timetable.specs.declared.reader.Rows.{Rows}
 use Rattle.timetable.specs.Open.{Open, Reached, open_step, open_end, reach, reached_end}
 use Rattle.timetable.specs.Held.{number_held, Tables, InLine, AfterByte}
@@ -87,7 +86,7 @@ After H lent line now place at before o b =
 -- what a byte that the open number does not take must give
 pub record Signed (H : ℕ) (line : Line) (number : Number) (b at : ℕ) (line' : Line) (now now' : Tables) : Type 0 where
   pub signs : (lent : Tables) (place : ℕ) (before : List Row) (o : Open)
-      → InLine H lent line now place before o.closed o.list o.entry → number ≡ number_held o.number → number_step o.number b ≡ none
+      → InLine H lent line now place before o.closed o.list o.entry → number ≡ number_held o.number → number_step o.number b ≡ None
       → After H lent line' now' place at before o b
 
 -- nothing of the open field is read

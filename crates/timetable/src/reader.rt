@@ -9,9 +9,8 @@ ghost use Rattle.timetable.specs.Text.{first_line, begun_at, Placed, Opens, Ran,
 
 use crate::{entries, marked, row};
 use csv_marks::Mark;
-use rules::answers::Refusal;
+use rules::answers::{Fault, Refusal};
 use rules::sizes::{Leg, Text};
-use timetable_row::fault::Fault;
 use timetable_row::line::Line;
 use timetable_row::number::Number;
 use timetable_row::{line, number};

@@ -7,8 +7,6 @@ use Rattle.rules.specs.Answers.{out_of_range, too_many, already_seen, nominal_no
 use Rattle.rules.specs.Timetable.{in_range, leg_numbers}
 use Rattle.rules.specs.Made.{leg_made}
 use Rattle.rules.specs.declared.sizes.Leg.{Leg}
-use Rattle.rules.specs.declared.sizes.LegMade.{LegMade}
-use Rattle.rules.specs.declared.sizes.LegMade.TheVariants.{Within, OutOfRange}
 use Rattle.timetable_row.specs.declared.line.Line.{Line}
 use Rattle.timetable_row.specs.Slots.{nominal_of, held_ids}
 
@@ -68,12 +66,12 @@ abbrev pub held_leg : Line → List ℕ
 held_leg line = leg_numbers (leg_of line.numbers line.configurations line.entries line.nominal)
 
 -- as the constructor makes it, and where it is stored
-abbrev pub leg_held : Line → LegMade
+abbrev pub leg_held : Line → Option Leg
 leg_held line = leg_made (held_ids line.numbers) line.configurations line.entries line.nominal
 
-abbrev pub stored_leg : (at : ℕ) → LegMade → (table : List ℕ) → List ℕ
-stored_leg at (Within leg) table = stored_at leg_width at (leg_numbers leg) table
-stored_leg at OutOfRange table = table
+abbrev pub stored_leg : (at : ℕ) → Option Leg → (table : List ℕ) → List ℕ
+stored_leg at (Some leg) table = stored_at leg_width at (leg_numbers leg) table
+stored_leg at None table = table
 
 -- the row breaks off with its fault's number
 abbrev pub stopped_with : Line → (number : ℕ) → Line

@@ -6,7 +6,7 @@ ghost use Rattle.rules.specs.Timetable.{configuration, in_range, same, leg_numbe
 ghost use Rattle.timetable_row.specs.Slots.{separator_of, nominal_of, entry_of};
 ghost use Rattle.timetable_row.specs.RowOver.{range_holds, counts_hold, leg_held, stored_at, stored_leg, stopped_with, Bounded, next_line};
 
-use rules::sizes::{Configuration, ConfigurationMade, Id, Leg, LegMade};
+use rules::sizes::{Configuration, Id, Leg};
 
 #[derive(Clone, Copy)]
 pub struct Line {
@@ -64,8 +64,8 @@ fn in_range(d: u32, t: u32, p: u32, h: u32) -> bool
     ensures { result ≡ in_range h (configuration d t p) }
 {
     match Configuration::new(d, t, p, h) {
-        ConfigurationMade::Within(_) => true,
-        ConfigurationMade::OutOfRange => false,
+        Some(_) => true,
+        None => false,
     }
 }
 
@@ -138,7 +138,7 @@ pub fn too_many(line: Line) -> bool
 }
 
 // The row's leg, as its constructor makes it.
-pub fn leg_of(line: Line) -> LegMade
+pub fn leg_of(line: Line) -> Option<Leg>
     ensures { result ≡ leg_held line }
 {
     let n = line.numbers;
@@ -180,10 +180,10 @@ fn store_leg(legs: &mut [u32], at: usize, leg: Leg)
 }
 
 // A leg out of its limits is not stored; a row that is right has none.
-pub fn store_made(legs: &mut [u32], at: usize, made: LegMade)
+pub fn store_made(legs: &mut [u32], at: usize, made: Option<Leg>)
     ensures { legs.new ≡ stored_leg at made legs.old }
 {
-    if let LegMade::Within(leg) = made {
+    if let Some(leg) = made {
         store_leg(legs, at, leg);
     }
 }

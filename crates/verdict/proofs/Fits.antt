@@ -14,8 +14,6 @@ use Rattle.rules.specs.Energy.{tabulate}
 use Rattle.rules.specs.Kinds.{Inequality, ◌≤?◌, by_arrival, by_departure, departure, arrival, about, connection_rule, rule_of}
 use Rattle.rules.specs.Tally.{counted, Countable}
 use Rattle.rules.specs.Verdict.{All, no_choice, choice_at, inequalities, position_after}
-use Rattle.rules.specs.declared.kinds.Time.{Time}
-use Rattle.rules.specs.declared.kinds.Time.TheVariants.{At, Unknown}
 use Rattle.rules.specs.declared.sizes.Configuration.{Configuration}
 use Rattle.rules.specs.declared.sizes.Constraint.{Constraint}
 use Rattle.rules.specs.declared.answers.Tally.{Tally}
@@ -24,7 +22,7 @@ use Rattle.rules_theorems.proofs.Tabulate.{tabulate-at, tabulate-length}
 use Rattle.rules_theorems.proofs.Tests.{two_each}
 use Rattle.verdict.specs.Found.{Finding, fails, shortfall_of, finding_from, finding_of, tests_in}
 use Rattle.verdict.specs.Within.{Timely, Brief, Within, Fair, most_shortfall, Failed}
-use Rattle.std.specs.Prelude.{Err}
+use Rattle.std.specs.Prelude.{Err, Option, Some, None}
 use Rattle.verdict.specs.declared.records.Failing.{Failing}
 use Rattle.verdict.proofs.Tallies.{record_countable, fair_record}
 use Rattle.verdict.proofs.RecordSteps.{position_within}
@@ -46,7 +44,7 @@ module _ (low high type : ℕ) (one two : Configuration) (lt : low ≤ most_seco
   connection-small : All Small (connection_rule low high type one two)
   connection-small = go (eqb type by_arrival) (eqb type by_departure)
     where
-      go : (a d : Bool) → let x : Time = cond a (At (arrival one)) (cond d (At (departure one)) Unknown) in
+      go : (a d : Bool) → let x : (Option ℕ) = cond a (Some (arrival one)) (cond d (Some (departure one)) None) in
           All Small (about x (λ t. t + low ≤? departure two) ∷ about x (λ t. departure two ≤? t + high) ∷ [])
       go true d = (omega arith, (omega arith, tt))
       go false true = (omega arith, (omega arith, tt))

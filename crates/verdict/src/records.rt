@@ -9,7 +9,7 @@ ghost use Rattle.verdict.specs.Found.{shortfall_of, finding_of, tests_in};
 ghost use Rattle.verdict.specs.Within.{Within, Fair, Failed};
 
 use rules::answers::{Answer, Ruling, Tally, Violation};
-use rules::kinds::{Anchor, Key, Kind, Time};
+use rules::kinds::{Anchor, Key, Kind};
 use rules::sizes::{Configuration, Constraint};
 
 // The inequality of a record that fails, and its shortfall.
@@ -32,39 +32,28 @@ const NO_KIND: Failing = Failing {
 };
 
 // x of kind 5, by the record's type; another type has none.
-pub fn x_of(connection: u32, c: Configuration) -> Time
+pub fn x_of(connection: u32, c: Configuration) -> Option<u64>
     ensures { result ≡ anchored connection c }
 {
-    let departure = c.departure as u64;
-    let arrival = departure + c.travel as u64;
-    if connection == Constraint::ARRIVAL {
-        return Time::At(arrival);
+    let departure = u64::from(c.departure);
+    match connection {
+        Constraint::ARRIVAL => Some(departure + u64::from(c.travel)),
+        Constraint::DEPARTURE => Some(departure),
+        _ => None,
     }
-    if connection != Constraint::DEPARTURE {
-        return Time::Unknown;
-    }
-    Time::At(departure)
 }
 
 // A leg by an anchor: d, d + t, or x.
-pub fn time_of(anchor: u8, connection: u32, c: Configuration) -> Time
+pub fn time_of(anchor: Anchor, connection: u32, c: Configuration) -> Option<u64>
     ensures { result ≡ measured anchor connection c }
 {
-    let departure = c.departure as u64;
-    let arrival = departure + c.travel as u64;
-    if anchor == Anchor::DEPARTURE {
-        return Time::At(departure);
+    let departure = u64::from(c.departure);
+    match anchor {
+        Anchor::None => None,
+        Anchor::Departure => Some(departure),
+        Anchor::Arrival => Some(departure + u64::from(c.travel)),
+        Anchor::Connection | Anchor::Latest => x_of(connection, c),
     }
-    if anchor == Anchor::ARRIVAL {
-        return Time::At(arrival);
-    }
-    if anchor == Anchor::CONNECTION {
-        return x_of(connection, c);
-    }
-    if anchor == Anchor::LATEST {
-        return x_of(connection, c);
-    }
-    Time::Unknown
 }
 
 // By how much the left side passes the right.
@@ -77,8 +66,8 @@ pub fn beyond(left: u64, right: u64) -> u64
 // The shortfall of one inequality, by the anchors of the first leg and of the second; 0 where it holds. Without both times it cannot hold.
 pub fn shortfall(
     keys: u16,
-    first: u8,
-    second: u8,
+    first: Anchor,
+    second: Anchor,
     c: Constraint,
     one: Configuration,
     two: Configuration,
@@ -86,19 +75,19 @@ pub fn shortfall(
     ensures { result ≡ shortfall_of (by_anchor keys first second c.low c.high c.connection one two) }
 {
     let connection = c.connection;
-    let Time::At(a) = time_of(first, connection, one) else {
+    let Some(a) = time_of(first, connection, one) else {
         return CANNOT_HOLD;
     };
-    let Time::At(b) = time_of(second, connection, two) else {
+    let Some(b) = time_of(second, connection, two) else {
         return CANNOT_HOLD;
     };
-    if first == Anchor::LATEST {
-        return beyond(b, a + c.high as u64);
+    if first == Anchor::Latest {
+        return beyond(b, a + u64::from(c.high));
     }
     if keys == Key::FIRST_LEG + Key::SECOND_LEG {
         return beyond(a, b);
     }
-    beyond(a + c.low as u64, b)
+    beyond(a + u64::from(c.low), b)
 }
 
 // The inequalities of a row of the table of kinds, in order.

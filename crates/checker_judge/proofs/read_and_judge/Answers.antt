@@ -5,25 +5,25 @@ use Rattle.checker_judge.proofs.read_and_judge.Goals as goal
 pub choose-requires : goal.choose-requires
 choose-requires c =
     let s = c.args in
-    files_choosable _ _ s.solution.now _ s.choices.now c.read_files-filed.ensures c.in-Whole.is
+    files_choosable _ _ s.solution.now _ s.choices.now c.read_files-filed.ensures c.in-Ok.is
 
 pub judge_choices-ruling-requires : goal.judge_choices-ruling-requires
 judge_choices-ruling-requires c =
     let read-files = c.read_files-filed in
     let choose = c.choose in
-    choice_ready _ _ _ _ _ read-files.ensures c.in-Whole.is choose.ensures c.in-Whole-choose.is
+    choice_ready _ _ _ _ _ read-files.ensures c.in-Ok.is choose.ensures c.in-Ok-choose.is
 
-pub returns-in-Refused : goal.returns-in-Refused
-returns-in-Refused c = files_stop _ _ _ _ _ c.read_files-filed.ensures c.in-Refused.is c.refused.ensures
+pub returns-in-Err : goal.returns-in-Err
+returns-in-Err c = files_stop _ _ _ _ _ c.read_files-filed.ensures c.in-Err.is c.refused.ensures
 
-pub returns-in-Refused-choose : goal.returns-in-Refused-choose
-returns-in-Refused-choose c =
+pub returns-in-Err-choose : goal.returns-in-Err-choose
+returns-in-Err-choose c =
     let read-files = c.read_files-filed in
     let choose = c.choose in
-    choice_stop _ _ _ _ _ read-files.ensures c.in-Whole.is choose.ensures c.in-Refused-choose.is c.refused-in-Refused-choose.ensures
+    choice_stop _ _ _ _ _ read-files.ensures c.in-Ok.is choose.ensures c.in-Err-choose.is c.refused-in-Err-choose.ensures
 
-pub returns-in-Whole-choose : goal.returns-in-Whole-choose
-returns-in-Whole-choose c =
+pub returns-in-Ok-choose : goal.returns-in-Ok-choose
+returns-in-Ok-choose c =
     let read-files = c.read_files-filed in
     let choose = c.choose in
-    choice_judged _ _ _ _ _ read-files.ensures c.in-Whole.is choose.ensures c.in-Whole-choose.is c.judge_choices-ruling.ensures c.ruled.ensures
+    choice_judged _ _ _ _ _ read-files.ensures c.in-Ok.is choose.ensures c.in-Ok-choose.is c.judge_choices-ruling.ensures c.ruled.ensures

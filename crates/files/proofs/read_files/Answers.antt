@@ -18,12 +18,12 @@ read_rules-requires c =
     let read-powers = c.read_powers-power in
     let s = c.args in
     rules-drafted s.stated s.timetable.now s.profiles.now s.constraints.now s.legs.now s.configurations.now s.profile_table.now s.samples.now s.constraint_table.now
-    s.tracks.now read-draft.ensures c.in-Whole.is read-powers.ensures c.in-Whole-power.is
+    s.tracks.now read-draft.ensures c.in-Ok.is read-powers.ensures c.in-Ok-power.is
 
 pub returns : goal.returns
 returns c =
     let read-draft = c.read_draft-draft in
     let read-powers = c.read_powers-power in
     let read-rules = c.read_rules in
-    files_rules _ _ _ _ _ _ _ _ _ _ read-draft.ensures c.in-Whole.is read-powers.ensures c.in-Whole-power.is
+    files_rules _ _ _ _ _ _ _ _ _ _ read-draft.ensures c.in-Ok.is read-powers.ensures c.in-Ok-power.is
     read-rules.ensures

@@ -5,16 +5,16 @@ use Rattle.merge.proofs.read_and_merge.Goals as goal
 pub merge_solutions-requires : goal.merge_solutions-requires
 merge_solutions-requires c =
     let s = c.args in
-    files_judgeable s.direction _ _ s.first.now s.second.now _ s.choices.now s.second_choices.now s.text.now c.read_files.ensures c.in-Whole.is
+    files_judgeable s.direction _ _ s.first.now s.second.now _ s.choices.now s.second_choices.now s.text.now c.read_files.ensures c.in-Ok.is
 
-pub returns-in-Refused : goal.returns-in-Refused
-returns-in-Refused c =
+pub returns-in-Err : goal.returns-in-Err
+returns-in-Err c =
     let s = c.args in
-    files_refused s.direction _ _ s.first.now s.second.now _ s.choices.now s.second_choices.now s.text.now c.read_files.ensures c.in-Refused.is c.not_written.ensures
+    files_refused s.direction _ _ s.first.now s.second.now _ s.choices.now s.second_choices.now s.text.now c.read_files.ensures c.in-Err.is c.not_written.ensures
 
-pub returns-in-Whole : goal.returns-in-Whole
-returns-in-Whole c =
+pub returns-in-Ok : goal.returns-in-Ok
+returns-in-Ok c =
     let read-files = c.read_files in
     let merge-solutions = c.merge_solutions in
     let s = c.args in
-    files_merged s.direction _ _ s.first.now s.second.now _ s.choices.now s.second_choices.now s.text.now read-files.ensures c.in-Whole.is merge-solutions.ensures
+    files_merged s.direction _ _ s.first.now s.second.now _ s.choices.now s.second_choices.now s.text.now read-files.ensures c.in-Ok.is merge-solutions.ensures

@@ -3,8 +3,8 @@ use borrow.Author.Rules.{rules}
 use Rattle.merge_order.proofs.Chosen.{first_refused, second_decides}
 use Rattle.merge_order.proofs.choose_both.Goals as goal
 
-pub returns-in-Refused : goal.returns-in-Refused
-returns-in-Refused c = search (first_refused, rules)
+pub returns-in-Err : goal.returns-in-Err
+returns-in-Err c = search (first_refused, rules)
 
-pub returns-in-Whole : goal.returns-in-Whole
-returns-in-Whole c = search (second_decides, rules)
+pub returns-in-Ok : goal.returns-in-Ok
+returns-in-Ok c = search (second_decides, rules)

@@ -6,8 +6,8 @@ use Rattle.tables_ids.proofs.find.Goals as goal
 pub among-requires : goal.among-requires
 among-requires c = (part-records _ _ _ _ c.requires, part_ascending _ _ _ _ c.requires)
 
-pub returns-in-At : goal.returns-in-At
-returns-in-At c = search (in_part, rules)
+pub returns-in-Some : goal.returns-in-Some
+returns-in-Some c = search (in_part, rules)
 
-pub returns-in-Nothing : goal.returns-in-Nothing
-returns-in-Nothing c = search (in_rest, rules)
+pub returns-in-None : goal.returns-in-None
+returns-in-None c = search (in_rest, rules)

@@ -6,8 +6,8 @@ use Rattle.tables_ids.proofs.is_new.Goals as goal
 pub returns-then-last-id : goal.returns-then-last-id
 returns-then-last-id c = search (new_above, rules)
 
-pub returns-in-At : goal.returns-in-At
-returns-in-At c = search (old_by_place, rules)
+pub returns-in-Some : goal.returns-in-Some
+returns-in-Some c = search (old_by_place, rules)
 
-pub returns-in-Nothing : goal.returns-in-Nothing
-returns-in-Nothing c = search (new_by_place, rules)
+pub returns-in-None : goal.returns-in-None
+returns-in-None c = search (new_by_place, rules)

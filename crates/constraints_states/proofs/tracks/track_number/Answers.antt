@@ -12,8 +12,8 @@ returns-in_err-id c = λ legs constraints d t says held. refused_number d t _ sa
 pub returns-then-n-ge-MOST : goal.returns-then-n-ge-MOST
 returns-then-n-ge-MOST c = λ legs constraints d t says held. tracks_many _ _ _ _ _ _ _ says _ c.in_ok-id.ensures _ _ held c.if-n-ge-MOST.true
 
-pub returns-in-At : goal.returns-in-At
-returns-in-At c = λ legs constraints d t says held. track_seen _ _ _ _ _ _ _ says _ c.in_ok-id.ensures _ _ held c.if-n-ge-MOST.false _ c.row_of.ensures _ c.in-At.is
+pub returns-in-Some : goal.returns-in-Some
+returns-in-Some c = λ legs constraints d t says held. track_seen _ _ _ _ _ _ _ says _ c.in_ok-id.ensures _ _ held c.if-n-ge-MOST.false _ c.row_of.ensures _ c.in-Some.is
 
 pub returns-then-room-n : goal.returns-then-room-n
 returns-then-room-n c = λ legs constraints d t says held. track_full _ _ _ _ _ _ _ says _ c.in_ok-id.ensures _ _ held c.if-n-ge-MOST.false _ c.row_of.ensures c.in_default.is c.if-room-n.true

@@ -9,14 +9,14 @@ use Rattle.tables_ids.proofs.Column.{column-length}
 use Rattle.constraints_states.proofs.values.leg_value.Goals as goal
 
 pub overflow_cast-row : goal.overflow_cast-row
-overflow_cast-row c = omega (arith, row_there _ _ (column leg_width c.args.n c.args.legs.now) _ c.numbered.ensures c.in-At.is, column-length leg_width c.args.n c.args.legs.now, c.requires.1)
+overflow_cast-row c = omega (arith, row_there _ _ (column leg_width c.args.n c.args.legs.now) _ c.numbered.ensures c.in-Some.is, column-length leg_width c.args.n c.args.legs.now, c.requires.1)
 
 pub returns-in_err-id : goal.returns-in_err-id
 unfolding leg_value
 returns-in_err-id c = λ constraints tracks d t says. refused_number d t _ says _ most_id _ _ (omega arith) c.in_err-id.ensures c.from_residual.ensures.1
 
-pub returns-in-At : goal.returns-in-At
-returns-in-At c = λ constraints tracks d t says. leg_there _ _ _ _ _ _ _ says _ c.in_ok-id.ensures _ _ _ c.numbered.ensures c.in-At.is c.given.ensures
+pub returns-in-Some : goal.returns-in-Some
+returns-in-Some c = λ constraints tracks d t says. leg_there _ _ _ _ _ _ _ says _ c.in_ok-id.ensures _ _ _ c.numbered.ensures c.in-Some.is c.given.ensures
 
-pub returns-in-Nothing : goal.returns-in-Nothing
-returns-in-Nothing c = λ constraints tracks d t says. leg-missing _ _ _ _ _ _ _ says _ c.in_ok-id.ensures _ c.numbered.ensures c.in-Nothing.is
+pub returns-in-None : goal.returns-in-None
+returns-in-None c = λ constraints tracks d t says. leg-missing _ _ _ _ _ _ _ says _ c.in_ok-id.ensures _ c.numbered.ensures c.in-None.is

@@ -3,11 +3,11 @@ use borrow.Author.Rules.{rules}
 use Rattle.duties_row.proofs.Testing.{value_number, value_beyond, value_none}
 use Rattle.duties_row.proofs.numbers.value.Goals as goal
 
-pub returns-in-Number : goal.returns-in-Number
-returns-in-Number c = search (value_number, rules)
+pub returns-in-Ok : goal.returns-in-Ok
+returns-in-Ok c = search (value_number, rules)
 
-pub returns-in-Beyond : goal.returns-in-Beyond
-returns-in-Beyond c = search (value_beyond, rules)
+pub returns-in-Err-Beyond : goal.returns-in-Err-Beyond
+returns-in-Err-Beyond c = search (value_beyond, rules)
 
-pub returns-in-Malformed : goal.returns-in-Malformed
-returns-in-Malformed c = search (value_none, rules)
+pub returns-in-Err-Malformed : goal.returns-in-Err-Malformed
+returns-in-Err-Malformed c = search (value_none, rules)

@@ -16,8 +16,8 @@ subnet_fault-requires c =
 pub returns-in-Err : goal.returns-in-Err
 returns-in-Err c = search (rules_refused, rules)
 
-pub returns-in-At : goal.returns-in-At
-returns-in-At c = search (rules-row, rules)
+pub returns-in-Some : goal.returns-in-Some
+returns-in-Some c = search (rules-row, rules)
 
-pub returns-in-Nothing : goal.returns-in-Nothing
-returns-in-Nothing c = search (rules_whole, rules)
+pub returns-in-None : goal.returns-in-None
+returns-in-None c = search (rules_whole, rules)

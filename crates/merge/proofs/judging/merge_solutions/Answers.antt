@@ -7,16 +7,16 @@ merge_chosen-requires c =
     let asked = c.requires in
     let choose-both = c.choose_both in
     let s = c.args in
-    both_disputable s.direction s.first.now s.second.now s.choices.now s.second_choices.now s.text.now asked choose-both.ensures c.in-Whole.is
+    both_disputable s.direction s.first.now s.second.now s.choices.now s.second_choices.now s.text.now asked choose-both.ensures c.in-Ok.is
 
-pub returns-in-Refused : goal.returns-in-Refused
-returns-in-Refused c =
+pub returns-in-Err : goal.returns-in-Err
+returns-in-Err c =
     λ k.
     let s = c.args in
-    both_refused s.direction s.first.now s.second.now s.choices.now s.second_choices.now s.text.now k c.choose_both.ensures c.in-Refused.is c.not_written.ensures
+    both_refused s.direction s.first.now s.second.now s.choices.now s.second_choices.now s.text.now k c.choose_both.ensures c.in-Err.is c.not_written.ensures
 
-pub returns-in-Whole : goal.returns-in-Whole
-returns-in-Whole c =
+pub returns-in-Ok : goal.returns-in-Ok
+returns-in-Ok c =
     λ k.
     let s = c.args in
-    both_merged s.direction s.first.now s.second.now s.choices.now s.second_choices.now s.text.now k c.choose_both.ensures c.in-Whole.is c.merge_chosen.ensures
+    both_merged s.direction s.first.now s.second.now s.choices.now s.second_choices.now s.text.now k c.choose_both.ensures c.in-Ok.is c.merge_chosen.ensures

@@ -3,8 +3,8 @@ use Rattle.profiles_row.proofs.Closing.{closing, sample_in}
 use borrow.Author.Rules.{rules}
 use Rattle.profiles_row.proofs.sample.close_sample.Goals as goal
 
-pub returns-in-Within : goal.returns-in-Within
-returns-in-Within c = sample_in _ _ _ _ _ _ c.kw_of-kw.ensures c.new.ensures _ _ c.in-Within.is c.put.ensures
+pub returns-in-Some : goal.returns-in-Some
+returns-in-Some c = sample_in _ _ _ _ _ _ c.kw_of-kw.ensures c.new.ensures _ _ c.in-Some.is c.put.ensures
 
-pub returns-in-OutOfRange : goal.returns-in-OutOfRange
-returns-in-OutOfRange c = search (closing, rules)
+pub returns-in-None : goal.returns-in-None
+returns-in-None c = search (closing, rules)

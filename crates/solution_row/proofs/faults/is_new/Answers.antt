@@ -12,8 +12,8 @@ returns-then-is_known c = search (new_known, rules)
 pub row_of-requires : goal.row_of-requires
 row_of-requires c = search (three_wide, rules)
 
-pub returns-in-At : goal.returns-in-At
-returns-in-At c = search (new_found, rules)
+pub returns-in-Some : goal.returns-in-Some
+returns-in-Some c = search (new_found, rules)
 
-pub returns-in-Nothing : goal.returns-in-Nothing
-returns-in-Nothing c = search (new_nothing, rules)
+pub returns-in-None : goal.returns-in-None
+returns-in-None c = search (new_nothing, rules)

@@ -1,8 +1,7 @@
 // Files, read whole or not at all, and written.
-ghost use Rattle.std.specs.Prelude.{◌≤◌, length};
+ghost use Rattle.std.specs.Prelude.{◌≡◌, ◌≤◌, length};
 ghost use Rattle.std.specs.Option.{IfSome};
-ghost use Rattle.std.specs.Result.{IfOk};
-ghost use Rattle.input.specs.Counts.{IsPrefixLen};
+ghost use Rattle.input.specs.Counts.{IsPrefixLen, taken};
 
 use crate::rooms::Room;
 use crate::{arguments, rooms};
@@ -14,15 +13,21 @@ use std::rt::{Env, Files};
 
 // A file that cannot be opened is one that cannot be read; nor is one whose name is no UTF-8, which has no path.
 fn read_named(rt: &impl Files, path: &[u8], room: &mut [u8]) -> Result<usize, Unread>
-    ensures { IfOk result (λ n. IsPrefixLen n room.new) }
+    ensures { IsPrefixLen (taken result) room.new }
 {
     let Ok(name) = str::from_utf8(path) else {
-        return Err(Unread::Broken);
+        return nothing_taken();
     };
     let Ok(mut file) = File::open(rt, name) else {
-        return Err(Unread::Broken);
+        return nothing_taken();
     };
     input::read_all(&mut file, room)
+}
+
+fn nothing_taken() -> Result<usize, Unread>
+    ensures { taken result ≡ 0 }
+{
+    Err(Unread::Broken(0))
 }
 
 fn say_name(rt: &impl Print, file: u8, path: &[u8]) {
@@ -42,8 +47,8 @@ fn too_long(rt: &impl Print) {
 fn say_unread(rt: &impl Print, why: Unread, file: u8, path: &[u8]) {
     say_name(rt, file, path);
     match why {
-        Unread::Broken => say::text(rt, b" could not be read\n"),
-        Unread::TooLong => too_long(rt),
+        Unread::Broken(_) => say::text(rt, b" could not be read\n"),
+        Unread::TooLong(_) => too_long(rt),
     }
 }
 

@@ -236,6 +236,15 @@ anchor_number Anchor.Departure = 1
 anchor_number Anchor.Arrival = 2
 anchor_number Anchor.Connection = 3
 anchor_number Anchor.Latest = 4
+anchor_number (Anchor.Unknown n) = n
+
+-- and the anchor of a number, known or not
+abbrev pub anchor_of : ℕ → Anchor
+anchor_of n =
+    cond (eqb n (anchor_number no_anchor)) no_anchor
+    (cond (eqb n (anchor_number by_d)) by_d
+    (cond (eqb n (anchor_number by_d_t)) by_d_t
+    (cond (eqb n (anchor_number by_x)) by_x (cond (eqb n (anchor_number latest)) latest (Anchor.Unknown n)))))
 
 abbrev pub is_latest : Anchor → Bool
 is_latest Anchor.None = false
@@ -243,6 +252,7 @@ is_latest Anchor.Departure = false
 is_latest Anchor.Arrival = false
 is_latest Anchor.Connection = false
 is_latest Anchor.Latest = true
+is_latest (Anchor.Unknown n) = false
 
 abbrev pub kind_table : List Kind
 kind_table =
@@ -255,13 +265,14 @@ kind_table =
 
 -- ---- the rule of a row of that table
 
--- a leg by an anchor; without one it has no time
+-- a leg by an anchor; without one, and by one that nobody knows, it has no time
 abbrev pub measured : Anchor → (type : ℕ) → Configuration → Option ℕ
 measured Anchor.None type x = None
 measured Anchor.Departure type x = Some (departure x)
 measured Anchor.Arrival type x = Some (arrival x)
 measured Anchor.Connection type x = anchored type x
 measured Anchor.Latest type x = anchored type x
+measured (Anchor.Unknown n) type x = None
 
 -- the least seconds, where the kind has further keys than those of its two legs
 abbrev pub with_least : (keys low : ℕ) → ℕ → ℕ

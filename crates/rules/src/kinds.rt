@@ -1,6 +1,6 @@
 // The five kinds of constraint with the keys that each must carry, in one table (document 01, "constraints.json").
 ghost use Rattle.std.specs.Prelude.{◌≡◌, ◌<◌, length, get_or};
-ghost use Rattle.rules.specs.Kinds.{kind_table, no_kind};
+ghost use Rattle.rules.specs.Kinds.{anchor_of, kind_table, no_kind};
 
 // The keys of records, one bit each, so that a set of keys is one number.
 #[derive(Clone, Copy)]
@@ -53,6 +53,34 @@ pub enum Anchor {
     // x of kind 5, by the record's type, with its least seconds; and as what bounds the second leg from above, with its greatest.
     Connection,
     Latest,
+    // A number that nobody knows. A leg has no time by it either, and an inequality about no time cannot hold.
+    Unknown(u8),
+}
+
+impl Anchor {
+    pub const NONE: u8 = 0;
+
+    pub const DEPARTURE: u8 = 1;
+
+    pub const ARRIVAL: u8 = 2;
+
+    pub const CONNECTION: u8 = 3;
+
+    pub const LATEST: u8 = 4;
+
+    // The anchor of a number.
+    pub fn of(number: u8) -> Anchor
+        ensures { result ≡ anchor_of number }
+    {
+        match number {
+            Anchor::NONE => Anchor::None,
+            Anchor::DEPARTURE => Anchor::Departure,
+            Anchor::ARRIVAL => Anchor::Arrival,
+            Anchor::CONNECTION => Anchor::Connection,
+            Anchor::LATEST => Anchor::Latest,
+            _ => Anchor::Unknown(number),
+        }
+    }
 }
 
 // A kind: the keys of its records, how many inequalities it has, and the anchors of both legs in each.

@@ -61,13 +61,15 @@ pub fn judge_rows(
     ensures { (result ≡ ruling file (verdict_from no_tests (row_tests 0 (offers_in n legs.now configurations.now) (configurations_in n choices.now)))) × Fair n result.tally }
 {
     let mut tally = Tally::none();
-    for i in 0..n {
-        tally = tally.with(Kind::NOT_OFFERED as usize, 1);
-        if !is_offered(legs, configurations, choices, i) {
-            let answer = not_offered(i, file);
-            return Ruling { answer, tally };
+    'rows: {
+        for i in 0..n {
+            tally = tally.with(Kind::NOT_OFFERED as usize, 1);
+            if !is_offered(legs, configurations, choices, i) {
+                let answer = not_offered(i, file);
+                break 'rows Ruling { answer, tally };
+            }
         }
+        let answer = Answer::Accepted;
+        Ruling { answer, tally }
     }
-    let answer = Answer::Accepted;
-    Ruling { answer, tally }
 }

@@ -49,7 +49,7 @@ pub fn time_of(anchor: Anchor, connection: u32, c: Configuration) -> Option<u64>
 {
     let departure = u64::from(c.departure);
     match anchor {
-        Anchor::None => None,
+        Anchor::None | Anchor::Unknown(_) => None,
         Anchor::Departure => Some(departure),
         Anchor::Arrival => Some(departure + u64::from(c.travel)),
         Anchor::Connection | Anchor::Latest => x_of(connection, c),
@@ -195,19 +195,21 @@ pub fn judge_records(
     let mut tally = counted;
     let mut before: u32 = Kind::NOT_OFFERED as u32;
     let mut next: u32 = 0;
-    for i in 0..m {
-        let c = tables_views::constraint_at(constraints, i);
-        let kind = c.kind;
-        let position = position_after(before, next, kind);
-        let finding = judge_record(c, choices, n);
-        tally = tally.with(kind as usize, tests_of(finding));
-        if let Err(failing) = finding {
-            let answer = violated(kind, position, failing.inequality, failing.short, file);
-            return Ruling { answer, tally };
+    'records: {
+        for i in 0..m {
+            let c = tables_views::constraint_at(constraints, i);
+            let kind = c.kind;
+            let position = position_after(before, next, kind);
+            let finding = judge_record(c, choices, n);
+            tally = tally.with(kind as usize, tests_of(finding));
+            if let Err(failing) = finding {
+                let answer = violated(kind, position, failing.inequality, failing.short, file);
+                break 'records Ruling { answer, tally };
+            }
+            before = kind;
+            next = position + 1;
         }
-        before = kind;
-        next = position + 1;
+        let answer = Answer::Accepted;
+        Ruling { answer, tally }
     }
-    let answer = Answer::Accepted;
-    Ruling { answer, tally }
 }

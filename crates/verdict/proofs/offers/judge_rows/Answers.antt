@@ -29,5 +29,5 @@ returns-then-not-is_offered c =
       fair_failed a.n l.i l.tally _ l.invariant.fair c.with-tally.ensures c.loop-i-test.true,
     )
 
-pub returns : goal.returns
-returns c = (search (rows-passed, rules), search (fair_rows, rules))
+pub returns-after-loop-i : goal.returns-after-loop-i
+returns-after-loop-i c = (search (rows-passed, rules), search (fair_rows, rules))

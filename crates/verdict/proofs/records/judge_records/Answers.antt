@@ -49,5 +49,5 @@ returns-in-Err c =
     record_fails a.m (constraint_at a.constraints.now) (configurations_in a.n a.choices.now) _ l.tally l.before l.next l.i l.invariant.left c.loop-i-test.true _ entry.ensures _ position _ finding.ensures _ tests _ tally
     a.file _ c.in-Err.is _ c.violated-answer.ensures
 
-pub returns : goal.returns
-returns c = search (all_passed, rules)
+pub returns-after-loop-i : goal.returns-after-loop-i
+returns-after-loop-i c = search (all_passed, rules)

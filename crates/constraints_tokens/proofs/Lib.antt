@@ -1,3 +1,4 @@
 pub mod Scan
 pub mod Here
 pub mod Named
+pub mod Chosen

@@ -38,7 +38,7 @@ pub fn turn(
 {
     let place = t.place;
     let step = match action(st.phase, t.class) {
-        Action::Broken => Err(Refusal::JSON_FORM),
+        Action::Broken => return Err(Fault::new(Refusal::JSON_FORM, place)),
         Action::Early => return Err(Fault::new(Refusal::JSON_FORM, t.next)),
         Action::Goes(next) => Ok(Step::On(to_phase(st, next))),
         Action::ListName => list_name(t.word, st),

@@ -51,6 +51,10 @@ inside header (b ∷ s) mark k i = go (ltb k (length header)) (stepped_in header
 pub header_inside : (header part : List ℕ) (mark : Mark) (k : ℕ) (r : Headed) → Ok r ≡ compared_from header mark k 0 part → r.next ≤ length part
 header_inside header part mark k r e = omega (arith, inside header part mark k 0, ap (λ (x : Result Headed Headed). (reached x).next) e)
 
+-- and so does one that found another byte
+pub header_differs_inside : (header part : List ℕ) (mark : Mark) (k : ℕ) (r : Headed) → Err r ≡ compared_from header mark k 0 part → r.next ≤ length part
+header_differs_inside header part mark k r e = omega (arith, inside header part mark k 0, ap (λ (x : Result Headed Headed). (reached x).next) e)
+
 -- ---- a text
 
 module _ {A O : Type 0} (c : Contents A O) (can : can_head c.names ≡ true) where

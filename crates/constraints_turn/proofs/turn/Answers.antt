@@ -5,11 +5,15 @@ use Rattle.rules.specs.Constraints.{act, on}
 use Rattle.rules.specs.declared.tokens.State.{State}
 use Rattle.constraints_turn.proofs.ByAction.{by_action, past-found, by_step, told_at}
 use Rattle.constraints_turn.proofs.turn.Goals as goal
-use Rattle.constraints_turn.proofs.turn.Goals.{in-Broken, in-Goes, in-ListName, in-DocumentEnds, in-RecordOpens, in-KeyName, in-RecordEnds, in-StringValue, in-NumberValue, in-TracksOpen, in-TrackNumber, in-Finishes}
+use Rattle.constraints_turn.proofs.turn.Goals.{in-Goes, in-ListName, in-DocumentEnds, in-RecordOpens, in-KeyName, in-RecordEnds, in-StringValue, in-NumberValue, in-TracksOpen, in-TrackNumber, in-Finishes}
+
+pub returns-in-Broken : goal.returns-in-Broken
+unfolding act
+returns-in-Broken c = λ d tied. by_action _ _ _ _ _ _ _ _ _ c.action.ensures c.in-Broken.is (rw c.new.ensures refl)
 
 pub returns-in-Early : goal.returns-in-Early
 unfolding act
-returns-in-Early c = λ d tied. by_action _ _ _ _ _ _ _ _ _ c.action.ensures c.in-Early.is (rw (c.new.ensures, past-found c.args.t c.requires.starts))
+returns-in-Early c = λ d tied. by_action _ _ _ _ _ _ _ _ _ c.action.ensures c.in-Early.is (rw (c.new-in-Early.ensures, past-found c.args.t c.requires.starts))
 
 pub returns-in-StringCut : goal.returns-in-StringCut
 unfolding act
@@ -20,7 +24,6 @@ unfolding act
 returns c = λ d tied.
     let m = told_at c.match-action.step c.map_err.result c.args.t.place d c.map_err.ensures.cases (λ e f h. search rules) in
     elim c.match-action.branch [
-      | in-Broken w ↦ by_step _ _ _ _ _ _ _ _ _ _ _ _ m c.action.ensures w.step-is w.in-Broken.is refl
       | in-Goes w ↦ by_step _ _ _ _ _ _ _ _ _ _ _ _ m c.action.ensures w.step-is w.in-Goes.is (ap (λ (s : State). on s d) w.to_phase.ensures)
       | in-ListName w ↦ by_step _ _ _ _ _ _ _ _ _ _ _ _ m c.action.ensures w.step-is w.in-ListName.is (w.list_name-step.ensures _ _ _ d _)
       | in-DocumentEnds w ↦ by_step _ _ _ _ _ _ _ _ _ _ _ _ m c.action.ensures w.step-is w.in-DocumentEnds.is (w.document_ends-step.ensures _ _ _ d _)

@@ -22,17 +22,17 @@ fn digit_run(part: &[u8], from: usize, value: u32) -> Run
     ensures { Runs part.now from value result }
 {
     let mut v = value;
-    for i in from..part.len() {
+    let mut i = from;
+    // Kept (speed): with a range plain rows of few samples take a third longer, past the bar of docs/BENCHMARK.md.
+    while i < part.len() {
         let b = part[i];
         if b < b'0' || b'9' < b {
             return Run { value: v, next: i };
         }
         v = number::push(v, b);
+        i += 1;
     }
-    Run {
-        value: v,
-        next: part.len(),
-    }
+    Run { value: v, next: i }
 }
 
 // A whole number and its point: the number, and the place behind the point.
@@ -112,7 +112,9 @@ fn fraction_at(part: &[u8], from: usize, negative: bool, whole: u32) -> Option<S
 {
     let mut digits: u32 = 0;
     let mut value: u32 = 0;
-    for i in from..part.len() {
+    let mut i = from;
+    // Kept (speed): as in `digit_run`.
+    while i < part.len() {
         let b = part[i];
         if b < b'0' {
             return space_at(b, i, negative, whole, digits, value);
@@ -122,6 +124,7 @@ fn fraction_at(part: &[u8], from: usize, negative: bool, whole: u32) -> Option<S
         }
         value = number::push(value, b);
         digits += 1;
+        i += 1;
     }
     None
 }

@@ -39,7 +39,8 @@ fn broken(state: State) -> State
         State::Id(past, _) | State::Whole(past, _, _, _) | State::Fraction(past, _, _) => {
             State::Stopped(Refusal::ROW_FORM, past.place)
         }
-        State::Stopped(_, _) => state,
+        // Made anew (speed): as in `state::step`.
+        State::Stopped(number, place) => State::Stopped(number, place),
     }
 }
 

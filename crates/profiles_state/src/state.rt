@@ -208,6 +208,7 @@ pub fn step(state: State, at: u32, b: u8, profiles: &mut [u32], samples: &mut [i
         State::Id(past, n) => id_step(past, n, b),
         State::Whole(past, l, negative, n) => whole_step(past, l, negative, n, b),
         State::Fraction(past, l, t) => fraction_step(past, l, t, at, b, profiles, samples),
-        State::Stopped(_, _) => state,
+        // Made anew (speed): where the state is handed back whole it goes through memory at each byte.
+        State::Stopped(number, place) => State::Stopped(number, place),
     }
 }

@@ -1,4 +1,4 @@
-// What a token does in a phase: the table of ../../rules/specs/Constraints.antt, row by row. `constraints_turn` asks it of every token.
+// What a token does in a phase: the table of ../../rules/specs/Constraints.antt, in the order of its rows; rows that say the same of a token share an arm. `constraints_turn` asks it of every token.
 #![tactic(auto)]
 
 ghost use Rattle.std.specs.Prelude.{◌≡◌};

@@ -118,6 +118,7 @@ pub fn raise_all(
     requires { Searching n m legs.old configurations.now constraints.now }
     ensures { Sorted n m legs.old configurations.now constraints.now result legs.new }
 {
+    // Kept (no plainer): how many passes there are shows only from what each has moved.
     'rounds: loop {
         match pass(legs, n, configurations, constraints, m) {
             Turn::Kept => return true,

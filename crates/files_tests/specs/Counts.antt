@@ -23,8 +23,6 @@ count_found profiles None = None
 abbrev pub count_at : List ℕ → (m id : ℕ) → Option ℕ
 count_at profiles m id = count_found profiles (place_of id (column profile_width m profiles))
 
--- the law's option as the code has it
-
 -- a part of the configurations
 abbrev pub list_at : (ℕ → Configuration) → (first count : ℕ) → List Configuration
 list_at at first count = tabulate count (λ k. at (first + k))

@@ -1,4 +1,4 @@
-// The number by which a timetable's row that is over is at fault: its tests, in the order of their numbers. The draft's reader asks it, and a solution's shares its laws.
+// The number by which a timetable's row that is over is at fault: its tests, in the order of their numbers. The draft's reader asks it.
 #![tactic(auto)]
 
 ghost use Rattle.std.specs.Prelude.{◌≡◌, not};

@@ -13,6 +13,7 @@ import re
 import sys
 
 WORDS = set("let mut if else while for in return match loop as fn self Self true false".split())
+LOOP = r"^( *)(?:let \w+ = )?(?:'\w+: )?(?:while [^\n]*|loop) \{$"
 TOKEN = re.compile(r"b?\"[^\"]*\"|b?'[^']*'|[A-Za-z_]\w*|\d[\d_]*|[^\sA-Za-z_0-9]")
 
 
@@ -24,8 +25,9 @@ def sources(top):
 
 def functions(text):
     for found in re.finditer(r"^( *)(?:pub )?(?:const )?fn (\w+)(.*?)\n\1\}", text, re.M | re.S):
-        head, _, body = found.group(0).partition("\n" + found.group(1) + "{")
-        yield found.group(2), head, body
+        whole = found.group(0)
+        opened = re.search(r"\n" + found.group(1) + r"\{$| \{$", whole, re.M)
+        yield found.group(2), whole[: opened.start()], whole[opened.end() :]
 
 
 def parameters(head):
@@ -76,7 +78,7 @@ def pairs(path, text):
 def loops(path, text):
     """A `while` or `loop` whose body adds or takes one by hand."""
     for name, _, body in functions(text):
-        for found in re.finditer(r"^( *)(?:while .*|loop) \{\n(.*?)^\1\}", body, re.M | re.S):
+        for found in re.finditer(LOOP + r"\n(.*?)^\1\}", body, re.M | re.S):
             if re.search(r"\b(\w+) (?:\+=|-=) 1;|\b(\w+) = \2 [+-] 1;", found.group(2)):
                 kept = "// Kept (" in body[: found.start()].rstrip().rsplit("\n", 1)[-1]
                 yield f"{path}: {name}{' (kept)' if kept else ''}"
@@ -84,7 +86,7 @@ def loops(path, text):
 
 def whiles(path, text):
     for name, _, body in functions(text):
-        for found in re.finditer(r"^( *)(?:while .*|loop) \{", body, re.M):
+        for found in re.finditer(LOOP, body, re.M):
             kept = "// Kept (" in body[: found.start()].rstrip().rsplit("\n", 1)[-1]
             yield f"{path}: {name}{' (kept)' if kept else ''}"
 

@@ -1,5 +1,5 @@
 // The groups: what a group's word asks for, its files read, and the entry called.
-ghost use Rattle.std.specs.Prelude.{◌≡◌, ◌≤◌, ◌+◌, ◌<◌, ◌^◌, length};
+ghost use Rattle.std.specs.Prelude.{◌≡◌, ◌≤◌, ◌&&◌, ◌+◌, ◌<◌, ◌^◌, length, is_some};
 ghost use Rattle.std.specs.Option.{IfSome, IsSomeAnd};
 ghost use Rattle.small_input.specs.Words.{of_solution, of_two};
 
@@ -57,11 +57,13 @@ struct Draft<'a> {
     texts: Option<Texts<'a>>,
 }
 
+// None where one of the three could not be read whole.
 fn all_read<'a>(
     timetable: Option<&'a [u8]>,
     profiles: Option<&'a [u8]>,
     constraints: Option<&'a [u8]>,
 ) -> Option<Texts<'a>>
+    ensures all { is_some result ≡ (is_some timetable.entry && (is_some profiles.entry && is_some constraints.entry)) }
     ensures timetable_read { IfSome result (λ t. IsSomeAnd timetable.entry (λ s. t.timetable.now ≡ s.now)) }
     ensures profiles_read { IfSome result (λ t. IsSomeAnd profiles.entry (λ s. t.profiles.now ≡ s.now)) }
     ensures constraints_read { IfSome result (λ t. IsSomeAnd constraints.entry (λ s. t.constraints.now ≡ s.now)) }
@@ -82,9 +84,9 @@ fn read_draft<'a>(
     constraints: &'a mut [u8],
 ) -> Draft<'a>
     requires { at + of_solution < 2 ^ 64 }
-    ensures prefix_len { IfSome result.texts (λ t. length t.timetable.now ≤ length timetable.old) }
-    ensures prefix_len_2 { IfSome result.texts (λ t. length t.profiles.now ≤ length profiles.old) }
-    ensures prefix_len_3 { IfSome result.texts (λ t. length t.constraints.now ≤ length constraints.old) }
+    ensures timetable_fits { IfSome result.texts (λ t. length t.timetable.now ≤ length timetable.old) }
+    ensures profiles_fits { IfSome result.texts (λ t. length t.profiles.now ≤ length profiles.old) }
+    ensures constraints_fits { IfSome result.texts (λ t. length t.constraints.now ≤ length constraints.old) }
 {
     let h = arguments::number(rt, at + Words::HORIZON);
     let edition = arguments::number(rt, at + Words::EDITION);

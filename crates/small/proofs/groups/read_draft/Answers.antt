@@ -1,4 +1,4 @@
--- `small::groups::read_draft` meets its contract: each text is the one that was read into its room. Assumes nothing.
+-- `small::groups::read_draft` meets its contract: each text is the one that was read into its room, so it is no longer than that. Assumes nothing.
 use Rattle.std.proofs.Common.{◌≡◌, ◌≤◌, length, ℕ, List, Bor}
 use Rattle.std.specs.Prelude.{Option, Some, None}
 use Rattle.std.specs.Option.{IfSome, IsSomeAnd}
@@ -9,11 +9,11 @@ within : (o : Option (Bor (List ℕ))) (l room : List ℕ) → IfSome o (λ s. l
 within (Some s) l room h e = rw e h
 within None l room h e = absurd e
 
-pub returns-clause-prefix_len : goal.returns-clause-prefix_len
-returns-clause-prefix_len g c = IfSome_then c.all_read.result c.all_read.ensures.timetable_read (λ t p. within c.load-t.result _ _ c.load-t.ensures p)
+pub returns-clause-timetable_fits : goal.returns-clause-timetable_fits
+returns-clause-timetable_fits g c = IfSome_then c.all_read.result c.all_read.ensures.timetable_read (λ t p. within c.load-t.result _ _ c.load-t.ensures p)
 
-pub returns-clause-prefix_len_2 : goal.returns-clause-prefix_len_2
-returns-clause-prefix_len_2 g c = IfSome_then c.all_read.result c.all_read.ensures.profiles_read (λ t p. within c.load-p.result _ _ c.load-p.ensures p)
+pub returns-clause-profiles_fits : goal.returns-clause-profiles_fits
+returns-clause-profiles_fits g c = IfSome_then c.all_read.result c.all_read.ensures.profiles_read (λ t p. within c.load-p.result _ _ c.load-p.ensures p)
 
-pub returns-clause-prefix_len_3 : goal.returns-clause-prefix_len_3
-returns-clause-prefix_len_3 g c = IfSome_then c.all_read.result c.all_read.ensures.constraints_read (λ t p. within c.load-c.result _ _ c.load-c.ensures p)
+pub returns-clause-constraints_fits : goal.returns-clause-constraints_fits
+returns-clause-constraints_fits g c = IfSome_then c.all_read.result c.all_read.ensures.constraints_read (λ t p. within c.load-c.result _ _ c.load-c.ensures p)
